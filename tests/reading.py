@@ -28,15 +28,15 @@ HEADLINE = [
     ("mwc_pipe", "laws", None, "each_reply_is_counted"),
     ("mwc_gather", "gathering", None, "gather"),
     ("mwc_gather", "gathering", None, "gather_with_lookout"),
-    ("mwc_parts", "gathered", "Gathered", "in_order"),
+    ("mwc_gather", "gathered", "Gathered", "in_order"),
     ("council_run", "runs", None, "run"),
     ("council_run", "runs", None, "run_with_lookout"),
 ]
 # in reading order: the first pattern that fits a module
 PARTS = [
     ("The mathematics", r"coalitions\.|council_game\.(Votes|Ranks|Members)|mwc_walk\.Slices|power_index\."),
-    ("The pipe", r"mwc_pipe\.|mwc_ring\."),
-    ("The gathering", r"mwc_parts\.|mwc_gather\."),
+    ("The pipe", r"mwc_pipe\."),
+    ("The gathering", r"mwc_gather\."),
     ("The game file", r"council_game\.|council_file\.(Bracket|File)"),
     ("The report", r"council_report\.|council_text\."),
     ("The run", r"."),
@@ -167,7 +167,7 @@ def roots_of(wanted):
             found |= mentioned(text, *names)
             if key[3] in ("gather", "gather_with_lookout", "in_order"):
                 for name in ("Gathered", "Part"):
-                    found |= mentioned(types[("mwc_parts", name)][0], *types[("mwc_parts", name)][1])
+                    found |= mentioned(types[("mwc_gather", name)][0], *types[("mwc_gather", name)][1])
     return found
 
 

@@ -1,14 +1,26 @@
-//! Coalitions, and what every crate shares: lists by place, want of memory, the limits, and which lines a report shows.
-//! `council_game` and `council_report` pass them on.
+//! What every crate shares: coalitions, lists by place, out of memory, the limits, the options of a run, observers of its
+//! workers, readers and writers seen call by call, and text that is safe to show.
 #![tactic(auto)]
 
 mod coalition;
+mod gate;
 pub mod limits;
 mod lists;
 mod memory;
-mod shown;
+mod options;
+mod report_lines;
+mod sanitized;
+mod sink;
+mod size_counts;
+mod source;
 
 pub use coalition::Coalition;
+pub use gate::{Gate, NoGate};
 pub use lists::listed;
 pub use memory::Memory;
-pub use shown::Shown;
+pub use options::Options;
+pub use report_lines::ReportLines;
+pub use sanitized::{Sanitized, sanitize};
+pub use sink::Sink;
+pub use size_counts::{SizeCounts, add_counts};
+pub use source::Source;

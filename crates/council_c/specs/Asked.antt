@@ -1,9 +1,11 @@
 -- What a call is asked for.
-use Rattle.std.specs.Prelude.{ℕ, ◌≡◌, ◌≤◌, ◌==◌, ◌&&◌, ◌||◌, nat_lt, Bool, false, if◌then◌else◌, length}
+use Rattle.std.specs.Prelude.{ℕ, ◌≡◌, ◌≤◌, ◌==◌, ◌&&◌, ◌||◌, nat_lt, Bool, false, if◌then◌else◌}
+use Rattle.coalitions.specs.Options.{lines_of}
 use Rattle.coalitions.specs.declared.limits.TheConstants.{COALITIONS}
-use Rattle.coalitions.specs.declared.shown.Shown.{Shown}
-use Rattle.council_game.specs.Game.{GameView, votes_of}
-use Rattle.council_game.specs.Votes.{minimal_coalitions}
+use Rattle.coalitions.specs.declared.options.Options.{Options}
+use Rattle.coalitions.specs.declared.report_lines.ReportLines.{ReportLines}
+use Rattle.council_game.specs.Game.{GameView}
+use Rattle.council_run.specs.Run.{count_of}
 use Rattle.council_c.specs.declared.options.CouncilOptions.{CouncilOptions}
 
 -- no call takes them: they ask for more than can be kept, or a tally, which keeps none, to list or to keep some
@@ -14,10 +16,14 @@ are_wrong o = nat_lt COALITIONS o.most || o.tally && (o.list || nat_lt 0 o.most)
 abbrev pub most_of : CouncilOptions → ℕ
 most_of o = if o.most == 0 then 1000000 else o.most
 
--- the lines that the report shows
-abbrev pub shown_of : CouncilOptions → Shown
-shown_of o = record { list = o.list; sizes = o.sizes; notation = o.notation }
+-- the optional lines of the report
+abbrev pub lines_of_call : CouncilOptions → ReportLines
+lines_of_call o = record { list = o.list; sizes = o.sizes; notation = o.notation }
+
+-- these options of a run ask for the same
+abbrev pub AskForTheSame : CouncilOptions → Options → Type 0
+AskForTheSame call run = (run.most ≡ most_of call) × (lines_of run ≡ lines_of_call call)
 
 -- a tally takes any number of minimal winning coalitions
 abbrev pub IsTaken : CouncilOptions → GameView → Type 0
-IsTaken o g = o.tally ≡ false → length (minimal_coalitions (votes_of g)) ≤ most_of o
+IsTaken o g = o.tally ≡ false → count_of g ≤ most_of o

@@ -1,5 +1,5 @@
 //! What the tests of this crate share.
-use mwc_ring::{PipeIn, Word};
+use mwc_pipe::{PipeIn, Word};
 use std::fmt::Debug;
 use std::io::Print;
 use std::process::Abort;

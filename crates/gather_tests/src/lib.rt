@@ -1,6 +1,6 @@
-//! The tests of `mwc_ring`, `mwc_pipe`, `mwc_parts` and `mwc_gather`, which need their public calls alone: pipes, rings, gates,
-//! and lists that threads gather.
-//! They stand in one crate, since a check loads the statements of the libraries once.
+//! The tests of `mwc_pipe` and `mwc_gather`, by their public calls only.
+//!
+//! They share one crate because a check then loads the statements of the libraries once.
 #![tactic(auto)]
 
 #[cfg(test)]
@@ -9,5 +9,3 @@ mod helpers;
 mod mwc_gather_tests;
 #[cfg(test)]
 mod mwc_pipe_tests;
-#[cfg(test)]
-mod mwc_ring_tests;

@@ -1,5 +1,6 @@
 //! Rows worked by hand, and long ones.
 mod refusals;
+mod rings;
 
 use crate::helpers::{fill, same};
 use mwc_pipe::{Batch, Pipe, PipeIn, Refused, Reply, Step, Taken, Word, replay, ring};

@@ -6,10 +6,10 @@ use Rattle.mwc_gather.proofs.Imports.{map_push, All-head, All-tail, Slicing, sum
 use Rattle.mwc_gather.proofs.Imports.{DealsTo, IsPartOfDesk, all_total, IsComplete}
 use Rattle.std.proofs.{Common.slice_get, lemmas.List.get_or-map, lemmas.Slice.Zip.AllZip-long}
 use Rattle.std.specs.List.Sorted.{IsStrictlyIncreasing}
-use Rattle.mwc_parts.specs.declared.fault.GatherFault.TheVariants.{TooMany, Start, Ring}
-use Rattle.mwc_parts.specs.{Parts.shares, Shared.Dealing.IsWell, Shared.Dealing.given_slices, Shared.Deals.AreDealt}
-use Rattle.mwc_parts.proofs.Shared.Firsts.{each_within, dealt_total, dealt_increase, share_begins}
-use Rattle.mwc_parts.proofs.Shared.Turns as turns
+use Rattle.mwc_gather.specs.declared.fault.GatherFault.TheVariants.{TooMany, Start, Ring}
+use Rattle.mwc_gather.specs.{Parts.shares, Inner.Dealing.IsWell, Inner.Dealing.given_slices, Inner.Deals.AreDealt}
+use Rattle.mwc_gather.proofs.Firsts.{each_within, dealt_total, dealt_increase, share_begins}
+use Rattle.mwc_gather.proofs.Turns as turns
 
 module _ {X Y : Type 0} where
   all_of_map : (P : Y → Type 0) (f : X → Y) (xs : List X) → All P (map f xs) → All (λ x. P (f x)) xs

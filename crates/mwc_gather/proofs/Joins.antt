@@ -2,11 +2,11 @@
 use Rattle.mwc_gather.proofs.Imports.{Slicing, coalition_count, IsDraftOf, IsPart, Part, GatherFault, Desk, IsOf, IsPartOfDesk, CanEndWith}
 use Rattle.mwc_gather.proofs.Imports.{◌≡◌, ℕ, ◌<◌, false, List, ◌++◌, length, Some, None, ap, subst, sym, ◌∙◌, arith, false≢true, Word}
 use Rattle.std.proofs.Common.{◌⊎◌, Result, Ok, Err, IfOk, IfErr, flat_map, inl, inr}
-use Rattle.mwc_ring.specs.{RingViews.RingInView, RingViews.RingOutView, RingViews.ClosedView, declared.closed.Unfinished.Unfinished}
-use Rattle.mwc_parts.specs.{Shared.Settled.HasAllWords, Shared.Settled.ends_from, Wording.IsWholeSending, Wording.IsCutSending}
-use Rattle.mwc_parts.specs.{Drafts.IsPartOfDraft, Drafts.fault_in_draft, Pieces.HasEnds, Shared.Fault.fault_in, declared.draft.Draft.Draft}
-use Rattle.mwc_parts.proofs.Shared.Readings.{has_ends}
-use Rattle.mwc_parts.proofs.Shared.Settles.{settles, kept_by, lost_or_cut, whole_sent, whole_reads, whole_many}
+use Rattle.mwc_pipe.specs.{RingViews.RingInView, RingViews.RingOutView, RingViews.ClosedView, declared.closed.Unfinished.Unfinished}
+use Rattle.mwc_gather.specs.{Inner.Settled.HasAllWords, Inner.Settled.ends_from, Wording.IsWholeSending, Wording.IsCutSending}
+use Rattle.mwc_gather.specs.{Inner.Drafts.IsPartOfDraft, Inner.Drafts.fault_in_draft, Pieces.HasEnds, Inner.Fault.fault_in, declared.draft.Draft.Draft}
+use Rattle.mwc_gather.proofs.Readings.{has_ends}
+use Rattle.mwc_gather.proofs.Settles.{settles, kept_by, lost_or_cut, whole_sent, whole_reads, whole_many}
 use Rattle.mwc_gather.specs.{Inner.Desks.desk_slicing, Sending.HasWorked}
 
 worked_ok : (g : Slicing) (most : ℕ) (out : RingInView) (tasks : RingOutView) (r : Result ClosedView Unfinished × RingOutView)

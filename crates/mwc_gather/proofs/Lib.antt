@@ -1,3 +1,14 @@
+mod Turns
+mod Firsts
+mod Once
+mod Settles
+mod Readings
+mod Ranges
+mod Shares
+mod Tasks
+mod Drafts
+mod Rooms
+pub mod Searches
 mod Slices
 mod FirstWords
 mod UnderWay

@@ -4,8 +4,8 @@ use Rattle.mwc_gather.proofs.Imports.{length-joined, slicing, all_total}
 use Rattle.std.proofs.{Common.◌^◌, lemmas.List.Elements.All-weaker}
 use Rattle.std.specs.List.{range_with_len}
 use Rattle.council_game.specs.{Game.GameView, Votes.minimal_coalitions}
-use Rattle.mwc_parts.specs.Parts.{HasPieces}
-use Rattle.mwc_parts.proofs.Shared.Readings.{piece_is}
+use Rattle.mwc_gather.specs.Parts.{HasPieces}
+use Rattle.mwc_gather.proofs.Readings.{piece_is}
 
 -- the slices have as many coalitions as there are
 pub all_total_is : (game : GameView) (bits : ℕ) → bits ≤ 10 → bits ≤ length game.names

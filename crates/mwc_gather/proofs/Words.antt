@@ -2,9 +2,9 @@
 use Rattle.mwc_gather.proofs.Imports.{◌≡◌, ℕ, ◌+◌, ◌≤◌, Bool, true, false, ◌||◌, cond, List, [], ◌∷◌, ◌++◌, common_steps, arith}
 use Rattle.mwc_gather.proofs.Imports.{sum_by-cons, false≢true, Word, Open, One, Done}
 use Rattle.std.specs.List.{list_any}
-use Rattle.mwc_parts.specs.Shared.Wording.{is_done}
+use Rattle.mwc_gather.specs.Inner.Sending.{is_done}
 use Rattle.std.proofs.{Common.count_by, lemmas.List.Sums.sum_by-append}
-use Rattle.mwc_ring.specs.declared.word.Word.TheVariants.{End}
+use Rattle.mwc_pipe.specs.declared.word.Word.TheVariants.{End}
 use Rattle.mwc_gather.specs.Inner.Sending.{is_end}
 
 -- the words that tell that a slice is whole

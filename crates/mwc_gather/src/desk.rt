@@ -2,25 +2,27 @@
 ghost use Rattle.std.specs.Prelude.{◌≡◌, ℕ, ◌||◌, ◌+◌, ◌<◌, ◌≤◌, ◌^◌, ◌++◌, ◌∷◌, [], List, All, IfOk, IfErr, if◌then◌else◌, IsTrue, IsFalse, true, false, count_by, length, take, vec_len, vec_capacity};
 ghost use Rattle.std.specs.List.{list_any};
 ghost use Rattle.coalitions.specs.declared.limits.TheConstants.{WORKERS};
-ghost use Rattle.mwc_ring.specs.declared.word.Word.{Word};
-ghost use Rattle.mwc_parts.specs.Slicing.{Slicing};
-ghost use Rattle.mwc_parts.specs.Wording.{open_words};
-ghost use Rattle.mwc_parts.specs.Drafts.{IsDraftOf, LosesForWantOfRoom};
-ghost use Rattle.mwc_parts.specs.Shared.Wording.{end_words, is_done};
-ghost use Rattle.mwc_parts.specs.Shared.Dealing.{IsFresh};
-ghost use Rattle.mwc_parts.specs.Shared.Fault.{IsEarly, fault_in};
-ghost use Rattle.mwc_gather.specs.Slicings.{slicing};
+ghost use Rattle.mwc_pipe.specs.declared.word.Word.{Word};
+ghost use Rattle.mwc_gather.specs.Slicing.{Slicing};
+ghost use Rattle.mwc_gather.specs.Wording.{open_words};
+ghost use Rattle.mwc_gather.specs.Inner.Drafts.{IsDraftOf, LosesForWantOfRoom};
+ghost use Rattle.mwc_gather.specs.Inner.Sending.{end_words, is_done};
+ghost use Rattle.mwc_gather.specs.Inner.Dealing.{IsFresh};
+ghost use Rattle.mwc_gather.specs.Inner.Fault.{IsEarly, fault_in};
+ghost use Rattle.mwc_gather.specs.Inner.Jobs.{slices_of};
 ghost use Rattle.mwc_gather.specs.Sending.{HasWorked};
 ghost use Rattle.mwc_gather.specs.Inner.Sending.{is_end};
 
+use crate::draft::Draft;
 use crate::equipment::Equipment;
+use crate::fault::GatherFault;
 use crate::job::Job;
+use crate::observer::SliceObserver;
+use crate::part::Part;
 use crate::promise::{Answer, GivenJob};
-use crate::told::Told;
 use crate::waiting::{BellPair, Bells, Patience};
 use crate::worker::work_beside;
-use mwc_parts::{Draft, GatherFault, Part};
-use mwc_ring::{Rest, RingIn, RingOut, Word};
+use mwc_pipe::{Rest, RingIn, RingOut, Word};
 use mwc_walk::slice_count;
 use std::alloc::Global;
 use std::sync::Wait;
@@ -58,7 +60,7 @@ impl Desk {
     ghost use Rattle.mwc_gather.specs.Inner.Desks.{IsOf, IsSameDesk, view_of, IsPartOfDesk, CanEndWith};
 
     /// Makes room for what is kept of a worker, and starts it.
-    pub fn open<'s, E, R: Threads + Wait + Sync, G: Told + Sync>(
+    pub fn open<'s, E, R: Threads + Wait + Sync, G: SliceObserver + Sync>(
         scope: &Scope<'s, E>,
         rt: &'s R,
         alloc: Global,
@@ -68,7 +70,7 @@ impl Desk {
     ) -> Result<Desk, GatherFault>
         requires worker { worker < WORKERS }
         requires gate { (j : ℕ) → j < 2 ^ job.now.bits → G.takes worker j }
-        ensures order { IfOk result (IsOf (slicing job.now.guarded job.now.bits) job.now.most) }
+        ensures order { IfOk result (IsOf (slices_of job.now) job.now.most) }
         ensures fresh { IfOk result (λ d. IsFresh (view_of d)) }
         ensures fault { IfErr result IsEarly }
     {
@@ -81,7 +83,11 @@ impl Desk {
             draft,
         } = Equipment::new(alloc, slice_count(job.bits))?;
         let given_job = job.given(&out, &list);
-        let own = job.share();
+        let own = Job {
+            guarded: job.guarded.share(),
+            bits: job.bits,
+            most: job.most,
+        };
         let pair = BellPair {
             own: &bells.workers[usize::from(worker)],
             other: &bells.gatherer,
@@ -90,7 +96,7 @@ impl Desk {
             requires worker { worker < WORKERS }
             requires fresh { (out.accepted ≡ []) × (list.taken ≡ []) }
             requires gate { (j : ℕ) → j < 2 ^ own.bits → G.takes worker j }
-            ensures { HasWorked (slicing own.entry.guarded own.entry.bits) own.entry.most
+            ensures { HasWorked (slices_of own.entry) own.entry.most
                 out list result }
         { work_beside(rt, &own, worker, out, list, pair) };
         let Ok(worker) = scope.spawn_with(given_job, body) else {

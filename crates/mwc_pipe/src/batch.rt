@@ -1,13 +1,15 @@
 //! A pipe of words that is only filled.
 ghost use Rattle.std.specs.Prelude.{◌≡◌, ◌≢◌, ◌≤◌, ◌^◌, ◌↔◌, ◌++◌, ◌∷◌, [], ℕ, length, true, false, OnOk, IfErr, IfSome};
-ghost use Rattle.mwc_ring.specs.Refusal.{handed_back, broken_after};
+ghost use Rattle.mwc_pipe.specs.Refusal.{handed_back, broken_after};
 ghost use Rattle.mwc_pipe.specs.Calls.{reply_of_put};
-ghost use Rattle.mwc_ring.specs.PipeView.{IsStep};
+ghost use Rattle.mwc_pipe.specs.PipeView.{IsStep};
 ghost use Rattle.mwc_pipe.specs.BatchView.{still_open};
-ghost use Rattle.mwc_ring.specs.declared.step.Step.TheVariants.{Put};
+ghost use Rattle.mwc_pipe.specs.declared.step.Step.TheVariants.{Put};
 
 use crate::pipe::Pipe;
-use mwc_ring::{PipeIn, Refused, Word};
+use crate::pipe_in::PipeIn;
+use crate::refused::Refused;
+use crate::word::Word;
 use std::alloc::Global;
 use std::marker::Model;
 

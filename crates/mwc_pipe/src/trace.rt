@@ -2,14 +2,16 @@
 ghost use Rattle.std.specs.Prelude.{◌≡◌, ◌≤◌, ◌^◌, [], ◌∷◌, ◌++◌, length, false, IfOk, OnOk};
 ghost use Rattle.std.specs.Option.{option_to_list};
 ghost use Rattle.std.specs.List.{list_any};
-ghost use Rattle.mwc_ring.specs.PipeView.{IsStep, Leaves};
-ghost use Rattle.mwc_ring.specs.History.{history, replies, items_in, items_out, is_close, item_in, item_out, IsLawful};
+ghost use Rattle.mwc_pipe.specs.PipeView.{IsStep, Leaves};
+ghost use Rattle.mwc_pipe.specs.History.{history, replies, items_in, items_out, is_close, item_in, item_out, IsLawful};
 ghost use Rattle.mwc_pipe.specs.Laws.{NothingEntersAfterClose};
 
 use crate::pipe::Pipe;
+use crate::refused::Refused;
+use crate::reply::Reply;
+use crate::step::Step;
 use crate::taken::Taken;
 use coalitions::Memory;
-use mwc_ring::{Refused, Reply, Step};
 use std::alloc::Global;
 
 /// What a pipe made of a list of steps.

@@ -6,10 +6,10 @@ pub use Rattle.council_game.specs.{Game.GameView, Game.IsGame, Game.votes_of, Ra
 pub use Rattle.council_game.specs.Votes.{IsVotes, RuleView, Votes, minimal, rule_at, size}
 pub use Rattle.mwc_sums.specs.Chambers.{AreChambersOf, HasNoWeight, chamber_of, met, minimal_of_size, share, weighs}
 pub use Rattle.mwc_sums.specs.{Inner.Rules.AreRulesOf, Inner.Rules.StatuteView, Statute.is_counted, Statute.rules_beside, Statute.statute}
-pub use Rattle.mwc_sums.specs.{Heads.are_of_one_chamber, Inner.Fair.IsFair, Inner.Seats.IsTallyOfPlace, Inner.Seats.key, Inner.Seats.key_at}
+pub use Rattle.mwc_sums.specs.{Heads.are_of_one_chamber, Inner.Fair.IsFair, Inner.Seats.AreOfPlace, Inner.Seats.key, Inner.Seats.key_at}
 pub use Rattle.mwc_sums.specs.Vetoers.{can_veto, rest_of, rule_for}
 pub use Rattle.power_index.proofs.Shared.{Minimal.minimal-few, Sums.sum-filter, Sums.sum-range}
-pub use Rattle.power_index.specs.{Counting.contains, Counting.size_of, Tables.IsTallyOf, Tables.no_tally}
+pub use Rattle.power_index.specs.{Counting.contains, Counting.size_of, Tables.AreSizeCounts}
 pub use Rattle.std.proofs.Common.{All, Bool, List, [], ap, arith, cond, eqb, false, filter, get_or, inl, inr, le-ltb, leb, length, ltb, map}
 pub use Rattle.std.proofs.Common.{not, refl, string_bytes, subst, suc, sum, sum_by, sym, take, take_all, true, zero, ℕ, ◌&&◌, ◌*◌, ◌++◌}
 pub use Rattle.std.proofs.Common.{◌+◌, ◌-◌, ◌<◌, ◌==◌, ◌^◌, ◌||◌, ◌↔◌, ◌∙◌, ◌∷◌, ◌≡◌, ◌≢◌, ◌≤◌, ◌⊎◌}

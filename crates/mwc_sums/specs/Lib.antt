@@ -3,6 +3,7 @@ pub use Rattle.council_game.specs.Votes
 pub use Rattle.power_index.specs.Tables
 pub mod Chambers
 pub mod Completing
+pub mod Coverage
 pub mod Heads
 pub mod Inner
 pub mod Orders

@@ -32,6 +32,10 @@ left g = filter (λ r. not (is_counted (length g.names) (statute g) r)) (statute
 abbrev pub IsCountedBySums : GameView → Type 0
 IsCountedBySums g = length (left g) ≡ 0
 
+-- sums leave some rules, and count none
+abbrev pub IsNotCounted : GameView → Type 0
+IsNotCounted g = (length (counted g) ≡ 0) × (0 < length (left g))
+
 -- sums count some rules, and leave some
 abbrev pub IsCountedInPart : GameView → Type 0
 IsCountedInPart g = (0 < length (counted g)) × (0 < length (left g))

@@ -1,14 +1,13 @@
 //! Rules of chambers, as a parliament has them: each is counted by itself.
 ghost use Rattle.coalitions.specs.declared.limits.TheConstants.{RULES};
-ghost use Rattle.council_game.specs.Game.{votes_of};
-ghost use Rattle.council_game.specs.Votes.{minimal_coalitions, rule_at};
+ghost use Rattle.council_game.specs.Votes.{rule_at};
 ghost use Rattle.mwc_sums.specs.Chambers.{chamber_of};
 ghost use Rattle.mwc_sums.specs.Inner.Rules.{AreOfChambers, AreRulesOf, beside_of};
 ghost use Rattle.mwc_sums.specs.Statute.{is_counted};
-ghost use Rattle.power_index.specs.Tables.{AreCounts};
+ghost use Rattle.power_index.specs.Tables.{AreCountsOfGame};
 ghost use Rattle.std.specs.Prelude.{◌≡◌, ◌+◌, ◌<◌, ◌≤◌, true, IfOk, length};
 
-use crate::counted::{Counted, boxed_joined};
+use crate::counted::Counted;
 use crate::seats::count_seated;
 use crate::statute::Statute;
 use council_game::{Game, Memory};
@@ -44,7 +43,10 @@ impl Statute {
         let (weights, seats) = chamber.seats().unwrap();
         let first = chamber.game(alloc, game)?;
         let counts = count_seated(alloc, &first, weights, seats)?;
-        Ok(Counted::new(first, counts))
+        Ok(Counted {
+            game: first,
+            counts,
+        })
     }
 
     /// The counts of a game by these rules, of chambers: those of the first rule's chamber and of the others, paired.
@@ -54,7 +56,7 @@ impl Statute {
         requires few { length self.now.rules ≤ RULES + 1 }
         requires chambers { AreOfChambers self.now.members self.now.rules }
         requires game { AreRulesOf game.now self.now.members self.now.rules }
-        ensures { IfOk result (λ c. AreCounts game.now (minimal_coalitions (votes_of game.now)) c.value) }
+        ensures { IfOk result (λ c. AreCountsOfGame game.now c.value) }
     {
         game.was_checked();
         self.rules_are_fair();
@@ -64,7 +66,7 @@ impl Statute {
             return Ok(first.counts);
         }
         let second = others.counted(alloc, game)?;
-        boxed_joined(alloc, game, &first, &second)
+        Ok(first.join(game, &second))
     }
 
     /// The game of these rules with the members of another, counted.
@@ -79,6 +81,6 @@ impl Statute {
     {
         let part = self.copy(alloc)?.game(alloc, game)?;
         let counts = self.count(alloc, &part)?;
-        Ok(Counted::new(part, counts))
+        Ok(Counted { game: part, counts })
     }
 }

@@ -7,12 +7,12 @@ ghost use Rattle.mwc_sums.specs.Inner.Pairs.{of_member_size, of_place_size, of_s
 ghost use Rattle.power_index.specs.Counting.{size_of};
 ghost use Rattle.council_game.specs.Votes.{size};
 ghost use Rattle.std.specs.List.{filter};
-ghost use Rattle.power_index.specs.Tables.{AreCounts, IsTallyOf};
-ghost use Rattle.std.specs.Prelude.{◌≡◌, ◌==◌, ◌&&◌, ℕ, Bool, List, ◌<◌, ◌≤◌, true, IfOk, length};
+ghost use Rattle.power_index.specs.Tables.{AreCountsOfGame, AreSizeCounts};
+ghost use Rattle.std.specs.Prelude.{◌≡◌, ◌==◌, ◌&&◌, ℕ, Bool, List, ◌<◌, ◌≤◌, true, length};
 
-use council_game::{Game, Memory, limits};
-use power_index::{Counts, Tally};
-use std::alloc::Global;
+use coalitions::SizeCounts;
+use council_game::{Game, limits};
+use power_index::Counts;
 
 /// A game, and the counts of its minimal winning coalitions.
 #[derive(Drop)]
@@ -20,19 +20,10 @@ pub struct Counted {
     pub game: Game,
     pub counts: Box<Counts>,
     ghost is: { IsGame game },
-    ghost are: { AreCounts game (minimal_coalitions (votes_of game)) counts.value },
+    ghost are: { AreCountsOfGame game counts.value },
 }
 
 impl Counted {
-    /// A game with its counts.
-    pub(crate) fn new(game: Game, counts: Box<Counts>) -> Counted
-        requires { AreCounts game (minimal_coalitions (votes_of game)) counts.value }
-        ensures { result.game ≡ game }
-    {
-        game.was_checked();
-        Counted { game, counts }
-    }
-
     /// How many coalitions have a size.
     #[tactic(auto, using(crate::proofs::Pairs::above), unfolding(crate::specs::Inner::Pairs::of_size))]
     pub(crate) fn of_size(&self, size: usize) -> u64
@@ -93,58 +84,49 @@ fn pairs_of_place(game: &Game, first: &Counted, second: &Counted, place: usize, 
     pairs
 }
 
-/// The tally of the coalitions of a game of two chambers.
-fn joined_all(game: &Game, first: &Counted, second: &Counted) -> Tally
+/// How many coalitions of a game of two chambers there are, by size.
+fn paired_all(game: &Game, first: &Counted, second: &Counted) -> SizeCounts
     requires { AreChambersOf game.now first.now.game second.now.game }
-    ensures { IsTallyOf (length game.now.names) (λ _. true) (minimal_coalitions (votes_of game.now)) result }
+    ensures { AreSizeCounts (length game.now.names) (λ _. true) (minimal_coalitions (votes_of game.now)) result }
 {
     let mut sizes = [0; limits::SIZES];
     for size in 0..limits::SIZES {
         sizes[size] = pairs_of_size(game, first, second, size);
     }
-    Tally { sizes }
+    sizes
 }
 
-/// The tally of those that contain a place.
+/// How many of them contain a place.
 #[tactic(auto, unfolding(crate::specs::Inner::Pairs::of_place_size))]
-fn joined_each(game: &Game, first: &Counted, second: &Counted, place: usize) -> Tally
+fn paired_with(game: &Game, first: &Counted, second: &Counted, place: usize) -> SizeCounts
     requires place { place < length game.now.names }
     requires chambers { AreChambersOf game.now first.now.game second.now.game }
-    ensures { IsTallyOf (length game.now.names) (has (length game.now.names) place)
+    ensures { AreSizeCounts (length game.now.names) (has (length game.now.names) place)
         (minimal_coalitions (votes_of game.now)) result }
 {
     let mut sizes = [0; limits::SIZES];
     for size in 0..limits::SIZES {
         sizes[size] = pairs_of_place(game, first, second, place, size);
     }
-    Tally { sizes }
+    sizes
 }
 
-/// The counts of a game of two chambers.
-#[tactic(auto, using(power_index::proofs::Shared::Minimal::can_be_counted))]
-pub(crate) fn joined(game: &Game, first: &Counted, second: &Counted) -> Counts
-    requires { AreChambersOf game.now first.now.game second.now.game }
-    ensures { AreCounts game.now (minimal_coalitions (votes_of game.now)) result }
-{
-    let all = joined_all(game, first, second);
-    let mut each = [all; limits::MEMBERS];
-    for place in 0..game.members() {
-        each[place] = joined_each(game, first, second, place);
+impl Counted {
+    /// The counts of a game of two chambers, this one and another. (By itself, so that what it takes of the stack is free
+    /// again.)
+    #[inline(never)]
+    #[tactic(auto, using(power_index::proofs::Shared::Minimal::can_be_counted))]
+    pub(crate) fn join(self, game: &Game, other: &Counted) -> Box<Counts>
+        requires { AreChambersOf game.now self.game other.now.game }
+        ensures { AreCountsOfGame game.now result.value }
+    {
+        let all = paired_all(game, &self, other);
+        let mut each = [all; limits::MEMBERS];
+        for place in 0..game.members() {
+            each[place] = paired_with(game, &self, other, place);
+        }
+        let mut counts = self.counts;
+        *counts = Counts::of_sizes(game, all, each);
+        counts
     }
-    Counts::of_tallies(game, all, each)
-}
-
-/// The same on the heap. (By itself, so that what it takes of the stack is free again.)
-#[inline(never)]
-pub(crate) fn boxed_joined(
-    alloc: Global,
-    game: &Game,
-    first: &Counted,
-    second: &Counted,
-) -> Result<Box<Counts>, Memory>
-    requires { AreChambersOf game.now first.now.game second.now.game }
-    ensures { IfOk result (λ c. AreCounts game.now (minimal_coalitions (votes_of game.now)) c.value) }
-{
-    let counts = joined(game, first, second);
-    Ok(Box::new(alloc, counts)?)
 }

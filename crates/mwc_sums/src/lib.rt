@@ -3,11 +3,12 @@
 //!
 //! ```text
 //! match count_by_sums(alloc, &game)? {
-//!     Some(counts) => ..,
-//!     None => match part_by_sums(alloc, &game)? {
-//!         Some(parts) => .. count parts.left, then parts.joined(alloc, &game, left)? ..,
-//!         None => ..,
-//!     },
+//!     Coverage::All(counts) => counts,
+//!     Coverage::Part(parts) => {
+//!         let left = count_by_walk(&parts.left)?;
+//!         parts.join(&game, left)
+//!     }
+//!     Coverage::Nothing => count_by_walk(&game)?,
 //! }
 //! ```
 //!
@@ -16,14 +17,12 @@
 
 mod chamber;
 mod chambers;
-mod count;
 mod counted;
+mod coverage;
 pub mod laws;
-mod parts;
 mod seats;
 mod statute;
 mod vetoers;
 
-pub use count::count_by_sums;
 pub use counted::Counted;
-pub use parts::{Parts, part_by_sums};
+pub use coverage::{Coverage, Parts, count_by_sums};

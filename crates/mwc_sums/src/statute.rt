@@ -1,5 +1,6 @@
 //! What a game consists of, and parts of that: rules over its members.
 ghost use Rattle.coalitions.specs.declared.limits.TheConstants.{RULES};
+ghost use Rattle.council_game.specs.Game.{IsGame};
 ghost use Rattle.council_game.specs.Rules.{rule_view, rule_views};
 ghost use Rattle.council_game.specs.Votes.{rule_at};
 ghost use Rattle.mwc_sums.specs.Chambers.{chamber_of, share};
@@ -51,6 +52,7 @@ impl Statute {
     pub(crate) fn of(alloc: Global, game: &Game) -> Result<Statute, Memory>
         ensures members { IfOk result (λ s. s.members ≡ length game.now.names) }
         ensures rules { IfOk result (λ s. s.rules ≡ statute game.now) }
+        ensures fair { IfOk result (λ s. All (IsFair s.members) s.rules) }
         ensures some { IfOk result (λ s. 0 < length s.rules) }
         ensures few { IfOk result (λ s. length s.rules ≤ RULES + 1) }
         ensures game { IfOk result (λ s. AreRulesOf game.now s.members s.rules) }
@@ -168,6 +170,7 @@ impl Statute {
         requires members { self.members ≡ length game.now.names }
         requires some { 0 < length self.rules }
         requires few { length self.rules ≤ RULES }
+        ensures game { IfOk result IsGame }
         ensures names { IfOk result (λ made. made.names ≡ game.now.names) }
         ensures title { IfOk result (λ made. made.title ≡ None) }
         ensures rules { IfOk result (λ made. made.rules ≡ self.rules) }
@@ -176,7 +179,10 @@ impl Statute {
         game.was_checked();
         let names = copied_names(alloc, game)?;
         match Game::with_rules(alloc, None, names, self.rules) {
-            Ok(made) => Ok(made),
+            Ok(made) => {
+                made.was_checked();
+                Ok(made)
+            }
             Err(fault) => {
                 prove!(matches!(fault, GameFault::Memory));
                 Err(Memory)

@@ -1,7 +1,7 @@
 pub mod Shared
 mod Ordered
 mod Quotients
-pub mod Tallies
+pub mod Sizes
 pub mod Unique
 mod Units
 mod Walks

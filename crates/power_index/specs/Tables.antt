@@ -3,41 +3,37 @@ use Rattle.std.specs.Prelude.{ℕ, ◌+◌, ◌*◌, ◌/◌, ◌^◌, ◌≡◌
 use Rattle.std.specs.Prelude.{sum_by}
 use Rattle.std.specs.List.{filter, range_with_len}
 use Rattle.coalitions.specs.declared.limits.TheConstants.{MEMBERS, SIZES}
-use Rattle.council_game.specs.Votes.{has, size}
-use Rattle.council_game.specs.Game.{GameView, IsGame}
+use Rattle.council_game.specs.Votes.{has, minimal_coalitions, size}
+use Rattle.council_game.specs.Game.{GameView, IsGame, votes_of}
 use Rattle.power_index.specs.Counting.{count_of_size, count_of_member, count_of_member_size}
-use Rattle.power_index.specs.declared.tally.Tally.{Tally}
 
--- the rank place of each member, the tally of all coalitions, and by rank place those of each member's
+-- the rank place of each member, how many coalitions there are by size, and by rank place how many contain each member
 pub record Tables : Type 0 where
   pub members : ℕ
   pub ranks : List ℕ
-  pub all : Tally
-  pub each : List Tally
-
-abbrev pub no_tally : Tally
-no_tally = record { sizes = [] }
+  pub all : List ℕ
+  pub each : List (List ℕ)
 
 -- the numbers of the sizes 0 to n, added
-abbrev pub tally_total : ℕ → Tally → ℕ
-tally_total n t = sum_by (slice_index t.sizes) (range_with_len 0 (n + 1))
+abbrev pub total_of_sizes : ℕ → List ℕ → ℕ
+total_of_sizes n sizes = sum_by (slice_index sizes) (range_with_len 0 (n + 1))
 
--- the tally of the coalitions that contain member i
-abbrev pub tally_of_member : Tables → ℕ → Tally
-tally_of_member t i = slice_index_or t.each (slice_index t.ranks i) no_tally
+-- by size, how many coalitions contain member i
+abbrev pub sizes_with_member : Tables → ℕ → List ℕ
+sizes_with_member t i = slice_index_or t.each (slice_index t.ranks i) []
 
 -- what the tables say
 abbrev pub table_total : Tables → ℕ
-table_total t = tally_total t.members t.all
+table_total t = total_of_sizes t.members t.all
 
 abbrev pub table_of_size : Tables → ℕ → ℕ
-table_of_size t s = slice_index t.all.sizes s
+table_of_size t s = slice_index t.all s
 
 abbrev pub table_of_member : Tables → ℕ → ℕ
-table_of_member t i = tally_total t.members (tally_of_member t i)
+table_of_member t i = total_of_sizes t.members (sizes_with_member t i)
 
 abbrev pub table_of_member_size : Tables → ℕ → ℕ → ℕ
-table_of_member_size t i s = slice_index (tally_of_member t i).sizes s
+table_of_member_size t i s = slice_index (sizes_with_member t i) s
 
 -- the numbers of all members, added
 abbrev pub table_memberships : Tables → ℕ
@@ -67,16 +63,20 @@ pub record AreCounts (g : GameView) (list : List ℕ) (t : Tables) : Type 0 wher
   pub of_member_size : (i s : ℕ) → i < t.members → s ≤ t.members →
       table_of_member_size t i s ≡ count_of_member_size g i s list
 
--- a tally counts those of a list, coalitions of n members, that pass a test, by size
-pub record IsTallyOf (n : ℕ) (p : ℕ → Bool) (list : List ℕ) (t : Tally) : Type 0 where
-  pub long : length t.sizes ≡ SIZES
-  pub sizes : (s : ℕ) → s ≤ MEMBERS →
-      slice_index t.sizes s ≡ length (filter (λ c. p c && (size n c == s)) list)
+-- the tables hold the counts of a game's minimal winning coalitions
+abbrev pub AreCountsOfGame : GameView → Tables → Type 0
+AreCountsOfGame g t = AreCounts g (minimal_coalitions (votes_of g)) t
+
+-- they count those of a list, coalitions of n members, that pass a test, by size
+pub record AreSizeCounts (n : ℕ) (p : ℕ → Bool) (list sizes : List ℕ) : Type 0 where
+  pub long : length sizes ≡ SIZES
+  pub each : (s : ℕ) → s ≤ MEMBERS →
+      slice_index sizes s ≡ length (filter (λ c. p c && (size n c == s)) list)
 
 -- the tallies are those of a list: of all, and of those that contain each rank place
 pub record AreTalliesOf (n : ℕ) (list : List ℕ) (t : Tables) : Type 0 where
-  pub all : IsTallyOf n (λ _. true) list t.all
-  pub each : (p : ℕ) → p < n → IsTallyOf n (has n p) list (slice_index_or t.each p no_tally)
+  pub all : AreSizeCounts n (λ _. true) list t.all
+  pub each : (p : ℕ) → p < n → AreSizeCounts n (has n p) list (slice_index_or t.each p [])
 
 -- the tables are those of a game
 pub record AreOf (g : GameView) (t : Tables) : Type 0 where

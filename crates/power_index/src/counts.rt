@@ -1,15 +1,15 @@
 //! Counts of coalitions, by member and by size.
+ghost use Rattle.coalitions.specs.SizeCounts.{AreAdded};
 ghost use Rattle.coalitions.specs.declared.limits.TheConstants.{MEMBERS};
 ghost use Rattle.council_game.specs.Game.{GameView, AreNonemptyCoalitions};
 ghost use Rattle.council_game.specs.Votes.{has};
-ghost use Rattle.power_index.specs.Tables.{AreCounts, AreOfOneGame, AreSound, AreTallies, IsTallyOf};
-ghost use Rattle.power_index.specs.Tables.{no_tally, table_memberships, table_of_member};
-ghost use Rattle.power_index.specs.Inner.Tables.{IsJoined};
-ghost use Rattle.power_index.specs.Tables.{table_of_member_size, table_of_size, table_total};
+ghost use Rattle.power_index.specs.Tables.{AreCounts, AreOfOneGame, AreSizeCounts, AreSound, AreTallies};
+ghost use Rattle.power_index.specs.Tables.{table_memberships, table_of_member};
+ghost use Rattle.power_index.specs.Tables.{table_of_member_size, table_of_size, table_total, total_of_sizes};
 ghost use Rattle.power_index.specs.Inner.Tables.{with_one};
 ghost use Rattle.std.specs.Prelude.{◌≡◌, ℕ, ◌+◌, ◌-◌, ◌*◌, ◌<◌, ◌≤◌, ◌^◌, if◌then◌else◌, List, [], ◌∷◌, ◌++◌, length, slice_index, slice_index_or, All, min, true};
 
-use crate::tally::Tally;
+use coalitions::{SizeCounts, add_counts};
 use council_game::{Coalition, Game, limits};
 use std::marker::Model;
 
@@ -25,10 +25,10 @@ pub struct Counts {
     members: usize,
     /// The rank place of each member, in file order.
     ranks: [usize; limits::MEMBERS],
-    /// The tally of all coalitions.
-    all: Tally,
-    /// The tallies of the coalitions that contain each member, by rank place.
-    each: [Tally; limits::MEMBERS],
+    /// How many coalitions there are.
+    all: SizeCounts,
+    /// How many contain each member, by rank place.
+    each: [SizeCounts; limits::MEMBERS],
 }
 
 impl Model for Counts {
@@ -57,43 +57,57 @@ fn add_to_places(
     members: usize,
     coalition: Coalition,
     size: usize,
-    by_place: &mut [Tally; limits::MEMBERS],
+    by_place: &mut [SizeCounts; limits::MEMBERS],
 )
     requires few { members ≤ MEMBERS }
     requires below { coalition < 2 ^ members }
     requires size { size ≤ MEMBERS }
     requires room { (p : ℕ) → p < members →
-        slice_index (slice_index_or by_place.old p no_tally).sizes size ≤ 2 ^ MEMBERS }
-    ensures { (p : ℕ) → p < members → slice_index_or by_place.new p no_tally ≡
+        slice_index (slice_index_or by_place.old p []) size ≤ 2 ^ MEMBERS }
+    ensures { (p : ℕ) → p < members → slice_index_or by_place.new p [] ≡
         if has members p coalition
-        then with_one (slice_index_or by_place.old p no_tally) size
-        else slice_index_or by_place.old p no_tally }
+        then with_one (slice_index_or by_place.old p []) size
+        else slice_index_or by_place.old p [] }
 {
     let mut rest = coalition.mask();
     while rest != 0 {
         let place = members - 1 - rest.trailing_zeros() as usize;
-        by_place[place].add(size);
+        by_place[place][size] += 1;
         rest &= rest - 1;
     }
 }
 
-/// Adds the numbers of other tallies, place by place.
+/// Adds the numbers of other coalitions, place by place.
 fn join_places(
     members: usize,
-    by_place: &mut [Tally; limits::MEMBERS],
-    other: &[Tally; limits::MEMBERS],
+    by_place: &mut [SizeCounts; limits::MEMBERS],
+    other: &[SizeCounts; limits::MEMBERS],
 )
     requires few { members ≤ MEMBERS }
     requires room { (p s : ℕ) → p < members → s ≤ MEMBERS →
-        slice_index (slice_index_or by_place.old p no_tally).sizes s +
-        slice_index (slice_index_or other.now p no_tally).sizes s < 2 ^ 64 }
+        slice_index (slice_index_or by_place.old p []) s +
+        slice_index (slice_index_or other.now p []) s < 2 ^ 64 }
     ensures { (p : ℕ) → p < members →
-        IsJoined (slice_index_or by_place.old p no_tally) (slice_index_or other.now p no_tally)
-        (slice_index_or by_place.new p no_tally) }
+        AreAdded (slice_index_or by_place.old p []) (slice_index_or other.now p [])
+        (slice_index_or by_place.new p []) }
 {
     for place in 0..members {
-        by_place[place].join(&other[place]);
+        add_counts(&mut by_place[place], &other[place]);
     }
+}
+
+/// How many coalitions of the sizes from 0 to the number of members there are.
+#[tactic(auto, using(crate::proofs::Sizes::one_more))]
+fn total(sizes: &SizeCounts, members: usize) -> u64
+    requires members { members ≤ MEMBERS }
+    requires room { total_of_sizes members sizes.now ≤ 2 ^ MEMBERS }
+    ensures { result ≡ total_of_sizes members sizes.now }
+{
+    let mut total = 0;
+    for size in 0..members + 1 {
+        total += sizes[size];
+    }
+    total
 }
 
 /// A number in 32 bits, or the greatest that these hold.
@@ -114,36 +128,31 @@ impl Counts {
         for i in 0..members {
             ranks[i] = game.place_of(i);
         }
-        let none = Tally::new();
         Counts {
             members,
             ranks,
-            all: none,
-            each: [none; limits::MEMBERS],
+            all: [0; limits::SIZES],
+            each: [[0; limits::SIZES]; limits::MEMBERS],
         }
     }
 
-    /// The counts of a list of coalitions, none of them empty, that were counted elsewhere: the tally of
-    /// all, and by rank place those of the coalitions that contain it.
-    pub fn of_tallies(game: &Game, all: Tally, each: [Tally; limits::MEMBERS]) -> Counts
+    /// The counts of a list of coalitions, none of them empty, that were counted elsewhere: by size how
+    /// many there are, and by rank place how many contain it.
+    pub fn of_sizes(game: &Game, all: SizeCounts, each: [SizeCounts; limits::MEMBERS]) -> Counts
         ghost list: { List ℕ }
         requires few { length list ≤ 2 ^ MEMBERS }
         requires coalitions { AreNonemptyCoalitions game.now list }
-        requires all { IsTallyOf (length game.now.names) (λ _. true) list all }
+        requires all { AreSizeCounts (length game.now.names) (λ _. true) list all }
         requires each { (p : ℕ) → p < length game.now.names →
-            IsTallyOf (length game.now.names) (has (length game.now.names) p) list
-            (slice_index_or each p no_tally) }
+            AreSizeCounts (length game.now.names) (has (length game.now.names) p) list
+            (slice_index_or each p []) }
         ensures tallies { AreTallies game.now list result }
         ensures counts { AreCounts game.now list result }
     {
-        let none = Counts::none(game);
-        let ranks = none.ranks;
-        Counts {
-            members: none.members,
-            ranks,
-            all,
-            each,
-        }
+        let mut counts = Counts::none(game);
+        counts.all = all;
+        counts.each = each;
+        counts
     }
 
     /// Counts one coalition more. Where these were the counts of a list, they are then those of the
@@ -158,7 +167,7 @@ impl Counts {
             AreTallies g (list ++ coalition ∷ []) self.new }
     {
         let size = usize::from(coalition.size());
-        self.all.add(size);
+        self.all[size] += 1;
         add_to_places(self.members, coalition, size, &mut self.each);
     }
 
@@ -186,7 +195,7 @@ impl Counts {
         ensures tallies { (g : GameView) (first second : List ℕ) → AreTallies g first self.old →
             AreTallies g second other.now → AreTallies g (first ++ second) self.new }
     {
-        self.all.join(&other.all);
+        add_counts(&mut self.all, &other.all);
         join_places(self.members, &mut self.each, &other.each);
     }
 
@@ -218,7 +227,7 @@ impl Counts {
         ensures total { result ≡ table_total self.now }
         ensures few { result ≤ 2 ^ MEMBERS }
     {
-        self.all.total(self.members)
+        total(&self.all, self.members)
     }
 
     /// The number of coalitions of a size.
@@ -228,7 +237,7 @@ impl Counts {
         ensures few { result ≤ table_total self.now }
     {
         let all = &self.all;
-        all.sizes[size]
+        all[size]
     }
 
     /// The number of coalitions that contain a member, given by its place in the file.
@@ -238,7 +247,7 @@ impl Counts {
         ensures few { result ≤ table_total self.now }
     {
         let each = &self.each;
-        each[self.ranks[member]].total(self.members)
+        total(&each[self.ranks[member]], self.members)
     }
 
     /// The number of coalitions of a size that contain a member.
@@ -249,7 +258,7 @@ impl Counts {
         ensures few { result ≤ table_total self.now }
     {
         let each = &self.each;
-        each[self.ranks[member]].sizes[size]
+        each[self.ranks[member]][size]
     }
 
     /// The number of coalitions in 32 bits, or the greatest number of 32 bits where there are more.
@@ -295,7 +304,7 @@ impl Counts {
     }
 
     /// The numbers of all members, added.
-    #[tactic(auto, using(crate::proofs::Tallies::one_more))]
+    #[tactic(auto, using(crate::proofs::Sizes::one_more))]
     pub(crate) fn memberships(&self) -> u64
         ensures sum { result ≡ table_memberships self.now }
         ensures some { table_total self.now ≤ result }

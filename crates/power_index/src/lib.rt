@@ -19,11 +19,9 @@ mod index;
 mod indices;
 pub mod laws;
 mod order;
-mod tally;
 
 pub use both::{MemberIndices, all_indices};
 pub use counts::Counts;
 pub use fraction::{Fraction, lowest};
 pub use index::Index;
 pub use indices::{deegan_packel, public_good};
-pub use tally::Tally;

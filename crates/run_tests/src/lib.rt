@@ -1,11 +1,7 @@
-//! The tests of `council_run` and `uses`, which need their public calls alone: whole runs and tallies, and the
-//! functions of callers.
-//! They stand in one crate, since a check loads the statements of the libraries once.
+//! The tests of `council_run`: whole runs and tallies.
 #![tactic(auto)]
 
 #[cfg(test)]
 mod council_run_tests;
 #[cfg(test)]
 mod helpers;
-#[cfg(test)]
-mod uses_tests;

@@ -1,4 +1,4 @@
--- Tallies of the coalitions that members lead to, from the sets of their two halves.
+-- The coalitions that members lead to, from the sets of their two halves.
 use Rattle.weight_sums.proofs.Imports.{ℕ, zero, suc, ◌+◌, ◌-◌, ◌<◌, ◌≤◌, Bool, true, false, cond, leb, List, [], ◌∷◌, ◌++◌, Set, has, fits}
 use Rattle.weight_sums.proofs.Imports.{length, ap, refl, arith, sum_by, nat_tests, ◌≡◌, one_of_size, endings, left_out, nobody, over, ◌∙◌}
 use Rattle.weight_sums.proofs.Imports.{met, AreSets, IsLeft}

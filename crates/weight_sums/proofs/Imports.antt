@@ -5,7 +5,7 @@ pub use Rattle.std.proofs.Common.{All, Bool, List, [], ap, arith, cond, drop, eq
 pub use Rattle.std.proofs.Common.{sum, sum_by, take, true, zero, ℕ, ◌%◌, ◌*◌, ◌++◌, ◌+◌, ◌-◌, ◌/◌, ◌<◌, ◌^◌, ◌∙◌, ◌∷◌, ◌≡◌, ◌≤◌, ◌⊎◌}
 pub use Rattle.std.proofs.lemmas.{Bool.cases_eq, Bool.cases_lt, Bool.Decides.nat_tests, Grind.common_steps, Nat.shr_below}
 pub use Rattle.std.proofs.lemmas.List.Sums.{sum_by-cons, sum_by-le, sum_by-take-le, sum_by_more, sum_by_push}
-pub use Rattle.weight_sums.specs.Endings.{fill, no_sizes, one_of_size, taken}
+pub use Rattle.weight_sums.specs.Endings.{fill, one_of_size, taken}
 pub use Rattle.weight_sums.specs.{Inner.Fitting.AreEntered, Inner.Fitting.AreOfNeed, Inner.Fitting.Meet, declared.fitting.Fitting.Fitting}
 pub use Rattle.weight_sums.specs.{Inner.Groups.high_of, Inner.Groups.low_of, Inner.Tables.AreOfKeys, declared.row.Prefixes.Prefixes}
 pub use Rattle.weight_sums.specs.{Inner.Halves.IsLeft, declared.sets.Set.Set}

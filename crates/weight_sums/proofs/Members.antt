@@ -1,8 +1,8 @@
 -- The tallies of a member's coalitions, as the passes give them.
 use Rattle.weight_sums.proofs.Imports.{pow_mono, ◌+◌, ◌<◌, ◌≤◌, List, [], ◌∷◌, length, get_or, set, get_or-set_same, get_or-set_other, ap}
 use Rattle.weight_sums.proofs.Imports.{sum_by-cons, endings, left_out, Prefixes, weigh, AreOfPrefixes, ◌≡◌, ℕ, zero, suc, arith, sum}
-use Rattle.weight_sums.proofs.Imports.{GoesOn, come_to, no_sizes}
-use Rattle.weight_sums.specs.{Inner.Rows.IsOfTheRest, declared.by_size.BySize.BySize}
+use Rattle.weight_sums.proofs.Imports.{GoesOn, come_to}
+use Rattle.weight_sums.specs.Inner.Rows.{AreOfTheRest}
 use Rattle.weight_sums.proofs.EndingLaws.{length-left_out}
 
 -- the row of the empty prefix
@@ -34,13 +34,13 @@ pub come-less : {w rest left heads : ℕ} {done after : List ℕ} {row next : Li
     → (k s : ℕ) → k < length later → s ≤ 40 → come_to heads s (left_out k later) after next ≤ get_or sizes s 0
 come-less ws later sizes is on all one less k s lt small = grind (arith, come-more later k s on all one lt small)
 
-pub tallied-from : {w rest left heads place : ℕ} {done after : List ℕ} {row next : List Prefixes} {all own : BySize}
-    (each : List BySize) (later : List ℕ) → GoesOn w rest left heads done after row next → rest ≡ sum later → length later ≡ left + 1
-    → IsOfTheRest heads later done row all own → ((k : ℕ) → k < length later
-    → IsOfTheRest heads (left_out k later) after next all (get_or each (place + 1 + k) no_sizes))
+pub filled-from : {w rest left heads place : ℕ} {done after : List ℕ} {row next : List Prefixes} {all own : List ℕ}
+    (each : List (List ℕ)) (later : List ℕ) → GoesOn w rest left heads done after row next → rest ≡ sum later → length later ≡ left + 1
+    → AreOfTheRest heads later done row all own → ((k : ℕ) → k < length later
+    → AreOfTheRest heads (left_out k later) after next all (get_or each (place + 1 + k) []))
     → place < length each → (k : ℕ) → k < length (w ∷ later)
-    → IsOfTheRest heads (left_out k (w ∷ later)) done row all (get_or (set each place own) (place + k) no_sizes)
+    → AreOfTheRest heads (left_out k (w ∷ later)) done row all (get_or (set each place own) (place + k) [])
 unfolding left_out
-tallied-from each later on all one here rest room zero lt = grind (arith, get_or-set_same)
-tallied-from {place = place} each later on all one here rest room (suc k) lt =
+filled-from each later on all one here rest room zero lt = grind (arith, get_or-set_same)
+filled-from {place = place} each later on all one here rest room (suc k) lt =
     grind (arith, get_or-set_other, come-more, rest k (omega arith))

@@ -2,8 +2,7 @@
 use Rattle.std.specs.Prelude.{ℕ, zero, suc, ◌+◌, ◌-◌, ◌*◌, ◌==◌, ◌<◌, ◌≤◌, ◌≡◌, if◌then◌else◌, nat_le, nat_lt, List, [], ◌∷◌, length}
 use Rattle.std.specs.Prelude.{slice_index, slice_index_or}
 use Rattle.coalitions.specs.declared.limits.TheConstants.{MEMBERS, SIZES}
-use Rattle.weight_sums.specs.declared.by_size.BySize.{BySize}
-use Rattle.weight_sums.specs.declared.tallies.Tallies.{Tallies}
+use Rattle.weight_sums.specs.declared.endings.EndingCounts.{EndingCounts}
 
 -- in how many ways k of m members can be chosen
 unfoldable pub choose : ℕ → ℕ → ℕ
@@ -38,22 +37,18 @@ left_out p [] = []
 left_out zero (w ∷ ws) = ws
 left_out (suc p) (w ∷ ws) = w ∷ left_out p ws
 
--- of no coalition
-abbrev pub no_sizes : BySize
-no_sizes = record { sizes = [] }
+-- of each size as many coalitions as the members lead to from a quota
+pub record AreEndings (ws : List ℕ) (heads quota : ℕ) (sizes : List ℕ) : Type 0 where
+  pub long : length sizes ≡ SIZES
+  pub each : (s : ℕ) → s ≤ MEMBERS → slice_index sizes s ≡ endings ws heads s quota 0
 
--- a tally has, of each size, as many coalitions as the members lead to from a quota
-pub record AreEndings (ws : List ℕ) (heads quota : ℕ) (t : BySize) : Type 0 where
-  pub long : length t.sizes ≡ SIZES
-  pub sizes : (s : ℕ) → s ≤ MEMBERS → slice_index t.sizes s ≡ endings ws heads s quota 0
+-- those that the members do not lead to without the member of place p
+pub record AreEndingsWith (ws : List ℕ) (heads quota p : ℕ) (sizes : List ℕ) : Type 0 where
+  pub long : length sizes ≡ SIZES
+  pub each : (s : ℕ) → s ≤ MEMBERS →
+      slice_index sizes s + endings (left_out p ws) heads s quota 0 ≡ endings ws heads s quota 0
 
--- a tally has those that the members do not lead to without the member of place p
-pub record AreEndingsWith (ws : List ℕ) (heads quota p : ℕ) (t : BySize) : Type 0 where
-  pub long : length t.sizes ≡ SIZES
-  pub sizes : (s : ℕ) → s ≤ MEMBERS →
-      slice_index t.sizes s + endings (left_out p ws) heads s quota 0 ≡ endings ws heads s quota 0
-
--- the tallies of all and of those with each place
-pub record AreAllEndings (ws : List ℕ) (heads quota : ℕ) (t : Tallies) : Type 0 where
+-- all of them, and those with each place
+pub record AreAllEndings (ws : List ℕ) (heads quota : ℕ) (t : EndingCounts) : Type 0 where
   pub all : AreEndings ws heads quota t.all
-  pub each : (p : ℕ) → p < length ws → AreEndingsWith ws heads quota p (slice_index_or t.each p no_sizes)
+  pub each : (p : ℕ) → p < length ws → AreEndingsWith ws heads quota p (slice_index_or t.each p [])

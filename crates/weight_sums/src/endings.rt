@@ -4,9 +4,16 @@ ghost use Rattle.std.specs.Prelude.{◌≡◌, ◌≤◌, ◌<◌, IfOk, length,
 ghost use Rattle.weight_sums.specs.Endings.{AreAllEndings};
 
 use crate::halves::by_halves;
-use crate::tallies::{Tallies, by_sums};
-use coalitions::Memory;
+use crate::sums::by_sums;
+use coalitions::{Memory, SizeCounts, limits};
 use std::alloc::Global;
+
+/// The coalitions that members lead to, by size: of all, and by place of those that contain it.
+#[derive(Clone, Copy)]
+pub struct EndingCounts {
+    pub all: SizeCounts,
+    pub each: [SizeCounts; limits::MEMBERS],
+}
 
 /// How many coalitions members with these weights lead to from a quota, by size: of all, and by place of those that contain
 /// it; on the heap. Each meets the quota and loses it without its last member, and has more members than the heads
@@ -26,16 +33,16 @@ pub fn count_endings(
     weights: &[u64],
     quota: u64,
     heads: usize,
-) -> Result<Box<Tallies>, Memory>
+) -> Result<Box<EndingCounts>, Memory>
     requires few { length weights.now ≤ MEMBERS }
     requires light { sum weights.now ≤ TOTAL }
     requires some { 0 < quota }
     requires heads { heads ≤ MEMBERS }
     ensures { IfOk result (λ t. AreAllEndings weights.now heads quota t.value) }
 {
-    let tallies = match by_sums(alloc, weights, quota, heads)? {
-        Some(tallies) => tallies,
+    let counts = match by_sums(alloc, weights, quota, heads)? {
+        Some(counts) => counts,
         None => by_halves(alloc, weights, quota, heads)?,
     };
-    Ok(Box::new(alloc, tallies)?)
+    Ok(Box::new(alloc, counts)?)
 }

@@ -6,7 +6,7 @@ ghost use Rattle.weight_sums.specs.Inner.Sets.{IsHalf};
 ghost use Rattle.weight_sums.specs.Inner.Fitting.{AreEntered, AreOfNeed, Meet};
 
 use crate::sets::Set;
-use coalitions::limits;
+use coalitions::{SizeCounts, limits};
 
 /// How many members a half has at most.
 pub(crate) const HALF: usize = limits::MEMBERS / 2;
@@ -66,7 +66,7 @@ impl Fitting {
 
     /// Counts them, by size, where `size` members are in front of them.
     #[tactic(auto, using(std::proofs::lemmas::Grind::common_steps, crate::proofs::FittingSets::entering))]
-    pub(crate) fn add(&self, size: usize, done: &mut [u64; limits::SIZES])
+    pub(crate) fn add(&self, size: usize, done: &mut SizeCounts)
         requires size { size ≤ 20 }
         requires any { self.now.any ≡ false → (j : ℕ) → slice_index self.now.here j ≡ 0 }
         requires few { (j : ℕ) → slice_index self.now.here j ≤ 2 ^ 20 }

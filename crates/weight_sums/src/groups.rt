@@ -8,7 +8,7 @@ ghost use Rattle.weight_sums.specs.Inner.Groups.{AreGroups, HaveRows};
 use crate::fitting::Fitting;
 use crate::sets::Set;
 use crate::table::Table;
-use coalitions::{Memory, limits};
+use coalitions::{Memory, SizeCounts};
 use std::alloc::Global;
 
 /// Which of the first members are in, of as many as there are digits.
@@ -68,7 +68,7 @@ impl Groups {
     }
 
     /// How many there are without the member of a place, which may be behind the last.
-    pub(crate) fn without(&self, place: usize) -> [u64; limits::SIZES]
+    pub(crate) fn without(&self, place: usize) -> SizeCounts
         requires { HaveRows self.now }
         ensures { (quota : ℕ) (xs others : List Set) (s : ℕ) → AreGroups quota xs others self.now
             → s ≤ MEMBERS → slice_index result s

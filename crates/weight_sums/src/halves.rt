@@ -1,4 +1,4 @@
-//! Tallies of the coalitions that members lead to, from the sets of their two halves (Horowitz and Sahni 1974).
+//! The coalitions that members lead to, from the sets of their two halves (Horowitz and Sahni 1974).
 ghost use Rattle.coalitions.specs.declared.limits.TheConstants.{MEMBERS, SIZES, TOTAL};
 ghost use Rattle.weight_sums.specs.declared.sets.Set.{Set};
 ghost use Rattle.weight_sums.specs.Endings.{AreAllEndings, AreEndings, AreEndingsWith, endings, left_out};
@@ -7,11 +7,11 @@ ghost use Rattle.weight_sums.specs.Inner.Sets.{AreSets, IsHalfOf, fits, over};
 ghost use Rattle.weight_sums.specs.Inner.Groups.{HaveRows};
 ghost use Rattle.std.specs.Prelude.{◌≡◌, ℕ, ◌+◌, ◌-◌, ◌<◌, ◌≤◌, ◌^◌, ◌++◌, Bool, true, false, if◌then◌else◌, IfOk, List, length, slice_index, sum};
 
-use crate::by_size::BySize;
+use crate::endings::EndingCounts;
 use crate::groups::Groups;
 use crate::sets::{NOBODY, Set, fill};
-use crate::tallies::{Tallies, difference};
-use coalitions::{Memory, limits};
+use crate::sums::difference;
+use coalitions::{Memory, SizeCounts, limits};
 use std::alloc::Global;
 
 /// How many pairs of a set of the first half of the members and one of the second meet a quota.
@@ -41,7 +41,7 @@ impl Pairs {
     }
 
     /// How many there are without the member of a place, where the first half has `front` members.
-    fn without(&self, front: usize, place: usize) -> [u64; limits::SIZES]
+    fn without(&self, front: usize, place: usize) -> SizeCounts
         requires first { HaveRows self.now.first }
         requires second { HaveRows self.now.second }
         ensures { (quota s : ℕ) (short : Bool) (fr bk : List ℕ) (xs ys : List Set) → ArePairs quota xs ys self.now
@@ -73,12 +73,7 @@ fn left_at(size: usize, won: u64, shortened: u64, own: u64, heads: usize) -> u64
 }
 
 /// The same of each size.
-fn left_of(
-    won: &[u64; limits::SIZES],
-    shortened: &[u64; limits::SIZES],
-    own: &[u64; limits::SIZES],
-    heads: usize,
-) -> [u64; limits::SIZES]
+fn left_of(won: &SizeCounts, shortened: &SizeCounts, own: &SizeCounts, heads: usize) -> SizeCounts
     requires { (s : ℕ) → heads < s → s ≤ MEMBERS
         → slice_index shortened.now s + slice_index own.now s ≤ slice_index won.now s }
     ensures long { length result ≡ SIZES }
@@ -153,7 +148,7 @@ impl Halves {
     }
 
     /// How many coalitions of each size the members lead to without that of a place, which is that of none behind the last.
-    fn endings_without(&self, weights: &[u64], heads: usize, place: usize) -> [u64; limits::SIZES]
+    fn endings_without(&self, weights: &[u64], heads: usize, place: usize) -> SizeCounts
         requires few { length weights.now ≤ MEMBERS }
         requires halves { AreHalves weights.now self.now }
         requires some { 0 < self.now.quota }
@@ -169,20 +164,20 @@ impl Halves {
         left_of(&won, &shortened, &own, heads)
     }
 
-    /// The tally of the coalitions that all members lead to.
+    /// The coalitions that all members lead to.
     #[tactic(auto, using(std::proofs::lemmas::Grind::common_steps, crate::proofs::HalfSums::places))]
-    fn all(&self, weights: &[u64], heads: usize) -> BySize
+    fn all(&self, weights: &[u64], heads: usize) -> SizeCounts
         requires few { length weights.now ≤ MEMBERS }
         requires halves { AreHalves weights.now self.now }
         requires some { 0 < self.now.quota }
         requires heads { heads ≤ MEMBERS }
         ensures { AreEndings weights.now heads self.now.quota result }
     {
-        BySize::of(&self.endings_without(weights, heads, weights.len()))
+        self.endings_without(weights, heads, weights.len())
     }
 
-    /// The tally of the coalitions with the member of a place: those that the others do not lead to.
-    fn with(&self, weights: &[u64], heads: usize, place: usize, all: &BySize) -> BySize
+    /// The coalitions with the member of a place: those that the others do not lead to.
+    fn with(&self, weights: &[u64], heads: usize, place: usize, all: &SizeCounts) -> SizeCounts
         requires few { length weights.now ≤ MEMBERS }
         requires halves { AreHalves weights.now self.now }
         requires some { 0 < self.now.quota }
@@ -196,8 +191,8 @@ impl Halves {
         difference(all, &self.endings_without(weights, heads, place))
     }
 
-    /// The tallies of all coalitions that the members lead to, and by place of those that contain it.
-    fn tallies(&self, weights: &[u64], heads: usize) -> Tallies
+    /// All coalitions that the members lead to, and by place those that contain it.
+    fn counts(&self, weights: &[u64], heads: usize) -> EndingCounts
         requires few { length weights.now ≤ MEMBERS }
         requires halves { AreHalves weights.now self.now }
         requires some { 0 < self.now.quota }
@@ -211,17 +206,17 @@ impl Halves {
         for place in 0..weights.len() {
             each[place] = self.with(weights, heads, place, &all);
         }
-        Tallies { all, each }
+        EndingCounts { all, each }
     }
 }
 
-/// The tallies of the coalitions that members lead to, by their halves.
+/// The coalitions that members lead to, by their halves.
 pub(crate) fn by_halves(
     alloc: Global,
     weights: &[u64],
     quota: u64,
     heads: usize,
-) -> Result<Tallies, Memory>
+) -> Result<EndingCounts, Memory>
     requires few { length weights.now ≤ MEMBERS }
     requires light { sum weights.now ≤ TOTAL }
     requires some { 0 < quota }
@@ -231,5 +226,5 @@ pub(crate) fn by_halves(
     ensures { IfOk result (AreAllEndings weights.now heads quota) }
 {
     let halves = Halves::new(alloc, weights, quota)?;
-    Ok(halves.tallies(weights, heads))
+    Ok(halves.counts(weights, heads))
 }

@@ -2,15 +2,14 @@
 //! their last member, and those that fill up a number of heads. No coalition is listed.
 //!
 //! ```text
-//! let tallies = count_endings(alloc, &[50, 49, 1], 51, 0)?;
+//! let counts = count_endings(alloc, &[50, 49, 1], 51, 0)?;
 //! ```
 //!
-//! `row`, `rows` and `tallies` go from member to member and put together what misses as much: they serve where few
+//! `row`, `rows` and `sums` go from member to member and put together what misses as much: they serve where few
 //! needs are open. `sets`, `fitting`, `table`, `groups` and `halves` count pairs of sets of the heavier and of the lighter
 //! half of the members, whatever their weights. `mwc_sums` says which games these are the counts of.
 #![tactic(auto)]
 
-mod by_size;
 mod choices;
 mod endings;
 mod fitting;
@@ -19,9 +18,7 @@ mod halves;
 mod row;
 mod rows;
 mod sets;
+mod sums;
 mod table;
-mod tallies;
 
-pub use by_size::BySize;
-pub use endings::count_endings;
-pub use tallies::Tallies;
+pub use endings::{EndingCounts, count_endings};

@@ -6,7 +6,7 @@ ghost use Rattle.weight_sums.specs.Endings.{fill, taken};
 ghost use Rattle.weight_sums.specs.Inner.Rows.{AreMerged, AreTaken, prefixes, weigh};
 
 use crate::choices::Heads;
-use coalitions::{Memory, limits};
+use coalitions::{Memory, SizeCounts};
 
 /// Prefixes that miss as much to the quota and have as many members: how many of them there are.
 #[derive(Clone, Copy)]
@@ -37,7 +37,7 @@ fn take_in(
     weight: u64,
     left: usize,
     heads: &Heads,
-    done: &mut [u64; limits::SIZES],
+    done: &mut SizeCounts,
     others: &mut Vec<Prefixes>,
 ) -> Result<(), Memory>
     requires left { left ≤ MEMBERS }
@@ -69,7 +69,7 @@ pub(crate) fn with_member(
     weight: u64,
     left: usize,
     heads: &Heads,
-    done: &mut [u64; limits::SIZES],
+    done: &mut SizeCounts,
     others: &mut Vec<Prefixes>,
 ) -> Result<(), Memory>
     requires left { left ≤ MEMBERS }

@@ -1,13 +1,13 @@
 //! Rows of prefixes, one member after another.
 ghost use Rattle.std.specs.Prelude.{◌≡◌, ℕ, ◌+◌, ◌-◌, ◌<◌, ◌≤◌, ◌^◌, IfOk, List, [], ◌∷◌, true, length, slice_index, sum, drop};
 ghost use Rattle.std.specs.List.{All};
-ghost use Rattle.coalitions.specs.declared.limits.TheConstants.{MEMBERS};
+ghost use Rattle.coalitions.specs.declared.limits.TheConstants.{MEMBERS, SIZES};
 ghost use Rattle.weight_sums.specs.Endings.{endings};
 ghost use Rattle.weight_sums.specs.Inner.Rows.{AreOfPrefixes, GoesOn, at_most, come_to};
 
 use crate::choices::Heads;
 use crate::row::{Prefixes, merge, still_open, with_member};
-use coalitions::{Memory, limits};
+use coalitions::{Memory, SizeCounts, limits};
 use std::alloc::Global;
 use std::mem;
 
@@ -29,7 +29,7 @@ fn room_for(members: usize) -> usize
 pub(crate) struct Rows {
     pub row: Vec<Prefixes>,
     /// The coalitions that are counted by now, by size.
-    pub done: [u64; limits::SIZES],
+    pub done: SizeCounts,
     /// How many entries the rows of the pass may still have together.
     room: usize,
     /// Room for the next row.
@@ -66,6 +66,14 @@ impl Rows {
         self.done = [0; limits::SIZES];
         self.room = room_for(members);
         Ok(())
+    }
+
+    /// The coalitions that are counted by now, by size.
+    pub(crate) fn counted(&self) -> SizeCounts
+        ensures long { length result ≡ SIZES }
+        ensures done { result ≡ self.now.done }
+    {
+        self.done
     }
 
     /// Goes on where another pass is.

@@ -7,23 +7,13 @@ ghost use Rattle.weight_sums.specs.Inner.Sets.{has};
 ghost use Rattle.weight_sums.specs.Inner.Tables.{AreOfKeys, HasRows, IsCounted};
 
 use crate::fitting::Fitting;
-use coalitions::{Memory, limits};
+use coalitions::{Memory, SizeCounts, add_counts, limits};
 use std::alloc::Global;
-
-/// Adds numbers by size to others.
-fn add_row(sum: &mut [u64; limits::SIZES], row: &[u64; limits::SIZES])
-    requires { (s : ℕ) → s ≤ MEMBERS → slice_index sum.old s + slice_index row.now s < 2 ^ 64 }
-    ensures { (s : ℕ) → s ≤ MEMBERS → slice_index sum.new s ≡ slice_index sum.old s + slice_index row.now s }
-{
-    for size in 0..limits::SIZES {
-        sum[size] += row[size];
-    }
-}
 
 /// A row of numbers by size for each choice of some members, whose key has the digit p 1 where the member of place p is in.
 #[derive(Drop)]
 pub(crate) struct Table {
-    rows: Vec<[u64; limits::SIZES]>,
+    rows: Vec<SizeCounts>,
 }
 
 impl Table {
@@ -53,7 +43,7 @@ impl Table {
     }
 
     /// Adds the row of a key, unless the member of a place is in its choice.
-    fn add_to(&self, key: usize, place: usize, sum: &mut [u64; limits::SIZES])
+    fn add_to(&self, key: usize, place: usize, sum: &mut SizeCounts)
         requires key { key < length self.now.rows.items }
         requires place { place ≤ 20 }
         requires room { (s : ℕ) → s ≤ MEMBERS
@@ -63,13 +53,13 @@ impl Table {
             + (if has place key then 0 else slice_index (slice_index_or self.now.rows.items key []) s) }
     {
         if (key >> place) % 2 != 1 {
-            add_row(sum, &self.rows[key]);
+            add_counts(sum, &self.rows[key]);
         }
     }
 
     /// The rows of all choices without the member of a place, added.
     #[tactic(auto, using(std::proofs::lemmas::Grind::common_steps, crate::proofs::TableSums::adding))]
-    pub(crate) fn without(&self, place: usize) -> [u64; limits::SIZES]
+    pub(crate) fn without(&self, place: usize) -> SizeCounts
         requires rows { HasRows self.now.rows.items }
         requires place { place ≤ 20 }
         ensures { (key : Set → ℕ) (f : ℕ → Set → ℕ) (xs : List Set) (s : ℕ)

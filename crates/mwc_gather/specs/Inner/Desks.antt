@@ -1,17 +1,17 @@
 -- What the workers of some desks were given.
 use Rattle.std.specs.Prelude.{◌≡◌, ◌≢◌, ◌⊎◌, ℕ, ◌<◌, Bool, true, List, Option, Some, None, All, length, map}
 use Rattle.std.specs.List.{AllWithin}
-use Rattle.mwc_parts.specs.Slicing.{Slicing}
-use Rattle.mwc_parts.specs.Shared.Settled.{IsPart}
-use Rattle.mwc_parts.specs.Wording.{coalition_count}
-use Rattle.mwc_parts.specs.Fault.{nothing, also}
-use Rattle.mwc_parts.specs.Shared.Fault.{IsEarly}
-use Rattle.mwc_parts.specs.declared.part.Part.{Part}
-use Rattle.mwc_parts.specs.declared.fault.Met.{Met}
-use Rattle.mwc_parts.specs.declared.fault.GatherFault.{GatherFault}
-use Rattle.mwc_parts.specs.declared.fault.GatherFault.TheVariants.{TooMany, Start, Memory}
-use Rattle.mwc_parts.specs.Shared.Dealing.{DeskView, IsWell, IsFresh, DealsInTurn, DealsOneEach}
-use Rattle.mwc_gather.specs.Slicings.{slicing}
+use Rattle.mwc_gather.specs.Slicing.{Slicing}
+use Rattle.mwc_gather.specs.Inner.Settled.{IsPart}
+use Rattle.mwc_gather.specs.Wording.{coalition_count}
+use Rattle.mwc_gather.specs.Inner.Fault.{nothing, also}
+use Rattle.mwc_gather.specs.Inner.Fault.{IsEarly}
+use Rattle.mwc_gather.specs.declared.part.Part.{Part}
+use Rattle.mwc_gather.specs.declared.fault.Met.{Met}
+use Rattle.mwc_gather.specs.declared.fault.GatherFault.{GatherFault}
+use Rattle.mwc_gather.specs.declared.fault.GatherFault.TheVariants.{TooMany, Start, Memory}
+use Rattle.mwc_gather.specs.Inner.Dealing.{DeskView, IsWell, IsFresh, DealsInTurn, DealsOneEach}
+use Rattle.mwc_gather.specs.Slicing.{slicing}
 use Rattle.mwc_gather.specs.declared.desk.Desk.{Desk}
 use Rattle.mwc_gather.specs.declared.dealing.Deal.{Deal}
 

@@ -1,12 +1,12 @@
 -- What gathering answers: what only proofs and private functions need.
 use Rattle.std.specs.Prelude.{◌≡◌, ℕ, ◌<◌, List, [], Some, length, All, slice_get, slice_index_or}
 use Rattle.std.specs.List.{range_with_len}
-use Rattle.mwc_parts.specs.Slicing.{Slicing}
-use Rattle.mwc_parts.specs.Wording.{coalition_count}
-use Rattle.mwc_parts.specs.Shared.Deals.{AreDealt}
-use Rattle.mwc_parts.specs.Parts.{shares}
-use Rattle.mwc_parts.specs.Shared.Settled.{IsPart}
-use Rattle.mwc_parts.specs.declared.part.Part.{Part}
+use Rattle.mwc_gather.specs.Slicing.{Slicing}
+use Rattle.mwc_gather.specs.Wording.{coalition_count}
+use Rattle.mwc_gather.specs.Inner.Deals.{AreDealt}
+use Rattle.mwc_gather.specs.Parts.{shares}
+use Rattle.mwc_gather.specs.Inner.Settled.{IsPart}
+use Rattle.mwc_gather.specs.declared.part.Part.{Part}
 
 -- how many coalitions all slices have
 abbrev pub all_total : Slicing → ℕ

@@ -1,30 +1,30 @@
 -- Tables that hold the tallies of a list hold its counts, and what holds of counts.
-use Rattle.power_index.proofs.Imports.{filter, has, size, GameView, IsGame, AreNonemptyCoalitions, votes-are, ranks-are, Tally, tally_total}
+use Rattle.power_index.proofs.Imports.{filter, has, size, GameView, IsGame, AreNonemptyCoalitions, votes-are, ranks-are, total_of_sizes}
 use Rattle.power_index.proofs.Imports.{length-filter, nat_tests, ◌≡◌, ◌∙◌, ◌==◌, ◌&&◌, ℕ, ◌+◌, ◌^◌, ◌<◌, ◌≤◌, List, [], ◌∷◌, ◌++◌, length}
 use Rattle.power_index.proofs.Imports.{get_or, replicate, cond, Bool, true, sym, ap, arith, subst, length-append, common_steps, contains}
-use Rattle.power_index.proofs.Imports.{size_of, Tables, IsTallyOf, AreTallies, AreOfOneGame, AreCounts, AreSound, no_tally, All}
-use Rattle.power_index.proofs.Imports.{table_total, IsJoined, with_one}
+use Rattle.power_index.proofs.Imports.{size_of, Tables, AreSizeCounts, AreTallies, AreOfOneGame, AreCounts, AreSound, All}
+use Rattle.power_index.proofs.Imports.{table_total, AreAdded, with_one}
 use Rattle.std.proofs.lemmas.List.{get_or-replicate, Elements.All-append, Elements.filter-append, Sums.sum_by_push}
 use Rattle.std.proofs.Common.{length-set}
 use Rattle.power_index.specs.Inner.Tables.{AreOfSomeList, AreKept}
 use Rattle.coalitions.proofs.Shared.Lists.{bumped, filter-all}
-use Rattle.power_index.proofs.{Tallies.tally-total, Tallies.tally-few, Weights.weight-light, Weights.memberships-are}
+use Rattle.power_index.proofs.{Sizes.sizes-total, Sizes.sizes-few, Weights.weight-light, Weights.memberships-are}
 use Rattle.power_index.proofs.Shared.Sums.{length-filter-le}
 use Rattle.power_index.proofs.Shared.Members.{few-members, memberships, sizes-some, size-le}
 
--- the tally of a member's coalitions
-member-tally : (g : GameView) (list : List ℕ) (t : Tables) (i : ℕ) → i < t.members → AreTallies g list t
-    → IsTallyOf (length g.names) (contains g i) list (get_or t.each (get_or t.ranks i 0) no_tally)
-member-tally g list t i lt h =
-    subst (λ (p : ℕ). IsTallyOf (length g.names) (contains g i) list (get_or t.each p no_tally)) (sym (h.of_game.ranks i lt))
+-- the numbers of a member's coalitions
+member-sizes : (g : GameView) (list : List ℕ) (t : Tables) (i : ℕ) → i < t.members → AreTallies g list t
+    → AreSizeCounts (length g.names) (contains g i) list (get_or t.each (get_or t.ranks i 0) [])
+member-sizes g list t i lt h =
+    subst (λ (p : ℕ). AreSizeCounts (length g.names) (contains g i) list (get_or t.each p [])) (sym (h.of_game.ranks i lt))
     (h.tallies.each (get_or g.ranks i 0) ((ranks-are g h.of_game.is_game).place_below i (omega (arith, h.of_game.members))))
 
 -- how many were counted
 pub total-is : (g : GameView) (list : List ℕ) (t : Tables) → AreTallies g list t → table_total t ≡ length list
 total-is g list t h =
     let few = few-members g h.of_game.is_game in
-    ap (λ (n : ℕ). tally_total n t.all) h.of_game.members
-    ∙ (tally-total (length g.names) (λ c. true) list t.all few h.tallies.all ∙ filter-all list)
+    ap (λ (n : ℕ). total_of_sizes n t.all) h.of_game.members
+    ∙ (sizes-total (length g.names) (λ c. true) list t.all few h.tallies.all ∙ filter-all list)
 
 pub tallies-are_counts : (g : GameView) (list : List ℕ) (t : Tables) → AreTallies g list t → AreCounts g list t
 tallies-are_counts g list t h =
@@ -32,10 +32,10 @@ tallies-are_counts g list t h =
     record {
       members = h.of_game.members;
       total = total-is g list t h;
-      of_size = λ s le. h.tallies.all.sizes s (omega (arith, h.of_game.members));
-      of_member = λ i lt. ap (λ (n : ℕ). tally_total n (get_or t.each (get_or t.ranks i 0) no_tally)) h.of_game.members
-          ∙ tally-total (length g.names) (contains g i) list _ few (member-tally g list t i lt h);
-      of_member_size = λ i s lt le. (member-tally g list t i lt h).sizes s (omega (arith, h.of_game.members));
+      of_size = λ s le. h.tallies.all.each s (omega (arith, h.of_game.members));
+      of_member = λ i lt. ap (λ (n : ℕ). total_of_sizes n (get_or t.each (get_or t.ranks i 0) [])) h.of_game.members
+          ∙ sizes-total (length g.names) (contains g i) list _ few (member-sizes g list t i lt h);
+      of_member_size = λ i s lt le. (member-sizes g list t i lt h).each s (omega (arith, h.of_game.members));
     }
 
 -- what holds of the tables of some list
@@ -63,21 +63,21 @@ kept {t} h = record {
   sound = some-sound t h;
   places = λ i lt. (let below = (ranks-are h.game h.tallies.of_game.is_game).place_below i (omega (arith, h.tallies.of_game.members)) in
       omega (arith, below, h.tallies.of_game.ranks i lt, h.tallies.of_game.members));
-  all_few = λ s le. omega (arith, tally-few (length h.game.names) (λ c. true) h.list t.all s le h.tallies.tallies.all, h.few);
-  each_few = λ p s lt le. (let few = tally-few (length h.game.names) (has (length h.game.names) p) h.list (get_or t.each p no_tally) s le
+  all_few = λ s le. omega (arith, sizes-few (length h.game.names) (λ c. true) h.list t.all s le h.tallies.tallies.all, h.few);
+  each_few = λ p s lt le. (let few = sizes-few (length h.game.names) (has (length h.game.names) p) h.list (get_or t.each p []) s le
       (h.tallies.tallies.each p (omega (arith, h.tallies.of_game.members))) in
       omega (arith, few, h.few));
 }
 
 -- no coalition is counted
-pub none-hold : (g : GameView) (m : ℕ) (ranks : List ℕ) (none : Tally) → IsGame g → m ≡ length g.names
-    → ((i : ℕ) → i < m → get_or ranks i 0 ≡ get_or g.ranks i 0) → length none.sizes ≡ 41 → ((s : ℕ) → get_or none.sizes s 0 ≡ 0)
+pub none-hold : (g : GameView) (m : ℕ) (ranks : List ℕ) (none : List ℕ) → IsGame g → m ≡ length g.names
+    → ((i : ℕ) → i < m → get_or ranks i 0 ≡ get_or g.ranks i 0) → length none ≡ 41 → ((s : ℕ) → get_or none s 0 ≡ 0)
     → AreTallies g [] (record { members = m; ranks = ranks; all = none; each = replicate 40 none })
 none-hold g m ranks none game m-is same long sizes = record {
   of_game = record { is_game = game; members = m-is; ranks = same };
   tallies = record {
-    all = record { long = long; sizes = λ s _. sizes s };
-    each = λ p lt. rw (get_or-replicate 40 p none no_tally (omega (arith, lt, few-members g game))) (record { long = long; sizes = λ s _. sizes s });
+    all = record { long = long; each = λ s _. sizes s };
+    each = λ p lt. rw (get_or-replicate 40 p none [] (omega (arith, lt, few-members g game))) (record { long = long; each = λ s _. sizes s });
   };
 }
 
@@ -85,10 +85,10 @@ pub none-some : (g : GameView) (t : Tables) → AreTallies g [] t → AreOfSomeL
 none-some g t h = record { game = g; list = []; coalitions = λ k d lt. absurd (omega arith); few = omega arith; tallies = h }
 
 -- one coalition more
-pub more-hold : (g : GameView) (list : List ℕ) (t : Tables) (c s : ℕ) (all : Tally) (each : List Tally) → s ≡ size t.members c
+pub more-hold : (g : GameView) (list : List ℕ) (t : Tables) (c s : ℕ) (all : List ℕ) (each : List (List ℕ)) → s ≡ size t.members c
     → all ≡ with_one t.all s
     → ((p : ℕ) → p < t.members
-    → get_or each p no_tally ≡ cond (has t.members p c) (with_one (get_or t.each p no_tally) s) (get_or t.each p no_tally))
+    → get_or each p [] ≡ cond (has t.members p c) (with_one (get_or t.each p []) s) (get_or t.each p []))
     → AreTallies g list t → AreTallies g (list ++ c ∷ []) (record { members = t.members; ranks = t.ranks; all = all; each = each })
 more-hold g list t c s all each s-is all-is each-is h =
     grind (arith, nat_tests, few-members, size-le, bumped, length-set, length-filter, sum_by_push)
@@ -104,12 +104,11 @@ more-kept t u c old some below room more =
     (kept grown, total)
 
 -- two lists, one after the other
-pub join-hold : (g : GameView) (first second : List ℕ) (s t : Tables) (all : Tally) (each : List Tally) → length all.sizes ≡ 41
-    → ((k : ℕ) → k ≤ 40 → get_or all.sizes k 0 ≡ get_or s.all.sizes k 0 + get_or t.all.sizes k 0)
-    → ((p : ℕ) → p < s.members → IsJoined (get_or s.each p no_tally) (get_or t.each p no_tally) (get_or each p no_tally))
+pub join-hold : (g : GameView) (first second : List ℕ) (s t : Tables) (all : List ℕ) (each : List (List ℕ)) → AreAdded s.all t.all all
+    → ((p : ℕ) → p < s.members → AreAdded (get_or s.each p []) (get_or t.each p []) (get_or each p []))
     → AreTallies g first s
     → AreTallies g second t → AreTallies g (first ++ second) (record { members = s.members; ranks = s.ranks; all = all; each = each })
-join-hold g first second s t all each long sum each-is a b = grind (arith, filter-append, length-append)
+join-hold g first second s t all each all-is each-is a b = grind (arith, filter-append, length-append)
 
 -- the tables of a list of a game are those of the list in another game with the same rank places
 pub of-first : (s t : Tables) (g g' : GameView) (first second : List ℕ) → AreOfOneGame s t → AreTallies g first s → AreTallies g' second t

@@ -1,19 +1,12 @@
 -- Tables of counts, and when they hold the counts of a list of coalitions: what only proofs and private functions need.
-use Rattle.std.specs.Prelude.{ℕ, ◌+◌, ◌^◌, ◌≡◌, ◌≤◌, ◌<◌, List, length, slice_index, slice_index_or, slice_set}
-use Rattle.coalitions.specs.declared.limits.TheConstants.{MEMBERS, SIZES}
+use Rattle.std.specs.Prelude.{ℕ, ◌+◌, ◌^◌, ◌≤◌, ◌<◌, List, [], length, slice_index, slice_index_or, slice_set}
+use Rattle.coalitions.specs.declared.limits.TheConstants.{MEMBERS}
 use Rattle.council_game.specs.Game.{GameView, AreNonemptyCoalitions}
-use Rattle.power_index.specs.declared.tally.Tally.{Tally}
-use Rattle.power_index.specs.Tables.{Tables, AreTallies, AreSound, no_tally}
+use Rattle.power_index.specs.Tables.{Tables, AreTallies, AreSound}
 
--- a tally with one coalition more, of size s
-abbrev pub with_one : Tally → ℕ → Tally
-with_one t s = record { sizes = slice_set t.sizes s (slice_index t.sizes s + 1) }
-
--- a tally has the numbers of two, added size by size
-pub record IsJoined (s t u : Tally) : Type 0 where
-  pub long : length u.sizes ≡ SIZES
-  pub sizes : (k : ℕ) → k ≤ MEMBERS →
-      slice_index u.sizes k ≡ slice_index s.sizes k + slice_index t.sizes k
+-- numbers by size with one coalition more, of size s
+abbrev pub with_one : List ℕ → ℕ → List ℕ
+with_one sizes s = slice_set sizes s (slice_index sizes s + 1)
 
 -- the tables are those of some list of coalitions of a game: no game has more than 2 ^ 40
 pub record AreOfSomeList (t : Tables) : Type 0 where
@@ -28,6 +21,6 @@ pub record AreKept (t : Tables) : Type 0 where
   pub of_some : AreOfSomeList t
   pub sound : AreSound t
   pub places : (i : ℕ) → i < t.members → slice_index t.ranks i < t.members
-  pub all_few : (s : ℕ) → s ≤ MEMBERS → slice_index t.all.sizes s ≤ 2 ^ MEMBERS
+  pub all_few : (s : ℕ) → s ≤ MEMBERS → slice_index t.all s ≤ 2 ^ MEMBERS
   pub each_few : (p s : ℕ) → p < t.members → s ≤ MEMBERS →
-      slice_index (slice_index_or t.each p no_tally).sizes s ≤ 2 ^ MEMBERS
+      slice_index (slice_index_or t.each p []) s ≤ 2 ^ MEMBERS

@@ -4,7 +4,6 @@ use Rattle.std.specs.List.{All}
 use Rattle.coalitions.specs.declared.limits.TheConstants.{MEMBERS, SIZES}
 use Rattle.weight_sums.specs.Endings.{choose, endings, fill, taken}
 use Rattle.weight_sums.specs.declared.row.Prefixes.{Prefixes}
-use Rattle.weight_sums.specs.declared.by_size.BySize.{BySize}
 
 -- the sum of a number that goes with a need and a size, over the prefixes of a row
 abbrev pub weigh : (ℕ → ℕ → ℕ) → List Prefixes → ℕ
@@ -45,10 +44,10 @@ pub record AreOfPrefixes (left : ℕ) (done : List ℕ) (row : List Prefixes) : 
   pub few : (s : ℕ) → s ≤ MEMBERS → at_most s left done row ≤ 2 ^ MEMBERS
   pub sizes : All (λ o. o.size ≤ MEMBERS - left) row
 
--- a tally has those of all that a row does not come to with members of these weights behind it
-pub record IsOfTheRest (heads : ℕ) (ws done : List ℕ) (row : List Prefixes) (all t : BySize) : Type 0 where
-  pub long : length t.sizes ≡ SIZES
-  pub sizes : (s : ℕ) → s ≤ MEMBERS → slice_index t.sizes s + come_to heads s ws done row ≡ slice_index all.sizes s
+-- those of all that a row does not come to with members of these weights behind it
+pub record AreOfTheRest (heads : ℕ) (ws done : List ℕ) (row : List Prefixes) (all sizes : List ℕ) : Type 0 where
+  pub long : length sizes ≡ SIZES
+  pub each : (s : ℕ) → s ≤ MEMBERS → slice_index sizes s + come_to heads s ws done row ≡ slice_index all s
 
 -- row m has, at place k, in how many ways k of m members can be chosen
 pub record AreChoices (rows : List (List ℕ)) : Type 0 where

@@ -1,6 +1,6 @@
 use Rattle.mwc_gather.proofs.Imports.{common_steps, nat_tests, List, length, ap, arith, Slicing, sum_by, Part, votes_of, slices-joined}
-use Rattle.mwc_gather.proofs.Imports.{slicing}
-use Rattle.mwc_parts.proofs.Shared.Once.{dealt_each_once}
+use Rattle.mwc_gather.proofs.Imports.{slices_of}
+use Rattle.mwc_gather.proofs.Once.{dealt_each_once}
 use Rattle.mwc_gather.proofs.{Ends.complete_sum, Ends.end_increases, Wholes.all_total_is, Wholes.all_pieces}
 use Rattle.mwc_gather.proofs.gathering.all_of.Goals as goal
 
@@ -17,7 +17,7 @@ pub returns-clause-gathers : goal.returns-clause-gathers
 returns-clause-gathers g c =
     let job = c.args.job.now in
     let complete = c.requires in
-    let game : Slicing = slicing job.guarded job.bits in
+    let game : Slicing = slices_of job in
     let parts : List Part = c.args.parts.items in
     let sum = complete_sum complete in
     let all = all_total_is job.guarded job.bits job.bits_fit.0 job.bits_fit.1 in

@@ -1,4 +1,4 @@
-use Rattle.mwc_gather.proofs.Imports.{refl, rules, arith, common_steps, into_iter_items, Memory, slicing}
+use Rattle.mwc_gather.proofs.Imports.{refl, rules, arith, common_steps, into_iter_items, Memory, slices_of}
 use Rattle.mwc_gather.proofs.Faults.{memory_ends}
 use Rattle.mwc_gather.proofs.Finishing.{none_joined, fault_met, part_kept, all_complete}
 use Rattle.mwc_gather.proofs.gathering.finish_all.Goals as goal
@@ -9,19 +9,19 @@ loop-desk-init g c = none_joined (search rules) (search rules) c.requires.dealt.
 pub loop-desk-preserved : goal.loop-desk-preserved
 loop-desk-preserved g c =
     fault_met c.in-Some.desk c.in-Err.why c.loop-desk.invariant c.in-Some.ensures.steps.0 c.note-in-Err.ensures
-    (c.in-Err.ensures.ends (slicing c.args.job.now.guarded c.args.job.now.bits) c.args.job.now.most)
+    (c.in-Err.ensures.ends (slices_of c.args.job.now) c.args.job.now.most)
 
 pub loop-desk-preserved-then-is_err : goal.loop-desk-preserved-then-is_err
 loop-desk-preserved-then-is_err g c =
     let job = c.args.job.now in
     fault_met c.in-Some.desk Memory c.loop-desk.invariant c.in-Some.ensures.steps.0 c.note.ensures
-    (λ own. memory_ends (slicing job.guarded job.bits) job.most c.in-Some.desk)
+    (λ own. memory_ends (slices_of job) job.most c.in-Some.desk)
 
 pub loop-desk-preserved-else-is_err : goal.loop-desk-preserved-else-is_err
 loop-desk-preserved-else-is_err g c =
     let job = c.args.job.now in
     part_kept c.in-Some.desk c.in-Ok.part c.loop-desk.invariant c.in-Some.ensures.steps.0
-    (search rules) refl (c.in-Ok.ensures.part (slicing job.guarded job.bits) job.most) (c.in-Ok.ensures.ends (slicing job.guarded job.bits) job.most)
+    (search rules) refl (c.in-Ok.ensures.part (slices_of job) job.most) (c.in-Ok.ensures.ends (slices_of job) job.most)
 
 pub returns-in-None-fault-clause-parts : goal.returns-in-None-fault-clause-parts
 returns-in-None-fault-clause-parts g c = λ some.

@@ -1,11 +1,11 @@
-use Rattle.mwc_gather.proofs.Imports.{common_steps, List, subst, sym, arith, rules, All, All-push, IsFresh, Slicing, slicing, Desk}
+use Rattle.mwc_gather.proofs.Imports.{common_steps, List, subst, sym, arith, rules, All, All-push, IsFresh, Slicing, slices_of, Desk}
 use Rattle.mwc_gather.proofs.Imports.{views_of, IsOf, AllOf}
 use Rattle.mwc_gather.proofs.Ends.{fresh_push}
 use Rattle.mwc_gather.proofs.gathering.open_all.Goals as goal
 
 pub loop-worker-preserved : goal.loop-worker-preserved
 loop-worker-preserved g c =
-    let game : Slicing = slicing c.args.job.now.guarded c.args.job.now.bits in
+    let game : Slicing = slices_of c.args.job.now in
     let i = c.loop-worker.invariant in (
       search rules,
       search rules,

@@ -9,8 +9,8 @@ overflow_sub-place-in-loop-rest c =
     let next = lowest-place c.args.members c.loop-rest.rest c.requires.few (omega arith) c.loop-rest.invariant.below in
     omega (arith, next.0)
 
-pub add-requires-clause-room : goal.add-requires-clause-room
-add-requires-clause-room c = grind (arith, get_or, lowest-place)
+pub overflow_add-by_place : goal.overflow_add-by_place
+overflow_add-by_place c = grind (arith, get_or, lowest-place)
 
 pub loop-rest-preserved : goal.loop-rest-preserved
 unfolding without

@@ -10,8 +10,8 @@ count-returns-then-rules-eq0 t c =
     (rw (c.in_ok-first.ensures.names, ← c.requires.game.members, c.in_ok-first.ensures.rules ∙ all-pass _ _ none) c.requires.game)
     c.in_ok-first.first.counts.value c.in_ok-first.first.are
 
-pub count-boxed_joined-requires : goal.count-boxed_joined-requires
-count-boxed_joined-requires t c =
+pub count-join-requires : goal.count-join-requires
+count-join-requires t c =
     let fair = c.rules_are_fair.ensures in
     parts-are _ _ fair _ (chamber-closed _ _ fair c.requires.chambers 0 c.requires.some) c.args.game.now c.in_ok-first.first.game
     c.in_ok-second.second.game c.requires.game c.in_ok-first.ensures.names c.in_ok-second.ensures.names c.in_ok-first.ensures.rules

@@ -4,3 +4,7 @@ use Rattle.mwc_sums.proofs.statute.Statute.of.Goals as goal
 pub invariant_of-result : goal.invariant_of-result
 invariant_of-result c =
     rw (c.members-members.ensures.count, c.in_ok-rules.ensures) (statute-fair c.args.game.now c.members-members.ensures.game)
+
+pub returns-clause-fair : goal.returns-clause-fair
+returns-clause-fair c =
+    rw (c.members-members.ensures.count, c.in_ok-rules.ensures) (statute-fair c.args.game.now c.members-members.ensures.game)

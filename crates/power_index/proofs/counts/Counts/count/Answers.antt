@@ -1,4 +1,4 @@
-use Rattle.power_index.proofs.Imports.{arith, ◌≡◌, ◌∙◌, size}
+use Rattle.power_index.proofs.Imports.{◌≡◌, ◌∙◌, refl, size}
 use Rattle.power_index.proofs.Shared.Sound.{more-hold, more-kept}
 use Rattle.power_index.proofs.counts.Counts.count.Goals as goal
 
@@ -11,14 +11,14 @@ invariant_of-self c =
     let below = rw (← c.self.view_is) at c.requires.below in
     let room = rw (← c.self.view_is) at c.requires.room in
     (more-kept _ _ c.args.coalition c.self.invariant c.requires.some below room
-    (λ g list. more-hold g list _ _ _ _ _ (size-is c) c.add.ensures c.add_to_places.ensures)).0
+    (λ g list. more-hold g list _ _ _ _ _ (size-is c) refl c.add_to_places.ensures)).0
 
 pub returns-clause-total : goal.returns-clause-total
 returns-clause-total c =
     let below = rw (← c.self.view_is) at c.requires.below in
     let room = rw (← c.self.view_is) at c.requires.room in
     rw (← c.self.view_is) (more-kept _ _ c.args.coalition c.self.invariant c.requires.some below room
-    (λ g list. more-hold g list _ _ _ _ _ (size-is c) c.add.ensures c.add_to_places.ensures)).1
+    (λ g list. more-hold g list _ _ _ _ _ (size-is c) refl c.add_to_places.ensures)).1
 
 pub returns-clause-tallies : goal.returns-clause-tallies
-returns-clause-tallies c g list = rw (← c.self.view_is) (more-hold g list _ _ _ _ _ (size-is c) c.add.ensures c.add_to_places.ensures)
+returns-clause-tallies c g list = rw (← c.self.view_is) (more-hold g list _ _ _ _ _ (size-is c) refl c.add_to_places.ensures)

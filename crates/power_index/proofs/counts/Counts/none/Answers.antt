@@ -1,12 +1,12 @@
-use Rattle.power_index.proofs.Imports.{arith, [], replicate, AreTallies}
+use Rattle.power_index.proofs.Imports.{arith, [], refl, replicate, AreTallies}
+use Rattle.coalitions.proofs.Shared.Lists.{get_or-zeros}
 use Rattle.power_index.proofs.Shared.Sound.{kept, none-hold, none-some, tallies-are_counts}
 use Rattle.power_index.proofs.counts.Counts.none.Goals as goal
 
-hold : (c : goal.After-new-none)
-    → AreTallies c.args.game.now []
-    (record { members = c.members-members.result; ranks = c.loop-i.ranks; all = c.new-none.result; each = replicate 40 c.new-none.result })
-hold c = none-hold c.args.game.now _ c.loop-i.ranks c.new-none.result c.members-members.ensures.game c.members-members.ensures.count
-    (λ i lt. c.loop-i.invariant.done i (omega arith)) c.new-none.ensures.long c.new-none.ensures.sizes
+hold : (c : goal.After-loop-i) → AreTallies c.args.game.now []
+    (record { members = c.members-members.result; ranks = c.loop-i.ranks; all = replicate 41 0; each = replicate 40 (replicate 41 0) })
+hold c = none-hold c.args.game.now _ c.loop-i.ranks (replicate 41 0) c.members-members.ensures.game c.members-members.ensures.count
+    (λ i lt. c.loop-i.invariant.done i (omega arith)) refl (get_or-zeros 41)
 
 pub invariant_of-result : goal.invariant_of-result
 invariant_of-result c = kept (none-some c.args.game.now _ (hold c))

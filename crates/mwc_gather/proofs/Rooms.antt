@@ -1,0 +1,14 @@
+-- Drafts that lose nothing while there is room.
+use Rattle.std.proofs.Common.{◌≡◌, ℕ, ◌<◌, Bool, true, false, arith, inl, inr}
+use Rattle.mwc_gather.specs.{Inner.Drafts.Grows, Inner.Drafts.LacksRoom, Inner.Drafts.LosesForWantOfRoom, declared.draft.Draft.Draft}
+
+-- what has no room for one more after it grew had no room for all
+lacks_more : (old mid : Draft) (i n : ℕ) → i < n → Grows old i mid → LacksRoom mid 1 → LacksRoom old n
+lacks_more old mid i n l a (inl e) = inl (omega arith)
+lacks_more old mid i n l a (inr (inl e)) = inr (inl (omega arith))
+lacks_more old mid i n l a (inr (inr e)) = inr (inr (omega arith))
+
+pub loses_by : (old mid new : Draft) (i n : ℕ) (b : Bool) → mid.lost ≡ b → i < n → Grows old i mid →
+    LosesForWantOfRoom old n mid → LosesForWantOfRoom mid 1 new → LosesForWantOfRoom old n new
+loses_by old mid new i n true e l a f s = λ x z. f x e
+loses_by old mid new i n false e l a f s = λ x z. lacks_more old mid i n l a (s e z)

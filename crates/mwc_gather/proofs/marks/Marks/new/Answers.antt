@@ -1,0 +1,5 @@
+use Rattle.std.proofs.{Common.None, lemmas.List.take-replicate}
+use Rattle.mwc_gather.proofs.marks.Marks.new.Goals as goal
+
+pub returns : goal.returns
+returns c = take-replicate c.args.slices 1024 None c.requires.1
