@@ -158,8 +158,8 @@ small=$temp/small
 cp -r "$here" "$small"
 chmod -R u+w "$small"
 find "$small/reference" "$small/examples" -type f ! -name 'board*' -delete
-# holds NAME <<SCRIPT: whether each command of a script succeeds. The other user runs it in its home;
-# in it `install` is install.sh.
+# holds NAME <<SCRIPT: whether each command of a script succeeds. The other user runs it in its
+# home; in it `install` is install.sh.
 holds() {
     local name=$1
     cat "$temp/shared.sh" - >"$temp/script.sh"
@@ -228,7 +228,8 @@ DESTDIR=i/ install --uninstall /usr/; has i usr
 END
 holds "no PREFIX and no HOME" <<'END'
 export -n HOME
-fails 'name a PREFIX' install ''; fails 'name a PREFIX' install; fails 'name a PREFIX' install --uninstall
+fails 'name a PREFIX' install ''; fails 'name a PREFIX' install
+fails 'name a PREFIX' install --uninstall
 END
 holds "a PREFIX with / at the end" <<'END'
 [ "$(PATH=$HOME/j/bin:$PATH install "$HOME/j//")" = "council is installed: $HOME/j/bin/council" ]

@@ -64,7 +64,8 @@ run() {
     status=$?
 }
 
-# without COMMAND WORD..: runs the words where this command of the system is missing, and keeps what `run` keeps.
+# without COMMAND WORD..: runs the words on a system that lacks this command, and keeps what `run`
+# keeps.
 without() {
     rm -rf "$temp/few"
     mkdir "$temp/few"

@@ -62,7 +62,7 @@ def tell(text, status):
 
 
 def drop(file):
-    """Lets a file go nowhere that takes nothing more, also what is still to be written at the end."""
+    """Discards what is written to a file from now on, and what it still has to write."""
     os.dup2(os.open(os.devnull, os.O_WRONLY), file.fileno())
 
 

@@ -167,7 +167,8 @@ def whole(report, places):
 
 
 def write_json(lines, places):
-    """Writes a report as JSON. Its coalitions may be millions and stand before the members: they wait in a file."""
+    """Writes a report as JSON. Its coalitions, which may be millions and come before the members,
+    wait in a temporary file."""
 
     def text(value):
         return json.dumps(value, indent=1, ensure_ascii=False)

@@ -61,8 +61,8 @@ class Report:
     """A report, from its lines. They have different numbers of fields, and a name may hold quotes: so the fields
     are split at TABs and nothing else. What is no report is a Fault.
 
-    A report can list millions of coalitions. `take`, if you give it, gets one after the other, and the report
-    keeps none; else it keeps them in `coalitions`. `listed` is their number."""
+    A report can list millions of coalitions. If you pass `take`, it is called with one after the
+    other, and the report keeps none; else it keeps them in `coalitions`. `listed` is their number."""
 
     def __init__(self, lines, take=None):
         self.title = ""

@@ -54,7 +54,7 @@ for one, other in [("United Kingdom", "United States"), ("Slovakia", "Slovenia")
     run = Run(TOOL, game("one", one), game("other", other))
     case(f"compare.py: {one} and {other} are told apart", run.err == "", run.err)
 
-# ---- many long names that look alike at most by their length: nearly no two are compared letter by letter
+# ---- many long names that differ: nearly no two are compared letter by letter
 random.seed(1)
 many = [game(f"many{at}", *("".join(random.choices("abcdefghijklmnopqrstuvwxyz", k=64)) for _ in range(40))) for at in range(3)]
 ratio, compared = difflib.SequenceMatcher.ratio, []

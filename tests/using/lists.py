@@ -1,5 +1,5 @@
 #!/usr/bin/env python3
-"""The programs of docs/using on a report that lists many coalitions, of which they keep none or few.
+"""The programs of docs/using on a report that lists many coalitions: they keep few of them, or none.
 
     tests/using/lists.py PROGRAM
 """
@@ -10,7 +10,7 @@ import sys
 
 from cases import HOSTILE, PROGRAM, TEMP, TOOLS, Run, case, done, hostile_game, report, same
 
-# the megabytes that each may take: twice what it takes of a short report, half of what the list would
+# the megabytes that each may take: twice what a short report takes, and less than the list would
 MOST = 40
 LIST = f"{TEMP}/list.tsv"
 with open(LIST, "w", encoding="utf-8") as it:
@@ -18,7 +18,8 @@ with open(LIST, "w", encoding="utf-8") as it:
 COALITIONS = 91390
 
 found = {}
-for words in [["bars.py"], ["table.py"], ["page.py", "--program", PROGRAM, "-"], ["export.py", "csv"], ["export.py", "json"]]:
+PAGE = ["page.py", "--program", PROGRAM, "-"]
+for words in [["bars.py"], ["table.py"], PAGE, ["export.py", "csv"], ["export.py", "json"]]:
     name = " ".join(it for it in words if not it.startswith(("-", "/")))
     with open(LIST, encoding="utf-8") as lines, open(f"{TEMP}/out", "w+", encoding="utf-8") as out:
         child = subprocess.Popen([sys.executable, f"{TOOLS}/{words[0]}", *words[1:]], stdin=lines, stdout=out)
