@@ -73,7 +73,7 @@ elif command -v setpriv >/dev/null; then
     chown 65534:65534 "$temp/home"
     as_user() { setpriv --reuid=65534 --regid=65534 --clear-groups env -i PATH=/usr/bin:/bin HOME="$temp/home" LC_ALL=C.UTF-8 "$@"; }
 else
-    skipped "the archive, used by another user" "the command setpriv was not found, and the tests run as root"
+    skipped "the archive, used by another user" "this machine has no setpriv, and the tests run as root"
     exit
 fi
 if ! as_user test -r "$here/README.md"; then
@@ -106,7 +106,7 @@ if command -v man >/dev/null; then
     (cd "$here" && as_user man -P cat docs/council.1) >"$temp/out" 2>"$temp/err" </dev/null
     if grep -q 'power indices of a weighted voting game' "$temp/out"; then ok "$name"; else failed "$name" "$(head -n 1 "$temp/err")"; fi
 else
-    skipped "in the archive, the manual page" "the command man was not found"
+    skipped "in the archive, the manual page" "this machine has no man"
 fi
 name="in the archive, the library for other languages"
 if [ ! -f "$here/lib/libcouncil.a" ]; then
@@ -158,8 +158,8 @@ small=$temp/small
 cp -r "$here" "$small"
 chmod -R u+w "$small"
 find "$small/reference" "$small/examples" -type f ! -name 'board*' -delete
-# holds NAME <<SCRIPT: whether each command of a script succeeds. The other user runs it in its home;
-# in it `install` is install.sh.
+# holds NAME <<SCRIPT: whether each command of a script succeeds. The other user runs it in its
+# home; in it `install` is install.sh.
 holds() {
     local name=$1
     cat "$temp/shared.sh" - >"$temp/script.sh"
@@ -228,7 +228,8 @@ DESTDIR=i/ install --uninstall /usr/; has i usr
 END
 holds "no PREFIX and no HOME" <<'END'
 export -n HOME
-fails 'name a PREFIX' install ''; fails 'name a PREFIX' install; fails 'name a PREFIX' install --uninstall
+fails 'name a PREFIX' install ''; fails 'name a PREFIX' install
+fails 'name a PREFIX' install --uninstall
 END
 holds "a PREFIX with / at the end" <<'END'
 [ "$(PATH=$HOME/j/bin:$PATH install "$HOME/j//")" = "council is installed: $HOME/j/bin/council" ]

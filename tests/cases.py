@@ -11,13 +11,14 @@ you can leave out all that have a default:
     NAME.out, NAME.err     what it writes to standard output and standard error, by default nothing
     NAME.status            its exit status, by default 0
 
-`default.cmd`, `default.toml` and so on change a default for all cases of a folder. The command runs
-in an empty folder; `council` is the program, and $TOP the repository. If it has `council --explain`,
-it also runs without that option, and must then only lack the indented lines of standard error.
+`default.cmd`, `default.toml` and so on change a default for all cases of a folder. The command
+runs in an empty folder; `council` is the program, and $TOP the repository. If the command has
+`council --explain`, it also runs without that option, and must then only lack the indented lines of
+standard error.
 
-Take the expected files from a definition, a publication or tests/oracle.py, never from the program.
-To add a case, add its files. Each case prints `ok SUBJECT/NAME`, or `FAILED SUBJECT/NAME: why` and a
-diff from what was expected to what was found.
+To add a case, add its files. Take what you expect from a definition, a publication or
+tests/oracle.py, never from the program. Each case prints `ok SUBJECT/NAME`, or
+`FAILED SUBJECT/NAME: why` and a diff from what was expected to what was found.
 """
 import difflib
 import os

@@ -16,7 +16,7 @@ trap 'rm -rf "$temp"' EXIT
 # What all scripts use; where one is missing, nothing of a script can be run.
 for command in awk cmp cp cut date diff env grep head mktemp sed sort tail timeout tr uniq wc; do
     if ! command -v "$command" >/dev/null; then
-        echo "skipped $(basename "$0"): the command $command was not found"
+        echo "skipped $(basename "$0"): this machine has no $command"
         exit 0
     fi
 done
@@ -52,7 +52,7 @@ needs() {
     local command=$1 name
     command -v "$command" >/dev/null && return 0
     for name in "${@:2}"; do
-        skipped "$name" "the command $command was not found"
+        skipped "$name" "this machine has no $command"
     done
     return 1
 }
@@ -64,7 +64,8 @@ run() {
     status=$?
 }
 
-# without COMMAND WORD..: runs the words where this command of the system is missing, and keeps what `run` keeps.
+# without COMMAND WORD..: runs the words on a system that lacks this command, and keeps what `run`
+# keeps.
 without() {
     rm -rf "$temp/few"
     mkdir "$temp/few"

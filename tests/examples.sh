@@ -1,6 +1,6 @@
 #!/usr/bin/env bash
-# Each game of examples/ gives the report beside it, as a FILE and on standard input. Each game of docs/using/statutes
-# gives the report of tests/oracle.py, and a document names it.
+# Each game of examples/ gives the report beside it, as a FILE and on standard input. Each game of
+# docs/using/statutes gives the report of tests/oracle.py, and a document names it.
 . "$(dirname "$0")/common.sh"
 
 for game in "$top"/examples/*.toml "$top"/examples/*.txt; do

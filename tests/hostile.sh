@@ -3,8 +3,8 @@
 # refusal is met. Each time the program says that it is out of memory, or that a worker could not be
 # started, with status 5, that one line on standard error and nothing on standard output; or, where the
 # refused allocation belongs to the reading of its command line, it does exactly what it does with ample memory. At a
-# fault of the command line it may also tell less of the fault, on standard error and with status 2, and with
-# --explain it may lack lines after the first. The library that refuses is hostile/refuse.c.
+# fault of the command line it may also tell less of the fault, on standard error and with status 2,
+# and with --explain it may lack lines after the first. The library that refuses is hostile/refuse.c.
 . "$(dirname "$0")/common.sh"
 
 compile_refuse
@@ -36,8 +36,8 @@ hostile() {
     status=$?
 }
 
-# Whether standard error holds a text that is shorter than with ample memory. For a fault of the game it has the
-# first lines of that.
+# Whether standard error holds a text that is shorter than with ample memory. For a fault of the
+# game it has the first lines of that.
 is_shorter() {
     [ -s "$temp/err" ] && [ "$(wc -c <"$temp/err")" -lt "$(wc -c <"$temp/ample.err")" ] &&
         { [ "$ample" -eq 2 ] || head -n "$(wc -l <"$temp/err")" "$temp/ample.err" | cmp -s - "$temp/err"; }

@@ -241,7 +241,7 @@ if as_another test -x "$copy/council" 2>/dev/null; then
     chmod -R u+w "$copy"
     use
 else
-    skipped "a program in a folder that can't be written to" "the command setpriv was not found, and the tests run as root"
+    skipped "a program in a folder that can't be written to" "this machine has no setpriv, and the tests run as root"
 fi
 
 # ---- what stops it

@@ -20,8 +20,8 @@ cd "$temp/elsewhere" || exit 1
 echo "a game" >"a game.toml"
 echo "a game by its name" >--list
 
-# look NAME WORDS GAME INPUT WORD..: whether the toolchain is then asked for these words, and given this game, if it
-# is not empty, and this input.
+# look NAME WORDS GAME INPUT WORD..: whether the toolchain is then asked for these words, and given
+# this game, if it is not empty, and this input.
 look() {
     local name="tools/look $1" words="try ${3:+--data game.toml=GAME }-- $2" game=$3 input=$4
     shift 4

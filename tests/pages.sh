@@ -60,7 +60,7 @@ else
 fi
 case $said in
 '') ok "docs/council.1 has no warnings" ;;
-skipped) skipped "docs/council.1 has no warnings" "neither mandoc nor man with groff was found" ;;
+skipped) skipped "docs/council.1 has no warnings" "this machine has neither mandoc nor man with groff" ;;
 *) failed "docs/council.1 has no warnings" "$(head -n 2 <<<"$said" | tr '\n' ' ')" ;;
 esac
 

@@ -5,7 +5,7 @@
 set -u
 top=$(cd "$(dirname "$0")/.." && pwd)
 command -v rt >/dev/null || {
-    echo "skipped put_after_close.sh: the command rt was not found"
+    echo "skipped put_after_close.sh: this machine has no rt"
     echo "0 passed, 0 failed, 1 skipped"
     exit 0
 }

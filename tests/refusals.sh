@@ -41,7 +41,7 @@ are_built() {
 }
 
 command -v find >/dev/null || {
-    skipped "$(basename "$0")" "the command find was not found"
+    skipped "$(basename "$0")" "this machine has no find"
     exit 0
 }
 for name in council_game council_file mwc_walk mwc_pipe power_index mwc_tally mwc_sums mwc_gather council_report council_run; do

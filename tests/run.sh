@@ -104,7 +104,7 @@ else
     done
     if [ -z "$programs" ]; then
         for test in cases memory_source gate_source reading rooms noise random_games; do
-            echo "skipped $test: the command python3 was not found"
+            echo "skipped $test: this machine has no python3"
             skipped=$((skipped + 1))
         done
     fi

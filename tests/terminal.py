@@ -84,7 +84,7 @@ def type_in(words, typed):
 
 
 if __name__ == "__main__":
-    # the words that follow are run with a terminal as standard error, and what it shows is passed on
+    # runs the words with a terminal as standard error, and passes on what it shows
     run = Run(sys.argv[1:], stdout=None)
     status = run.read_all()
     os.write(2, run.told)

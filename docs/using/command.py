@@ -5,7 +5,7 @@ import shutil
 import subprocess
 import sys
 
-from report import Fault, Report
+from report import Fault, Report, ignore
 
 
 def shown(text):
@@ -62,7 +62,7 @@ def tell(text, status):
 
 
 def drop(file):
-    """Lets a file go nowhere that takes nothing more, also what is still to be written at the end."""
+    """Discards what is written to a file from now on, and what it still has to write."""
     os.dup2(os.open(os.devnull, os.O_WRONLY), file.fileno())
 
 
@@ -71,13 +71,13 @@ def note(text):
     tell(text, 0)
 
 
-def report_of(path):
-    """The report in a file; - is standard input."""
+def report_of(path, take=ignore):
+    """The report in a file; - is standard input. `take` gets its coalitions."""
     if path == "-":
-        return Report(sys.stdin)
+        return Report(sys.stdin, take)
     with open(path, encoding="utf-8-sig") as it:
         try:
-            return Report(it)
+            return Report(it, take)
         except Fault as fault:
             raise Fault(f"{path}: {fault}") from None
         except UnicodeDecodeError:
