@@ -3,7 +3,7 @@
 //! And of a list of coalitions that lies in pieces.
 //!
 //! ```text
-//! let counts = tally(rt, alloc, &game, 6, 4, &NoWatch)?;
+//! let counts = tally(rt, alloc, &game, 6, 4, &NoGate)?;
 //! let index = public_good(&counts, 0);
 //! ```
 #![tactic(auto)]
@@ -15,10 +15,8 @@ mod slice;
 mod slice_queue;
 mod sliced_game;
 mod threads;
-mod watch;
 
 pub use fault::TallyFault;
 pub use pieces::tally_pieces;
 pub use slice::tally_slice;
 pub use threads::tally;
-pub use watch::{NoWatch, Watch};

@@ -1,5 +1,5 @@
 //! What one thread counted.
-ghost use Rattle.std.specs.Prelude.{◌≡◌, true, IfOk, MatchOption, ⊤};
+ghost use Rattle.std.specs.Prelude.{◌≡◌, true, IfOk, IfSome};
 ghost use Rattle.std.specs.List.{range_with_len};
 ghost use Rattle.mwc_tally.specs.Inner.Shares.{IsShare, CountSlices, CountWhole};
 
@@ -55,14 +55,14 @@ impl Share {
     }
 
     /// The counts, where the slices are all those of the game, each once.
-    pub(crate) fn whole(self, slices: SlicedGame<'_>) -> Option<Counts>
+    pub(crate) fn whole(self, slices: SlicedGame<'_>) -> Option<Box<Counts>>
         requires { IsShare slices self }
-        ensures { MatchOption result ⊤ (CountWhole slices.entry) }
+        ensures { IfSome result (λ counts. CountWhole slices.entry counts.value) }
     {
         let Share { mut taken, counts } = self;
         taken.sort_unstable();
         if is_each_once(&taken, slices.count()) {
-            Some(Box::into_inner(counts))
+            Some(counts)
         } else {
             None
         }

@@ -1,81 +1,76 @@
-//! What the threads of a tally share.
+//! What the workers of a tally share.
 ghost use Rattle.std.specs.Prelude.{◌≡◌, IfOk};
 ghost use Rattle.mwc_tally.specs.Inner.Shares.{IsShare};
 
 use crate::share::Share;
-use crate::slice::tally_watched;
+use crate::slice::count_slice;
 use crate::sliced_game::SlicedGame;
-use crate::watch::Watch;
+use coalitions::Gate;
 use council_game::Memory;
 use std::alloc::Global;
 use std::sync::atomic::{AtomicU64, Ordering};
 
-/// The slices of a game, the next of them that nobody took yet, and who is told of each that was counted.
+/// The slices of a game, how many of them were taken, and the gate that workers pass.
 #[derive(Drop)]
-pub(crate) struct SliceQueue<'a, W> {
+pub(crate) struct SliceQueue<'a, G> {
     pub slices: SlicedGame<'a>,
-    next: &'a AtomicU64,
-    watch: &'a W,
+    taken: &'a AtomicU64,
+    gate: &'a G,
 }
 
-impl<'a, W: Watch> SliceQueue<'a, W> {
+impl<'a, G: Gate> SliceQueue<'a, G> {
     pub(crate) fn new(
         slices: SlicedGame<'a>,
-        next: &'a AtomicU64,
-        watch: &'a W,
-    ) -> SliceQueue<'a, W>
+        taken: &'a AtomicU64,
+        gate: &'a G,
+    ) -> SliceQueue<'a, G>
         ensures { result.slices ≡ slices.entry }
     {
         SliceQueue {
             slices,
-            next,
-            watch,
+            taken,
+            gate,
         }
     }
 
-    /// The same work, for another thread.
-    pub(crate) fn share(&self) -> SliceQueue<'a, W>
+    /// Returns the same queue, for another thread.
+    pub(crate) fn share(&self) -> SliceQueue<'a, G>
         ensures { result.slices ≡ self.now.slices }
     {
-        SliceQueue::new(self.slices, self.next, self.watch)
+        SliceQueue::new(self.slices, self.taken, self.gate)
     }
 
-    /// Leaves nothing to be taken.
+    /// Leaves no slice to be taken.
     pub(crate) fn stop(&self) {
-        self.next
+        self.taken
             .store(u64::from(self.slices.count()), Ordering::SeqCst);
     }
 
-    /// Counts the next slice that nobody took yet, until none is left or the watch stops it. The last slice comes first:
-    /// the heaviest members are out there, and it mostly takes longest.
-    fn count_next(&self, alloc: Global) -> Result<Share, Memory>
+    /// Counts one slice after another that nobody took yet, until none is left. The last slice comes first: the heaviest
+    /// members are out there, and it mostly takes longest.
+    fn count(&self, alloc: Global, worker: u8) -> Result<Share, Memory>
         ensures { IfOk result (IsShare self.now.slices) }
     {
         let slices = self.slices;
         let count = slices.count();
         let mut share = Share::none(alloc, slices)?;
         for _ in 0..count {
-            if self.watch.stops() {
+            let taken = self.taken.fetch_add(1, Ordering::SeqCst);
+            if taken >= u64::from(count) {
                 break;
             }
-            let ticket = self.next.fetch_add(1, Ordering::SeqCst);
-            if ticket >= u64::from(count) {
-                break;
-            }
-            let slice = count - 1 - ticket as u16;
-            let Some(counts) = tally_watched(slices, slice, self.watch) else {
-                break;
-            };
-            share.add(slices, &[slice], &counts)?;
+            let slice = count - 1 - taken as u16;
+            self.gate.pass(worker, slice);
+            share.add(slices, &[slice], &count_slice(slices, slice, self.gate))?;
         }
         Ok(share)
     }
 
-    /// The same; where memory ran out, what is left is not worth counting.
-    pub(crate) fn run(&self, alloc: Global) -> Result<Share, Memory>
+    /// Counts as `count` does. If memory runs out, it leaves nothing to the other workers, since all is lost.
+    pub(crate) fn run(&self, alloc: Global, worker: u8) -> Result<Share, Memory>
         ensures { IfOk result (IsShare self.now.slices) }
     {
-        let share = self.count_next(alloc);
+        let share = self.count(alloc, worker);
         // memory: the one error of a share is Memory
         if share.is_err() {
             self.stop();

@@ -2,9 +2,8 @@
 use Rattle.std.specs.Prelude.{ℕ, ◌≡◌, ◌++◌, List}
 use Rattle.std.specs.List.{flat_map}
 use Rattle.council_game.specs.Game.{GameView, votes_of}
-use Rattle.council_game.specs.Votes.{minimal_coalitions}
 use Rattle.mwc_walk.specs.Slices.{slice}
-use Rattle.power_index.specs.Tables.{Tables, AreTallies, AreCounts}
+use Rattle.power_index.specs.Tables.{Tables, AreTallies, AreCountsOfGame}
 use Rattle.mwc_tally.specs.declared.share.Share.{Share}
 use Rattle.mwc_tally.specs.declared.sliced_game.SlicedGame.{SlicedGame}
 
@@ -16,17 +15,16 @@ slice_of s = slice (votes_of s.game.now) s.bits
 abbrev pub CountSlices : SlicedGame → List ℕ → Tables → Type 0
 CountSlices s taken t = AreTallies s.game.now (flat_map (slice_of s) taken) t
 
--- the counts are those of the slices that were taken
-abbrev pub IsShare : SlicedGame → Share → Type 0
-IsShare s share = CountSlices s share.taken.items share.counts.value
-
--- the same of a game with `bits` members fixed in each slice
+-- the counts are those of the slices that were taken of a game with `bits` members fixed in each
 abbrev pub IsShareAt : GameView → ℕ → Share → Type 0
 IsShareAt g bits s = AreTallies g (flat_map (slice (votes_of g) bits) s.taken.items) s.counts.value
 
+abbrev pub IsShare : SlicedGame → Share → Type 0
+IsShare s share = IsShareAt s.game.now s.bits share
+
 -- the tables count the whole game
 abbrev pub CountWhole : SlicedGame → Tables → Type 0
-CountWhole s t = AreCounts s.game.now (minimal_coalitions (votes_of s.game.now)) t
+CountWhole s t = AreCountsOfGame s.game.now t
 
 -- of a list of coalitions those before what is to come are counted
 pub record CountedUpTo (g : GameView) (whole to_come : List ℕ) (t : Tables) : Type 0 where
