@@ -4,7 +4,7 @@
 
 ghost use Rattle.council_report.specs.Report.{report};
 ghost use Rattle.council_run.specs.Run.{IsOutcome, Reads};
-ghost use Rattle.council.specs.Inner.Wants.{IsTaken, lines_wanted};
+ghost use Rattle.council.specs.Inner.Wants.{limit_wanted, lines_wanted};
 
 use coalitions::{Gate, sanitize};
 use council_explain::{Kept, explain, remark};
@@ -86,7 +86,7 @@ fn execute<
     gate: &G,
     writer: &mut W,
 ) -> Result<u64, RunFault>
-    ensures { IsOutcome (report (lines_wanted arguments.now)) (IsTaken arguments.now)
+    ensures { IsOutcome (report (lines_wanted arguments.now)) (limit_wanted arguments.now)
         (Reads (I.remaining reader.old) (I.remaining reader.new))
         (W.contents writer.old) (W.contents writer.new) result }
 {

@@ -1,34 +1,39 @@
 -- What a call answers.
-use Rattle.std.specs.Prelude.{◌≡◌, ℕ, List, ◌++◌, length, take, drop, ◌⊎◌, true, Ok, None}
+use Rattle.std.specs.Prelude.{◌≡◌, ℕ, List, ◌++◌, length, take, drop, ◌⊎◌, true, Ok, Option, None}
 use Rattle.council_game.specs.declared.fault.GameFault.TheVariants as game
 use Rattle.council_game.specs.Game.{GameView}
 use Rattle.council_report.specs.Report.{report}
-use Rattle.council_run.specs.Run.{Holds, Stops}
+use Rattle.council_run.specs.Run.{Holds, IsWithin, Stops}
 use Rattle.council_run.specs.Status.{status_of}
+use Rattle.council_run.specs.declared.fault.Cause.{Cause}
 use Rattle.council_run.specs.declared.fault.Cause.TheVariants as cause
 use Rattle.council_c.specs.declared.fault.Fault.{Fault}
 use Rattle.council_c.specs.declared.fault.Fault.TheVariants as fault
 use Rattle.council_c.specs.declared.options.CouncilOptions.{CouncilOptions}
-use Rattle.council_c.specs.Asked.{are_wrong, lines_of_call, IsTaken}
+use Rattle.council_c.specs.Asked.{are_wrong, lines_of_call, limit_of}
 
 -- a buffer has a text at its front, as much of it as fits, and behind it what was there before
 unfoldable pub Shows : List ℕ → List ℕ → List ℕ → Type 0
 Shows text before after = after ≡ take (length before) text ++ drop (length text) before
 
 -- The text is that of the game that the bytes hold, its length is told, and the buffer shows it.
-abbrev pub FillsBy : (GameView → List ℕ) → (GameView → Type 0) → List ℕ → List ℕ → List ℕ → ℕ → Type 0
-FillsBy text IsWithin bytes before after len =
-    (g : GameView) × Holds bytes (Ok g) × IsWithin g × (len ≡ length (text g)) × Shows (text g) before after
+abbrev pub FillsBy : (GameView → List ℕ) → Option ℕ → List ℕ → List ℕ → List ℕ → ℕ → Type 0
+FillsBy text limit bytes before after len =
+    (g : GameView) × Holds bytes (Ok g) × IsWithin limit g × (len ≡ length (text g)) × Shows (text g) before after
 
 -- a report of the game that the bytes hold
 abbrev pub Reports : CouncilOptions → List ℕ → List ℕ → List ℕ → ℕ → Type 0
-Reports o bytes before after len = FillsBy (report (lines_of_call o)) (IsTaken o) bytes before after len
+Reports o bytes before after len = FillsBy (report (lines_of_call o)) (limit_of o) bytes before after len
+
+-- a run on these bytes stops so, before anything was written; a read that fails is no cause
+abbrev pub StopsOn : (GameView → List ℕ) → Option ℕ → List ℕ → Cause → Type 0
+StopsOn text limit bytes (cause.Game game.Read) = ⊥
+StopsOn text limit bytes why = Stops text limit (Holds bytes) None None why 0
 
 -- Why there is none: the options are wrong, or a run on these bytes stops so.
 abbrev pub StopsCall : CouncilOptions → List ℕ → Fault → Type 0
 StopsCall o bytes fault.Options = are_wrong o ≡ true
-StopsCall o bytes (fault.Run why) =
-    (why ≡ cause.Game game.Read → ⊥) × Stops (report (lines_of_call o)) (IsTaken o) (Holds bytes) None None why 0
+StopsCall o bytes (fault.Run why) = StopsOn (report (lines_of_call o)) (limit_of o) bytes why
 
 -- the buffer shows some words, and their length is told
 abbrev pub Tells : List ℕ → List ℕ → ℕ → Type 0

@@ -1,21 +1,20 @@
 //! A report in a buffer.
-ghost use Rattle.std.specs.Prelude.{◌≡◌, IfErr, IfOk, None, OnErr, OnOk, length};
+ghost use Rattle.std.specs.Prelude.{◌≡◌, IfErr, IfOk, OnErr, OnOk, false, length, true};
+ghost use Rattle.coalitions.specs.Options.{lines_of};
 ghost use Rattle.council_report.specs.Report.{report};
 ghost use Rattle.council_run.specs.Found.{IsFound};
-ghost use Rattle.council_run.specs.Run.{Holds, Stops};
-ghost use Rattle.council_run.specs.declared.fault.Cause.TheVariants as cause;
-ghost use Rattle.council_game.specs.declared.fault.GameFault.TheVariants as game;
-ghost use Rattle.council_c.specs.Answer.{FillsBy, Reports, Shows, StopsCall};
+ghost use Rattle.council_c.specs.Answer.{FillsBy, Reports, Shows, StopsCall, StopsOn};
+ghost use Rattle.council_c.specs.Asked.{limit};
 
 use crate::fault::Fault;
 use crate::options::CouncilOptions;
 use crate::page::Page;
 use crate::put::put;
-use coalitions::{Memory, ReportLines};
+use coalitions::{Memory, Options, ReportLines};
 use council_file::parse_game;
 use council_game::Game;
 use council_report::ReportFault;
-use council_run::{ByCounting, ByWalk, Finder, Found, RunFault, WalkCounter};
+use council_run::{Found, RunFault, count_by_walk, list_by_walk};
 use std::alloc::Global;
 use std::io;
 
@@ -49,27 +48,33 @@ fn put_report(
     Ok(length)
 }
 
-/// Reads a game, finds its coalitions, and puts its report into a buffer.
-fn fill_by<F: Finder>(
+/// Reads a game, finds its coalitions, and puts its report into a buffer. It returns how long the
+/// report is.
+fn report_bytes(
     alloc: Global,
     bytes: &[u8],
-    finder: &F,
+    options: &Options,
+    tally: bool,
     room: &mut [u8],
 ) -> Result<u64, RunFault>
-    ensures ok { IfOk result (FillsBy (report (F.lines finder.now)) (F.takes finder.now) bytes.now
-        room.old room.new) }
-    ensures err { IfErr result (λ fault. Stops (report (F.lines finder.now)) (F.takes finder.now)
-        (Holds bytes.now) None None fault.cause 0) }
+    requires { tally ≡ true → options.now.list ≡ false }
+    ensures ok { IfOk result (FillsBy (report (lines_of options.now)) (limit tally options.now.most)
+        bytes.now room.old room.new) }
+    ensures err { IfErr result (λ fault. StopsOn (report (lines_of options.now))
+        (limit tally options.now.most) bytes.now fault.cause) }
     ensures kept { OnErr result (room.new ≡ room.old) }
-    ensures no_read { IfErr result (λ fault. fault.cause ≡ cause.Game game.Read → ⊥) }
 {
     let game = parse_game(alloc, bytes)?;
-    let found = finder.find(alloc, &game)?;
-    Ok(put_report(alloc, &game, &found, finder.lines(), room)?)
+    let found = if tally {
+        count_by_walk(alloc, &game)?
+    } else {
+        list_by_walk(alloc, &game, options.most)?
+    };
+    Ok(put_report(alloc, &game, &found, options.lines(), room)?)
 }
 
-/// Reads the bytes of a game and puts its report into a buffer, as much of it as fits. It returns
-/// how long the report is.
+/// Puts the report of the game in some bytes into a buffer, as much of it as fits. It returns how long
+/// the report is.
 ///
 /// # Errors
 ///
@@ -88,13 +93,7 @@ pub(crate) fn fill(
     let Some(options) = call.options() else {
         return Err(Fault::Options);
     };
-    let filled = if call.tally {
-        let counter = WalkCounter;
-        fill_by(alloc, bytes, &ByCounting { options: &options, counter }, room)
-    } else {
-        fill_by(alloc, bytes, &ByWalk { options: &options }, room)
-    };
-    match filled {
+    match report_bytes(alloc, bytes, &options, call.tally, room) {
         Ok(length) => Ok(length),
         Err(fault) => Err(Fault::Run(fault.cause)),
     }

@@ -1,5 +1,5 @@
 -- What a report is made from.
-use Rattle.std.specs.Prelude.{◌≡◌, ℕ, List, All, Result, Ok, Err, false, ⊤}
+use Rattle.std.specs.Prelude.{◌≡◌, ℕ, List, All, Option, Result, Ok, Err, false, ⊤, ◌⊎◌}
 use Rattle.std.specs.List.{flat_map, range_with_len}
 use Rattle.coalitions.specs.declared.report_lines.ReportLines.{ReportLines}
 use Rattle.council_game.specs.Game.{GameView, votes_of}
@@ -8,6 +8,7 @@ use Rattle.mwc_gather.specs.declared.fault.GatherFault.TheVariants as gather
 use Rattle.mwc_gather.specs.declared.gathered.Gathered.{Gathered}
 use Rattle.mwc_gather.specs.Parts.{HasPieces}
 use Rattle.power_index.specs.Tables.{AreCountsOfGame}
+use Rattle.council_run.specs.Run.{IsWithin}
 use Rattle.council_run.specs.declared.fault.Cause.{Cause}
 use Rattle.council_run.specs.declared.fault.Cause.TheVariants as cause
 use Rattle.council_run.specs.declared.fault.RunFault.{RunFault}
@@ -32,13 +33,18 @@ abbrev pub IsFound : GameView → ReportLines → Found → Type 0
 IsFound g lines found = AreCountsOfGame g found.counts.value × AreListed g lines found.coalitions
 
 -- why the coalitions of a game were not found: too many are only more than are taken
-abbrev pub IsNotFound : (GameView → Type 0) → GameView → Cause → Type 0
-IsNotFound IsWithin g (cause.Game fault) = ⊥
-IsNotFound IsWithin g (cause.Gather gather.TooMany) = IsWithin g → ⊥
-IsNotFound IsWithin g (cause.Gather fault) = ⊤
-IsNotFound IsWithin g cause.Write = ⊥
-IsNotFound IsWithin g cause.Memory = ⊤
+abbrev pub IsNotFound : Option ℕ → GameView → Cause → Type 0
+IsNotFound limit g (cause.Game fault) = ⊥
+IsNotFound limit g (cause.Gather gather.TooMany) = IsWithin limit g → ⊥
+IsNotFound limit g (cause.Gather fault) = ⊤
+IsNotFound limit g cause.Write = ⊥
+IsNotFound limit g cause.Memory = ⊤
 
--- why finding them failed, before anything was written
-abbrev pub IsFailure : (Cause → Type 0) → (GameView → Type 0) → GameView → RunFault → Type 0
-IsFailure fails IsWithin g fault = fails fault.cause × IsNotFound IsWithin g fault.cause × (fault.written ≡ 0)
+-- what finding them returns: if it fails, nothing was written
+abbrev pub Finds : Option ℕ → ReportLines → GameView → Result Found RunFault → Type 0
+Finds limit lines g (Ok found) = IsWithin limit g × IsFound g lines found
+Finds limit lines g (Err fault) = IsNotFound limit g fault.cause × (fault.written ≡ 0)
+
+-- Workers that count stop only for want of memory, or if one of them could not be started.
+abbrev pub IsWorkersFault : RunFault → Type 0
+IsWorkersFault fault = ((fault.cause ≡ cause.Memory) ⊎ (fault.cause ≡ cause.Gather gather.Start)) × (fault.written ≡ 0)

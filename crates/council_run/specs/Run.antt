@@ -29,33 +29,29 @@ count_of g = length (minimal_coalitions (votes_of g))
 abbrev pub IsNumberOf : GameView → Option ℕ → Type 0
 IsNumberOf g number = IfSome number (λ n. n ≡ count_of g) × (IsSome number ↔ IsCountedBySums g)
 
--- a game with at most `most`
-abbrev pub HasAtMost : ℕ → GameView → Type 0
-HasAtMost most g = count_of g ≤ most
-
--- a game with any number
-abbrev pub IsAnyGame : GameView → Type 0
-IsAnyGame g = Unit {0}
+-- a game with at most as many as the limit says, if there is one
+abbrev pub IsWithin : Option ℕ → GameView → Type 0
+IsWithin limit g = IfSome limit (λ most. count_of g ≤ most)
 
 abbrev pub WritesNothing : Option (List ℕ) → Option (List ℕ) → ℕ → Type 0
 WritesNothing before after written = (written ≡ 0) × Keeps before after
 
 -- A run that stops wrote nothing, or the first bytes of the text; the fault of a game is that of the bytes read.
-abbrev pub Stops : (GameView → List ℕ) → (GameView → Type 0) → (Result GameView GameFault → Type 0) → Option (List ℕ) → Option (List ℕ)
+abbrev pub Stops : (GameView → List ℕ) → Option ℕ → (Result GameView GameFault → Type 0) → Option (List ℕ) → Option (List ℕ)
     → Cause → ℕ → Type 0
-Stops text IsWithin Read before after (cause.Game game.Read) written = WritesNothing before after written
-Stops text IsWithin Read before after (cause.Game game.Memory) written = WritesNothing before after written
-Stops text IsWithin Read before after (cause.Game fault) written = WritesNothing before after written × Read (Err fault)
-Stops text IsWithin Read before after (cause.Gather gather.TooMany) written =
-    WritesNothing before after written × ((g : GameView) × Read (Ok g) × (IsWithin g → ⊥))
-Stops text IsWithin Read before after (cause.Gather fault) written = WritesNothing before after written
-Stops text IsWithin Read before after cause.Memory written = WritesNothing before after written
-Stops text IsWithin Read before after cause.Write written =
-    (g : GameView) × Read (Ok g) × IsWithin g × (written ≤ length (text g)) × Appends before after (take written (text g))
+Stops text limit Read before after (cause.Game game.Read) written = WritesNothing before after written
+Stops text limit Read before after (cause.Game game.Memory) written = WritesNothing before after written
+Stops text limit Read before after (cause.Game fault) written = WritesNothing before after written × Read (Err fault)
+Stops text limit Read before after (cause.Gather gather.TooMany) written =
+    WritesNothing before after written × ((g : GameView) × Read (Ok g) × (IsWithin limit g → ⊥))
+Stops text limit Read before after (cause.Gather fault) written = WritesNothing before after written
+Stops text limit Read before after cause.Memory written = WritesNothing before after written
+Stops text limit Read before after cause.Write written =
+    (g : GameView) × Read (Ok g) × IsWithin limit g × (written ≤ length (text g)) × Appends before after (take written (text g))
 
 -- A run that succeeds wrote the text of the game that it read, and nothing else; the game is within its limit.
-abbrev pub IsOutcome : (GameView → List ℕ) → (GameView → Type 0) → (Result GameView GameFault → Type 0) → Option (List ℕ) → Option (List ℕ)
+abbrev pub IsOutcome : (GameView → List ℕ) → Option ℕ → (Result GameView GameFault → Type 0) → Option (List ℕ) → Option (List ℕ)
     → Result ℕ RunFault → Type 0
-IsOutcome text IsWithin Read before after (Ok len) =
-    (g : GameView) × Read (Ok g) × IsWithin g × (len ≡ length (text g)) × Appends before after (text g)
-IsOutcome text IsWithin Read before after (Err fault) = Stops text IsWithin Read before after fault.cause fault.written
+IsOutcome text limit Read before after (Ok len) =
+    (g : GameView) × Read (Ok g) × IsWithin limit g × (len ≡ length (text g)) × Appends before after (text g)
+IsOutcome text limit Read before after (Err fault) = Stops text limit Read before after fault.cause fault.written

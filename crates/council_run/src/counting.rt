@@ -1,18 +1,14 @@
 //! Counting the coalitions of a game, and keeping none: by sums, and what these leave by worker threads or by one walk.
-ghost use Rattle.std.specs.Prelude.{◌≡◌, ◌⊎◌, IfErr, IfOk};
-ghost use Rattle.coalitions.specs.Options.{lines_of, without_list};
+ghost use Rattle.std.specs.Prelude.{◌≡◌, IfErr, IfOk, None, false};
+ghost use Rattle.coalitions.specs.declared.report_lines.ReportLines.{ReportLines};
+ghost use Rattle.council_run.specs.Found.{Finds, IsWorkersFault};
 ghost use Rattle.power_index.specs.Tables.{AreCountsOfGame};
-ghost use Rattle.council_run.specs.Run.{IsAnyGame};
-ghost use Rattle.council_run.specs.declared.fault.Cause.TheVariants as cause;
-ghost use Rattle.mwc_gather.specs.declared.fault.GatherFault.TheVariants as gather;
-ghost use Rattle.mwc_sums.specs.Coverage.{ArePartsOf};
 
 use crate::fault::RunFault;
-use crate::finder::Finder;
-use crate::found::{Coalitions, Found};
-use coalitions::{Gate, Memory, Options, ReportLines};
+use crate::found::{Coalitions, Found, on_heap};
+use coalitions::{Gate, Memory, Options};
 use council_game::Game;
-use mwc_sums::{Coverage, Parts, count_by_sums};
+use mwc_sums::{Coverage, count_by_sums};
 use mwc_tally::{TallyFault, tally, tally_slice};
 use mwc_walk::laws::one_slice_is_the_whole;
 use power_index::Counts;
@@ -21,101 +17,98 @@ use std::alloc::Global;
 use std::sync::Wait;
 use std::thread::Threads;
 
-/// A tally has at least 2^8 slices if there are 8 members: the last of them are the longest, and with fewer one thread
-/// would still count when the others have ended.
+/// A tally has at least 2^8 slices if there are 8 members: the last of them are the longest, and with
+/// fewer one thread would still count when the others have ended.
 pub const LEAST_BITS: u8 = 8;
 
-/// A way to count the coalitions that sums leave.
-pub trait Counter {
-    /// Counts all minimal winning coalitions of a game.
-    ///
-    /// # Errors
-    ///
-    /// `Memory` if memory ran out, `Start` if a thread could not be started.
-    fn count(&self, alloc: Global, game: &Game) -> Result<Box<Counts>, TallyFault>
-        ensures { IfOk result (λ counts. AreCountsOfGame game.now counts.value) };
-}
-
-/// Counts by worker threads behind a gate.
-#[derive(Drop)]
-pub struct ThreadCounter<'a, T, G> {
-    pub rt: &'a T,
-    pub options: &'a Options,
-    pub gate: &'a G,
-}
-
-impl<'a, T: Threads + Wait + Sync, G: Gate + Sync> Counter for ThreadCounter<'a, T, G> {
-    // kept out of line: sums do not take the stack that threads want
-    #[inline(never)]
-    fn count(&self, alloc: Global, game: &Game) -> Result<Box<Counts>, TallyFault> {
-        let bits = self.options.bits.max(LEAST_BITS).min(game.members() as u8);
-        let counts = tally(self.rt, alloc, game, bits, self.options.workers, &mwc_tally::NoWatch)?;
-        Ok(Box::new(alloc, counts)?)
-    }
-}
-
-/// Counts by one walk, in the calling thread.
-#[derive(Clone, Copy)]
-pub struct WalkCounter;
-
-impl Counter for WalkCounter {
-    fn count(&self, alloc: Global, game: &Game) -> Result<Box<Counts>, TallyFault> {
-        game.was_checked();
-        one_slice_is_the_whole();
-        tallies_are_counts();
-        Ok(Box::new(alloc, tally_slice(game, 0, 0))?)
-    }
-}
-
-/// Counts by sums, and what these leave by another counter.
-#[derive(Drop)]
-pub struct ByCounting<'a, C> {
-    pub options: &'a Options,
-    pub counter: C,
-}
-
-/// Counts the coalitions of a game of which sums counted a part.
+/// Counts all coalitions of a game by worker threads behind a gate.
+// kept out of line: sums do not take the stack that threads want
 #[inline(never)]
-fn count_rest<C: Counter>(
+fn count_by_threads<T: Threads + Wait + Sync, G: Gate + Sync>(
+    rt: &T,
     alloc: Global,
     game: &Game,
-    parts: Parts,
-    counter: &C,
+    options: &Options,
+    gate: &G,
 ) -> Result<Box<Counts>, TallyFault>
-    requires { ArePartsOf game.now parts }
     ensures { IfOk result (λ counts. AreCountsOfGame game.now counts.value) }
 {
-    let left = counter.count(alloc, &parts.left)?;
-    Ok(parts.join(game, left))
+    let bits = options.bits.max(LEAST_BITS).min(game.members() as u8);
+    tally(rt, alloc, game, bits, options.workers, gate)
 }
 
-/// Counts the coalitions of a game.
-fn count<C: Counter>(alloc: Global, game: &Game, counter: &C) -> Result<Box<Counts>, TallyFault>
+/// Counts all coalitions of a game by one walk.
+#[inline(never)]
+fn count_walk(alloc: Global, game: &Game) -> Result<Box<Counts>, Memory>
+    ensures { IfOk result (λ counts. AreCountsOfGame game.now counts.value) }
+{
+    game.was_checked();
+    one_slice_is_the_whole();
+    tallies_are_counts();
+    on_heap(alloc, tally_slice(game, 0, 0))
+}
+
+/// Counts all coalitions of a game by sums, and what these leave by worker threads.
+fn count_all<T: Threads + Wait + Sync, G: Gate + Sync>(
+    rt: &T,
+    alloc: Global,
+    game: &Game,
+    options: &Options,
+    gate: &G,
+) -> Result<Box<Counts>, TallyFault>
     ensures { IfOk result (λ counts. AreCountsOfGame game.now counts.value) }
 {
     match count_by_sums(alloc, game)? {
         Coverage::All(counts) => Ok(counts),
-        Coverage::Part(parts) => count_rest(alloc, game, parts, counter),
-        Coverage::Nothing => counter.count(alloc, game),
+        Coverage::Part(parts) => {
+            let left = count_by_threads(rt, alloc, &parts.left, options, gate)?;
+            Ok(parts.join(game, left))
+        }
+        Coverage::Nothing => count_by_threads(rt, alloc, game, options, gate),
     }
 }
 
-impl<'a, C: Counter> Finder for ByCounting<'a, C> {
-    ghost takes = { λ _. IsAnyGame };
+/// Counts the coalitions of a game by sums, and what these leave by worker threads behind a gate. It
+/// takes a game with any number of them, and keeps none.
+///
+/// # Errors
+///
+/// Out of memory, or Start if a thread could not be started.
+pub fn count_by_workers<T: Threads + Wait + Sync, G: Gate + Sync>(
+    rt: &T,
+    alloc: Global,
+    game: &Game,
+    options: &Options,
+    gate: &G,
+) -> Result<Found, RunFault>
+    ensures finds { (lines : ReportLines) → lines.list ≡ false → Finds None lines game.now result }
+    ensures fails { IfErr result IsWorkersFault }
+{
+    let counts = count_all(rt, alloc, game, options, gate)?;
+    Ok(Found {
+        counts,
+        coalitions: Coalitions::Counted,
+    })
+}
 
-    ghost lines = { λ by. without_list (lines_of by.options.now) };
-
-    ghost fails = { λ why. (why ≡ cause.Memory) ⊎ (why ≡ cause.Gather gather.Start) };
-
-    fn lines(&self) -> ReportLines {
-        self.options.lines().without_list()
-    }
-
-    fn find(&self, alloc: Global, game: &Game) -> Result<Found, RunFault> {
-        let counts = count(alloc, game, &self.counter)?;
-        Ok(Found {
-            counts,
-            coalitions: Coalitions::Counted,
-        })
-    }
+/// Counts the coalitions of a game by sums, and what these leave by one walk, in the calling thread.
+///
+/// # Errors
+///
+/// Out of memory.
+pub fn count_by_walk(alloc: Global, game: &Game) -> Result<Found, RunFault>
+    ensures { (lines : ReportLines) → lines.list ≡ false → Finds None lines game.now result }
+{
+    let counts = match count_by_sums(alloc, game)? {
+        Coverage::All(counts) => counts,
+        Coverage::Part(parts) => {
+            let left = count_walk(alloc, &parts.left)?;
+            parts.join(game, left)
+        }
+        Coverage::Nothing => count_walk(alloc, game)?,
+    };
+    Ok(Found {
+        counts,
+        coalitions: Coalitions::Counted,
+    })
 }

@@ -37,6 +37,13 @@ pub struct Found {
     pub coalitions: Coalitions,
 }
 
+/// Puts counts on the heap.
+pub(crate) fn on_heap(alloc: Global, counts: Counts) -> Result<Box<Counts>, Memory>
+    ensures { IfOk result (λ own. own.value ≡ counts) }
+{
+    Ok(Box::new(alloc, counts)?)
+}
+
 /// Lists where the coalitions of each slice lie, slice after slice.
 pub(crate) fn pieces<'a>(
     alloc: Global,

@@ -9,17 +9,15 @@
 
 mod counting;
 mod fault;
-mod finder;
 mod found;
 mod listing;
 mod number;
 mod runs;
 
 pub use coalitions::{Gate, NoGate, Options, limits};
-pub use counting::{ByCounting, Counter, LEAST_BITS, ThreadCounter, WalkCounter};
+pub use counting::{LEAST_BITS, count_by_walk, count_by_workers};
 pub use fault::{Cause, RunFault, status};
-pub use finder::Finder;
 pub use found::{Coalitions, Found};
-pub use listing::{ByWalk, ByWorkers};
+pub use listing::{list_by_walk, list_by_workers};
 pub use number::number_by_sums;
-pub use runs::{report_game, run, tally};
+pub use runs::{run, tally};

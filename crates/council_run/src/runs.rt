@@ -1,44 +1,40 @@
 //! Runs: from the bytes of a game to its report.
-ghost use Rattle.std.specs.Prelude.{◌≡◌, IfErr};
+ghost use Rattle.std.specs.Prelude.{◌≡◌, ℕ, IfErr, IfOk, List, None, Ok, Option, Some};
 ghost use Rattle.coalitions.specs.Options.{lines_of, without_list};
 ghost use Rattle.council_report.specs.Report.{report};
-ghost use Rattle.council_run.specs.Run.{HasAtMost, IsAnyGame, IsOutcome, Reads};
+ghost use Rattle.council_run.specs.Found.{Finds, IsFound};
+ghost use Rattle.council_run.specs.Run.{IsOutcome, Reads};
 ghost use Rattle.council_run.specs.declared.fault.Cause.TheVariants as cause;
 ghost use Rattle.mwc_gather.specs.declared.fault.GatherFault.{GatherFault};
 ghost use Rattle.mwc_gather.specs.declared.fault.GatherFault.TheVariants as gather;
 
-use crate::counting::{ByCounting, ThreadCounter};
+use crate::counting::count_by_workers;
 use crate::fault::RunFault;
-use crate::finder::Finder;
-use crate::listing::ByWorkers;
-use coalitions::{Gate, Options};
+use crate::found::Found;
+use crate::listing::list_by_workers;
+use coalitions::{Gate, Options, ReportLines};
 use council_file::read_game;
+use council_game::Game;
 use std::alloc::Global;
 use std::io::{Read, Write};
 use std::sync::Wait;
 use std::thread::Threads;
 
-/// Reads a game, finds its coalitions, and writes its report and nothing else.
-///
-/// # Errors
-///
-/// The first of these: a fault of the game file; the cause why the coalitions were not found; out of memory for the
-/// report; a writer that failed.
-pub fn report_game<F: Finder, R: Read, W: Write>(
+/// Writes the report of a game that was read, if its coalitions were found.
+fn report_found<W: Write>(
     alloc: Global,
-    reader: &mut R,
-    finder: &F,
+    game: &Game,
+    found: Result<Found, RunFault>,
+    lines: ReportLines,
     writer: &mut W,
 ) -> Result<u64, RunFault>
-    ensures outcome { IsOutcome (report (F.lines finder.now)) (F.takes finder.now)
-        (Reads (R.remaining reader.old) (R.remaining reader.new))
+    requires { IfOk found (IsFound game.now lines) }
+    ensures { (limit : Option ℕ) (unread left : Option (List ℕ)) → Finds limit lines game.now found
+        → Reads unread left (Ok game.now) → IsOutcome (report lines) limit (Reads unread left)
         (W.contents writer.old) (W.contents writer.new) result }
-    ensures fails { IfErr result (λ fault. (why : GatherFault) → fault.cause ≡ cause.Gather why
-        → F.fails fault.cause) }
 {
-    let game = read_game(alloc, reader)?;
-    let found = finder.find(alloc, &game)?;
-    Ok(found.write(alloc, &game, finder.lines(), writer)?)
+    let found = found?;
+    Ok(found.write(alloc, game, lines, writer)?)
 }
 
 /// Reads a game, lists its minimal winning coalitions by worker threads, and writes its report and
@@ -63,11 +59,13 @@ pub fn run<T: Threads + Wait + Sync, R: Read, W: Write, G: Gate + Sync>(
     gate: &G,
     writer: &mut W,
 ) -> Result<u64, RunFault>
-    ensures { IsOutcome (report (lines_of options.now)) (HasAtMost options.now.most)
+    ensures { IsOutcome (report (lines_of options.now)) (Some options.now.most)
         (Reads (R.remaining reader.old) (R.remaining reader.new))
         (W.contents writer.old) (W.contents writer.new) result }
 {
-    report_game(alloc, reader, &ByWorkers { rt, options, gate }, writer)
+    let game = read_game(alloc, reader)?;
+    let found = list_by_workers(rt, alloc, &game, options, gate);
+    report_found(alloc, &game, found, options.lines(), writer)
 }
 
 /// Reads a game, counts its minimal winning coalitions, however many there are, and writes its report, with no line for
@@ -88,12 +86,13 @@ pub fn tally<T: Threads + Wait + Sync, R: Read, W: Write, G: Gate + Sync>(
     gate: &G,
     writer: &mut W,
 ) -> Result<u64, RunFault>
-    ensures outcome { IsOutcome (report (without_list (lines_of options.now))) IsAnyGame
+    ensures outcome { IsOutcome (report (without_list (lines_of options.now))) None
         (Reads (R.remaining reader.old) (R.remaining reader.new))
         (W.contents writer.old) (W.contents writer.new) result }
     ensures threads { IfErr result (λ fault. (why : GatherFault) →
         fault.cause ≡ cause.Gather why → why ≡ gather.Start) }
 {
-    let counter = ThreadCounter { rt, options, gate };
-    report_game(alloc, reader, &ByCounting { options, counter }, writer)
+    let game = read_game(alloc, reader)?;
+    let found = count_by_workers(rt, alloc, &game, options, gate);
+    report_found(alloc, &game, found, options.lines().without_list(), writer)
 }
