@@ -1,1 +1,1 @@
-mod Stopping
+mod Finding

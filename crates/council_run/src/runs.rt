@@ -1,5 +1,5 @@
 //! Runs: from the bytes of a game to its report.
-ghost use Rattle.std.specs.Prelude.{◌≡◌, ℕ, IfErr, IfOk, List, None, Ok, Option, Some};
+ghost use Rattle.std.specs.Prelude.{◌≡◌, ℕ, Err, IfErr, IfOk, List, None, Ok, Option, Some};
 ghost use Rattle.coalitions.specs.Options.{lines_of, without_list};
 ghost use Rattle.council_report.specs.Report.{report};
 ghost use Rattle.council_run.specs.Found.{Finds, IsFound};
@@ -29,9 +29,11 @@ fn report_found<W: Write>(
     writer: &mut W,
 ) -> Result<u64, RunFault>
     requires { IfOk found (IsFound game.now lines) }
-    ensures { (limit : Option ℕ) (unread left : Option (List ℕ)) → Finds limit lines game.now found
+    ensures outcome { (limit : Option ℕ) (unread left : Option (List ℕ)) → Finds limit lines game.now found
         → Reads unread left (Ok game.now) → IsOutcome (report lines) limit (Reads unread left)
         (W.contents writer.old) (W.contents writer.new) result }
+    ensures fault { IfErr result (λ fault. (why : GatherFault) → fault.cause ≡ cause.Gather why
+        → found ≡ Err fault) }
 {
     let found = found?;
     Ok(found.write(alloc, game, lines, writer)?)
