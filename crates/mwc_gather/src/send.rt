@@ -151,7 +151,7 @@ pub(crate) fn send_behind<W: PutsRows<P>, R: Wait, P: PipeIn<Word>, G: SliceObse
         (P.accepted out.new) (P.broken out.new) result }
     ensures unbroken { BreaksOnlyIfRefused (P.broken out.old) (P.broken out.new) result }
 {
-    let walk = Walk::new(guarded.enter(worker, slice), bits, slice);
+    let walk = Walk::new(guarded.admit(worker, slice), bits, slice);
     send_walk::<W, _, _, _>(rt, guarded, walk, slice, left, out, pair)
 }
 
