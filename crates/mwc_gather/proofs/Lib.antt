@@ -6,7 +6,6 @@ mod Readings
 mod Ranges
 mod Shares
 mod Tasks
-mod Drafts
 mod Rooms
 pub mod Searches
 mod Slices

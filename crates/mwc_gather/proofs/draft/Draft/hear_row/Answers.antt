@@ -1,4 +1,5 @@
-use Rattle.std.proofs.lemmas.{Bool.Decides.nat_tests, List.take_more}
+use Rattle.std.proofs.lemmas.{Bool.Decides.nat_tests, List.take_more, List.Folds.list_any-append}
+use Rattle.std.proofs.Math.Bool.{or-false}
 use Rattle.std.proofs.Common.{◌≡◌, ◌+◌, ◌++◌, ◌∷◌, [], List, take, append_assoc, arith}
 use Rattle.mwc_pipe.specs.declared.word.Word.{Word}
 use Rattle.mwc_gather.proofs.Rooms.{loses_by}
@@ -10,4 +11,4 @@ loop-word-preserved c =
     let row : List Word = c.args.row.now in
     let word : Word = c.word-item.result in
     let more : take (at + 1) row ≡ take at row ++ word ∷ [] = grind (arith, take_more) in
-    grind (arith, nat_tests, append_assoc, loses_by)
+    grind (arith, nat_tests, append_assoc, list_any-append, or-false, loses_by)
