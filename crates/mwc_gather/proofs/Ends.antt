@@ -1,13 +1,13 @@
 -- The end of gathering.
 use Rattle.mwc_gather.proofs.Imports.{common_steps, nat_tests, ◌≡◌, ℕ, ◌<◌, ◌≤◌, Bool, true, false, List, [], ◌∷◌, ◌++◌, Option, Some, None}
-use Rattle.mwc_gather.proofs.Imports.{IsPart, fault_of, also, Part, Met, GatherFault, Memory, length-joined, Desk, Deal, view_of, views_of}
-use Rattle.mwc_gather.proofs.Imports.{cond, All, length, map, refl, AllZip, get_or, append_assoc, ap, subst, arith, sym, ◌∙◌, length-map}
-use Rattle.mwc_gather.proofs.Imports.{map_push, All-head, All-tail, Slicing, sum_by, sum_by-cons, coalition_count, DeskView, IsFresh}
-use Rattle.mwc_gather.proofs.Imports.{DealsTo, IsPartOfDesk, all_total, IsComplete}
-use Rattle.std.proofs.{Common.slice_get, lemmas.List.get_or-map, lemmas.Slice.Zip.AllZip-long}
-use Rattle.std.specs.List.Sorted.{IsStrictlyIncreasing}
-use Rattle.mwc_gather.specs.declared.fault.GatherFault.TheVariants.{TooMany, Start, Ring}
-use Rattle.mwc_gather.specs.{Parts.shares, Inner.Dealing.IsWell, Inner.Dealing.given_slices, Inner.Deals.AreDealt}
+use Rattle.mwc_gather.proofs.Imports.{length, map, refl, AllZip, get_or, append_assoc, ap, subst, arith, sym, ◌∙◌, length-map, map_push}
+use Rattle.mwc_gather.proofs.Imports.{IsPart, fault_of, also, Part, Met, GatherFault, Memory, Desk, Deal, view_of, views_of, cond, All}
+use Rattle.mwc_gather.proofs.Imports.{IsPartOfDesk, all_total, IsComplete, get_or-map, IsStrictlyIncreasing, TooMany, shares, IsWell}
+use Rattle.mwc_gather.proofs.Imports.{All-head, All-tail, Slicing, sum_by, sum_by-cons, coalition_count, DeskView, IsFresh, DealsTo}
+use Rattle.mwc_gather.proofs.Imports.{given_slices, AreDealt}
+use Rattle.mwc_gather.proofs.Readings.{length-joined}
+use Rattle.std.proofs.{Common.slice_get, lemmas.Slice.Zip.AllZip-long}
+use Rattle.mwc_gather.specs.declared.fault.GatherFault.TheVariants.{Start, Ring}
 use Rattle.mwc_gather.proofs.Firsts.{each_within, dealt_total, dealt_increase, share_begins}
 use Rattle.mwc_gather.proofs.Turns as turns
 

@@ -1,7 +1,8 @@
 -- Each slice once.
-use Rattle.std.proofs.Common.{◌≡◌, ℕ, ◌<◌, Bool, cond, List, [], ◌∷◌, count_by, refl, flat_map, eqb, ap, arith, sym, ◌∙◌, lt-ltb, sum_by}
-use Rattle.std.proofs.lemmas.{Bool.Decides.nat_tests, Grind.common_steps, List.Sums.sum_by-append, List.Sums.sum_by-cons}
-use Rattle.mwc_gather.specs.{Inner.Times.times_in, Parts.shares, Parts.HasEachSliceOnce, Inner.Deals.AreDealt, declared.part.Part.Part}
+use Rattle.mwc_gather.proofs.Imports.{◌≡◌, ℕ, ◌<◌, Bool, cond, List, [], ◌∷◌, count_by, refl, flat_map, eqb, ap, arith, sym, ◌∙◌, sum_by}
+use Rattle.mwc_gather.proofs.Imports.{nat_tests, common_steps, sum_by-append, sum_by-cons, times_in, shares, AreDealt, Part}
+use Rattle.std.proofs.Common.{lt-ltb}
+use Rattle.mwc_gather.specs.Parts.{HasEachSliceOnce}
 use Rattle.mwc_gather.proofs.Firsts.{dealt_once}
 
 -- how often a slice stands in all parts

@@ -1,7 +1,6 @@
 -- Rows of numbers.
-use Rattle.std.proofs.Common.{◌≡◌, ℕ, ◌+◌, List, [], ◌∷◌, ◌++◌, map, flat_map, ap, arith, sym, ◌∙◌}
-use Rattle.std.specs.List.{range_with_len}
-use Rattle.std.proofs.lemmas.List.{map-append, Folds.flat_map-map, FromFn.map-range_with_len_more}
+use Rattle.mwc_gather.proofs.Imports.{◌≡◌, ℕ, ◌+◌, List, [], ◌∷◌, ◌++◌, map, flat_map, ap, arith, sym, ◌∙◌, range_with_len, map-append}
+use Rattle.std.proofs.lemmas.List.{Folds.flat_map-map, FromFn.map-range_with_len_more}
 
 -- one more piece of a row
 pub pieces_more : {X : Type 0} (f : X → List ℕ) (slice : ℕ → List ℕ) (n : ℕ) (row : List X) (x : X)

@@ -1,8 +1,7 @@
 -- Drafts that hear more words, and lose nothing while there is room.
-use Rattle.std.proofs.Common.{◌≡◌, ℕ, ◌<◌, Bool, true, false, List, ◌++◌, append_assoc, subst, arith, inl, inr}
-use Rattle.mwc_pipe.specs.declared.word.Word.{Word}
-use Rattle.mwc_gather.specs.{Inner.Drafts.Hears, Inner.Drafts.IsDraftOf}
-use Rattle.mwc_gather.specs.{Inner.Drafts.Grows, Inner.Drafts.LacksRoom, Inner.Drafts.LosesForWantOfRoom, declared.draft.Draft.Draft}
+use Rattle.mwc_gather.proofs.Imports.{◌≡◌, ℕ, ◌<◌, Bool, true, false, List, ◌++◌, append_assoc, subst, arith, inl, inr, Word, Hears}
+use Rattle.mwc_gather.proofs.Imports.{IsDraftOf, Grows, LosesForWantOfRoom, Draft}
+use Rattle.mwc_gather.specs.Inner.Drafts.{LacksRoom}
 
 -- what has no room for one more after it grew had no room for all
 lacks_more : (old mid : Draft) (i n : ℕ) → i < n → Grows old i mid → LacksRoom mid 1 → LacksRoom old n

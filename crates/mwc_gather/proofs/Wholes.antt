@@ -1,11 +1,10 @@
 -- The slices of a game and its minimal winning coalitions.
 use Rattle.mwc_gather.proofs.Imports.{arith, ◌≡◌, ℕ, ◌≤◌, List, length, All, ap, sym, ◌∙◌, votes_of, slices-joined, Slicing, IsPart, Part}
-use Rattle.mwc_gather.proofs.Imports.{length-joined, slicing, all_total}
-use Rattle.std.proofs.{Common.◌^◌, lemmas.List.Elements.All-weaker}
-use Rattle.std.specs.List.{range_with_len}
+use Rattle.mwc_gather.proofs.Imports.{all_total, All-weaker, range_with_len, HasPieces}
+use Rattle.mwc_gather.proofs.Readings.{length-joined, piece_is}
+use Rattle.mwc_gather.specs.Slicing.{slicing}
+use Rattle.std.proofs.Common.{◌^◌}
 use Rattle.council_game.specs.{Game.GameView, Votes.minimal_coalitions}
-use Rattle.mwc_gather.specs.Parts.{HasPieces}
-use Rattle.mwc_gather.proofs.Readings.{piece_is}
 
 -- the slices have as many coalitions as there are
 pub all_total_is : (game : GameView) (bits : ℕ) → bits ≤ 10 → bits ≤ length game.names

@@ -1,5 +1,4 @@
-use Rattle.mwc_gather.proofs.Imports.{◌≡◌, ◌++◌, List, length, Word}
-use Rattle.mwc_gather.specs.Inner.Drafts.{Hears}
+use Rattle.mwc_gather.proofs.Imports.{◌≡◌, ◌++◌, List, length, Word, Hears}
 use Rattle.mwc_gather.proofs.desk.drain.Given as goal
 
 abbrev pub invariant-loop-word : goal.invariant-loop-word

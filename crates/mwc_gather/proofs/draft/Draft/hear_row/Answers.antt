@@ -1,7 +1,5 @@
-use Rattle.std.proofs.lemmas.{Bool.Decides.nat_tests, List.take_more, List.Folds.list_any-append}
-use Rattle.std.proofs.Math.Bool.{or-false}
-use Rattle.std.proofs.Common.{◌≡◌, ◌+◌, ◌++◌, ◌∷◌, [], List, take, append_assoc, arith}
-use Rattle.mwc_pipe.specs.declared.word.Word.{Word}
+use Rattle.mwc_gather.proofs.Imports.{nat_tests, take_more, list_any-append, or-false, ◌≡◌, ◌+◌, ◌++◌, ◌∷◌, [], List, take, append_assoc}
+use Rattle.mwc_gather.proofs.Imports.{arith, Word}
 use Rattle.mwc_gather.proofs.Rooms.{loses_by}
 use Rattle.mwc_gather.proofs.draft.Draft.hear_row.Goals as goal
 

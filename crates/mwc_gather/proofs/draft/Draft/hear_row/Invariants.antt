@@ -1,7 +1,4 @@
-use Rattle.std.proofs.Common.{◌≡◌, take, length}
-use Rattle.std.specs.List.{list_any}
-use Rattle.mwc_gather.specs.Inner.Drafts.{Hears, Grows, LosesForWantOfRoom}
-use Rattle.mwc_gather.specs.Inner.Sending.{is_done, is_end}
+use Rattle.mwc_gather.proofs.Imports.{◌≡◌, take, length, list_any, Hears, Grows, LosesForWantOfRoom, is_done, is_end}
 use Rattle.mwc_gather.proofs.draft.Draft.hear_row.Given as goal
 
 abbrev pub invariant-loop-word : goal.invariant-loop-word

@@ -1,5 +1,4 @@
-use Rattle.std.proofs.{Common.List, Common.arith, Common.take_all, lemmas.Grind.common_steps}
-use Rattle.mwc_gather.specs.declared.part.Part.{Part}
+use Rattle.mwc_gather.proofs.Imports.{List, arith, take_all, common_steps, Part}
 use Rattle.mwc_gather.proofs.Once.{each_once}
 use Rattle.mwc_gather.proofs.gathered.Gathered.piece.Goals as goal
 
