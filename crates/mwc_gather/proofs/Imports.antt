@@ -5,9 +5,9 @@ pub use Rattle.mwc_gather.specs.Inner.Deals.{AreDealt, share_from, share_of, sha
 pub use Rattle.mwc_gather.specs.Inner.Desks.{AllOf, CanEndWith, DealsFirst, DealsTo, IsOf, IsPartOfDesk, view_of, views_of}
 pub use Rattle.mwc_gather.specs.Inner.Drafts.{Grows, Hears, IsDraftOf, LosesForWantOfRoom, fault_in_draft}
 pub use Rattle.mwc_gather.specs.declared.fault.GatherFault.{GatherFault, TheVariants.Memory, TheVariants.TooMany}
-pub use Rattle.mwc_gather.specs.Inner.{Fault.also, Fault.also_all, Fault.fault_of, Gathering.IsComplete, Gathering.all_total}
+pub use Rattle.mwc_gather.specs.Inner.{Fault.first_of_all, Gathering.IsComplete, Gathering.all_total}
 pub use Rattle.mwc_gather.specs.{Parts.HasPieces, Parts.shares, Slicing.Slicing, declared.dealing.Deal.Deal, declared.draft.Draft.Draft}
-pub use Rattle.mwc_gather.specs.{Inner.Jobs.slices_of, declared.desk.Desk.Desk, declared.fault.Met.Met, declared.part.Part.Part}
+pub use Rattle.mwc_gather.specs.{Inner.Jobs.slices_of, declared.desk.Desk.Desk, declared.part.Part.Part}
 pub use Rattle.mwc_gather.specs.{Inner.Times.times_in, Pieces.HasEnds}
 pub use Rattle.mwc_gather.specs.Inner.Sending.{SendsFirst, SendsSome, end_words, is_done, is_end}
 pub use Rattle.mwc_gather.specs.Inner.Settled.{HasAllWords, IsPart, IsSentWhole, ends_from}
