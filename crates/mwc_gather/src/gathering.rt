@@ -7,7 +7,7 @@ ghost use Rattle.council_game.specs.Votes.{minimal_coalitions};
 ghost use Rattle.council_game.specs.Game.{votes_of};
 ghost use Rattle.mwc_gather.specs.Inner.Dealing.{IsFresh};
 ghost use Rattle.mwc_gather.specs.Inner.Fault.{fault_in, first_of_all};
-ghost use Rattle.mwc_gather.specs.Inner.Jobs.{slices_of};
+ghost use Rattle.mwc_gather.specs.Inner.Jobs.{slices_of, Answers};
 ghost use Rattle.mwc_gather.specs.Inner.Desks.{AllOf, DealsTo, CanEndWith, HasStarted, views_of};
 ghost use Rattle.mwc_gather.specs.declared.dealing.Deal.{Deal};
 ghost use Rattle.mwc_gather.specs.Gathering.{Gathers};
@@ -69,10 +69,7 @@ pub fn gather<R: Threads + Wait + Sync, G: Gate + Sync>(
         rt,
         move |scope| -> Result<Gathered, GatherFault>
             requires { (1 ≤ workers) × (workers ≤ WORKERS) }
-            ensures gathers { IfOk result
-                (Gathers (votes_of job.entry.guarded) job.entry.bits workers job.entry.most) }
-            ensures many { result ≡ Err GatherFault.TooMany
-                → job.entry.most < length (minimal_coalitions (votes_of job.entry.guarded)) }
+            ensures { Answers job.entry workers result }
         { run(scope, rt, alloc, &job, workers, bells) },
     )
 }
@@ -88,10 +85,7 @@ fn run<'s, E, R: Threads + Wait + Sync, G: SliceObserver + Sync>(
 ) -> Result<Gathered, GatherFault>
     requires workers { (1 ≤ workers) × (workers ≤ WORKERS) }
     requires gate { (w j : ℕ) → w < workers → j < 2 ^ job.now.bits → G.takes w j }
-    ensures gathers { IfOk result
-        (Gathers (votes_of job.now.guarded) job.now.bits workers job.now.most) }
-    ensures many { result ≡ Err GatherFault.TooMany
-        → job.now.most < length (minimal_coalitions (votes_of job.now.guarded)) }
+    ensures { Answers job.now workers result }
 {
     let (mut desks, met) = open_all(scope, rt, alloc, job, workers, bells);
     let mut deal = Deal {
@@ -106,10 +100,7 @@ fn run<'s, E, R: Threads + Wait + Sync, G: SliceObserver + Sync>(
 /// All that was gathered, unless there is more than was asked for.
 fn all_of<G>(job: &Job<'_, G>, workers: u8, parts: Vec<Part>) -> Result<Gathered, GatherFault>
     requires { IsComplete (slices_of job.now) workers parts.items }
-    ensures gathers { IfOk result
-        (Gathers (votes_of job.now.guarded) job.now.bits workers job.now.most) }
-    ensures many { result ≡ Err GatherFault.TooMany
-        → job.now.most < length (minimal_coalitions (votes_of job.now.guarded)) }
+    ensures answers { Answers job.now workers result }
     ensures fault { IfErr result (λ fault. fault ≡ GatherFault.TooMany) }
 {
     if !fits(parts.as_slice(), job.most) {

@@ -23,8 +23,8 @@ finish_all-requires-clause-dealt g c =
       subst (P (is_some c.open_all-desks.result.1)) (sym all) (subst (λ b. P b new) early c.read_all.ensures.deals),
     )
 
-pub returns-in_err-parts-clause-many : goal.returns-in_err-parts-clause-many
-returns-in_err-parts-clause-many g c = grind (arith, all_total_is)
+pub returns-in_err-parts : goal.returns-in_err-parts
+returns-in_err-parts g c = grind (arith, all_total_is)
 
 pub read_all-requires : goal.read_all-requires
 read_all-requires g c = grind arith
@@ -36,4 +36,4 @@ pub all_of-requires : goal.all_of-requires
 all_of-requires g c = grind arith
 
 pub returns : goal.returns
-returns g c = record { gathers = c.all_of.ensures.gathers; many = c.all_of.ensures.many }
+returns g c = c.all_of.ensures.answers
