@@ -1,5 +1,5 @@
 -- What the workers of some desks were given.
-use Rattle.std.specs.Prelude.{◌≡◌, ◌≢◌, ◌⊎◌, ℕ, ◌<◌, Bool, true, List, Option, Some, None, All, length, map}
+use Rattle.std.specs.Prelude.{◌≡◌, ◌≢◌, ◌⊎◌, ℕ, ◌<◌, ◌≤◌, ◌^◌, Bool, true, List, Option, Some, None, All, length, map, replicate}
 use Rattle.std.specs.List.{AllWithin}
 use Rattle.mwc_gather.specs.Slicing.{Slicing}
 use Rattle.mwc_gather.specs.Inner.Settled.{IsPart}
@@ -12,6 +12,9 @@ use Rattle.mwc_gather.specs.Inner.Dealing.{DeskView, IsWell, IsFresh, DealsInTur
 use Rattle.mwc_gather.specs.Slicing.{slicing}
 use Rattle.mwc_gather.specs.declared.desk.Desk.{Desk}
 use Rattle.mwc_gather.specs.declared.dealing.Deal.{Deal}
+use Rattle.mwc_gather.specs.declared.job.Job.{Job}
+use Rattle.mwc_gather.specs.Inner.Jobs.{slices_of}
+use Rattle.coalitions.specs.declared.limits.TheConstants.{WORKERS}
 
 -- the slices of the game that the worker was given
 abbrev pub desk_slicing : Desk → Slicing
@@ -63,3 +66,8 @@ pub record DealsFirst (g : Slicing) (most : ℕ) (early : Bool) (deal : Deal) (k
   pub all_of : AllOf g most desks
   pub firsts : DealsOneEach g.slices k early deal.marks deal.stopped (views_of desks)
   pub to_come : AllWithin (λ (d : Desk). IsFresh (view_of d)) desks k (length desks)
+
+-- nothing is dealt yet, to the desks of workers that were given the job
+abbrev pub CanDeal : {G : Type 0} → Job G → Deal → List Desk → Type 0
+CanDeal job deal desks = (length desks ≤ WORKERS) × AllOf (slices_of job) job.most desks × All IsFresh (views_of desks)
+    × (deal.marks ≡ replicate (2 ^ job.bits) None)
