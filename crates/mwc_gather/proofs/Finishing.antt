@@ -1,12 +1,26 @@
 -- Workers that are joined, one after another.
-use Rattle.mwc_gather.proofs.Imports.{first_of_all, TooMany, Part, GatherFault, Desk, Deal, IsOf, AllOf, CanEndWith, IsPartOfDesk}
-use Rattle.mwc_gather.proofs.Imports.{◌≡◌, ℕ, ◌<◌, ◌≤◌, Bool, true, false, List, [], ◌∷◌, ◌++◌, Option, Some, None, All, length, refl}
-use Rattle.mwc_gather.proofs.Imports.{is_some, AllZip, ap, subst, arith, sym, ◌∙◌, false≢true, append-nil, Slicing, coalition_count}
-use Rattle.mwc_gather.proofs.Imports.{DealsTo, all_total, IsComplete}
+use Rattle.mwc_gather.specs.Inner.Fault.{first_of_all}
+use Rattle.mwc_gather.proofs.Imports.{TooMany, Part, GatherFault, Desk, Deal, IsOf, AllOf, CanEndWith, IsPartOfDesk, ◌≡◌, ℕ, ◌<◌, ◌≤◌, Bool}
+use Rattle.mwc_gather.proofs.Imports.{true, false, List, [], ◌∷◌, ◌++◌, Option, Some, None, All, length, refl, is_some, AllZip, ap, subst}
+use Rattle.mwc_gather.proofs.Imports.{arith, sym, ◌∙◌, false≢true, append-nil, Slicing, coalition_count, DealsTo, all_total, IsComplete}
+use Rattle.mwc_gather.proofs.Imports.{first_of, Memory}
 use Rattle.std.proofs.lemmas.{List.Elements.All-rest, Slice.Zip.all_zipped_more}
 use Rattle.mwc_gather.proofs.Ends.{first_is_many, head_of, one_done, desks_within, completes}
-use Rattle.mwc_gather.specs.Inner.Fault.{first_of}
-use Rattle.mwc_gather.proofs.Faults.{noted_after}
+
+-- one more answer
+noted_more : (m : Option GatherFault) (whys : List (Option GatherFault)) (w : Option GatherFault)
+    → first_of_all m (whys ++ w ∷ []) ≡ first_of_all (first_of_all m whys) (w ∷ [])
+noted_more m [] w = refl
+noted_more m (None ∷ whys) w = noted_more m whys w
+noted_more m (Some v ∷ whys) w = noted_more (Some (first_of m v)) whys w
+
+pub noted_after : (start met after : Option GatherFault) (whys : List (Option GatherFault)) (w : Option GatherFault) → met ≡ first_of_all start whys
+    → after ≡ first_of_all met (w ∷ []) → after ≡ first_of_all start (whys ++ w ∷ [])
+noted_after start met after whys w e f = f ∙ ap (λ (m : Option GatherFault). first_of_all m (w ∷ [])) e ∙ sym (noted_more start whys w)
+
+-- where there is no room for a part
+pub memory_ends : (g : Slicing) (most : ℕ) (d : Desk) → CanEndWith g most d (Some Memory)
+memory_ends g most d = (λ e. cc, λ e. refl, λ e. absurd cc)
 
 -- some of the workers have ended, and the rest are still to be joined: what was met follows from their answers, and where nothing was met
 -- all of them are parts

@@ -1,9 +1,7 @@
 mod Turns
 mod Firsts
-mod Once
 mod Settles
 mod Readings
-mod Ranges
 mod Shares
 mod Tasks
 mod Rooms
@@ -16,6 +14,5 @@ mod Joins
 mod Deals
 mod Ends
 mod Finishing
-mod Faults
 mod Wholes
 mod Imports

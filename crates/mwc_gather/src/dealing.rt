@@ -5,7 +5,7 @@ ghost use Rattle.coalitions.specs.declared.limits.TheConstants.{WORKERS};
 ghost use Rattle.mwc_pipe.specs.declared.word.Word.{Word};
 ghost use Rattle.mwc_gather.specs.Inner.Sending.{is_done};
 ghost use Rattle.mwc_gather.specs.Inner.Dealing.{TakesTurn, IsFresh};
-ghost use Rattle.mwc_gather.specs.Inner.Jobs.{slices_of};
+ghost use Rattle.mwc_gather.specs.Inner.Gathering.{slices_of};
 ghost use Rattle.mwc_gather.specs.Inner.Desks.{IsSameDesk, view_of, views_of, AllOf, CanDeal, DealsTo, DealsFirst};
 
 use crate::desk::Desk;

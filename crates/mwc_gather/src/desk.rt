@@ -9,7 +9,7 @@ ghost use Rattle.mwc_gather.specs.Inner.Drafts.{IsDraftOf, Hears, LosesForWantOf
 ghost use Rattle.mwc_gather.specs.Inner.Sending.{end_words, is_done};
 ghost use Rattle.mwc_gather.specs.Inner.Dealing.{IsFresh};
 ghost use Rattle.mwc_gather.specs.Inner.Fault.{IsEarly, fault_in};
-ghost use Rattle.mwc_gather.specs.Inner.Jobs.{slices_of};
+ghost use Rattle.mwc_gather.specs.Inner.Gathering.{slices_of};
 ghost use Rattle.mwc_gather.specs.Sending.{HasWorked};
 ghost use Rattle.mwc_gather.specs.Inner.Sending.{is_end};
 

@@ -7,11 +7,10 @@ ghost use Rattle.council_game.specs.Votes.{minimal_coalitions};
 ghost use Rattle.council_game.specs.Game.{votes_of};
 ghost use Rattle.mwc_gather.specs.Inner.Dealing.{IsFresh};
 ghost use Rattle.mwc_gather.specs.Inner.Fault.{fault_in, first_of_all};
-ghost use Rattle.mwc_gather.specs.Inner.Jobs.{slices_of, Answers};
 ghost use Rattle.mwc_gather.specs.Inner.Desks.{AllOf, DealsTo, CanEndWith, HasStarted, views_of};
 ghost use Rattle.mwc_gather.specs.declared.dealing.Deal.{Deal};
 ghost use Rattle.mwc_gather.specs.Gathering.{Gathers};
-ghost use Rattle.mwc_gather.specs.Inner.Gathering.{all_total, IsComplete};
+ghost use Rattle.mwc_gather.specs.Inner.Gathering.{slices_of, all_total, Answers, IsComplete};
 
 use crate::dealing::Deal;
 use crate::desk::Desk;

@@ -13,7 +13,7 @@ use Rattle.mwc_gather.specs.Slicing.{slicing}
 use Rattle.mwc_gather.specs.declared.desk.Desk.{Desk}
 use Rattle.mwc_gather.specs.declared.dealing.Deal.{Deal}
 use Rattle.mwc_gather.specs.declared.job.Job.{Job}
-use Rattle.mwc_gather.specs.Inner.Jobs.{slices_of}
+use Rattle.mwc_gather.specs.Inner.Gathering.{slices_of}
 use Rattle.coalitions.specs.declared.limits.TheConstants.{WORKERS}
 
 -- the slices of the game that the worker was given

@@ -1,6 +1,6 @@
 use Rattle.mwc_gather.proofs.Imports.{common_steps, nat_tests, List, length, ap, arith, Slicing, sum_by, Part, votes_of, slices-joined}
 use Rattle.mwc_gather.proofs.Imports.{slices_of}
-use Rattle.mwc_gather.proofs.{Ends.complete_sum, Ends.end_increases, Once.dealt_each_once, Wholes.all_total_is, Wholes.all_pieces}
+use Rattle.mwc_gather.proofs.{Ends.complete_sum, Ends.end_increases, Wholes.all_total_is, Wholes.all_pieces, Wholes.dealt_each_once}
 use Rattle.mwc_gather.proofs.gathering.all_of.Goals as goal
 
 pub returns-then-not-fits-clause-answers : goal.returns-then-not-fits-clause-answers

@@ -1,6 +1,5 @@
 use Rattle.mwc_gather.proofs.Imports.{ap, Some, refl, rules, arith, common_steps, into_iter_items, Memory, slices_of}
-use Rattle.mwc_gather.proofs.Faults.{memory_ends}
-use Rattle.mwc_gather.proofs.Finishing.{none_joined, fault_met, part_kept, all_complete}
+use Rattle.mwc_gather.proofs.Finishing.{memory_ends, none_joined, fault_met, part_kept, all_complete}
 use Rattle.mwc_gather.proofs.gathering.finish_all.Goals as goal
 
 pub loop-desk-init : goal.loop-desk-init

@@ -1,8 +1,7 @@
-use Rattle.mwc_gather.proofs.Imports.{◌≡◌, [], ◌∷◌, ◌++◌, List, length, rules, arith, refl, sym, ◌∙◌, ap, append-nil, Word, Open}
+use Rattle.mwc_gather.proofs.Imports.{◌≡◌, [], ◌∷◌, ◌++◌, List, length, rules, arith, refl, sym, ◌∙◌, ap, append-nil, Word, Open, GameView}
+use Rattle.mwc_gather.proofs.Imports.{slicing}
 use Rattle.std.proofs.Common.{add-zero}
-use Rattle.council_game.specs.Game.{GameView}
 use Rattle.mwc_walk.specs.WalkView.{WalkView}
-use Rattle.mwc_gather.specs.Slicing.{slicing}
 use Rattle.mwc_gather.proofs.FirstWords.{none_sent}
 use Rattle.mwc_gather.proofs.UnderWay.{one_more, takes_some, sent_cut, takes_some_at_end, sent_whole}
 use Rattle.mwc_gather.proofs.send.send_behind.Goals as goal

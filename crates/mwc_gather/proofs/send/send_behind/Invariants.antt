@@ -1,5 +1,4 @@
-use Rattle.mwc_gather.proofs.{Imports.◌≡◌, Imports.◌<◌, UnderWay.UnderWay}
-use Rattle.mwc_gather.specs.Slicing.{slicing}
+use Rattle.mwc_gather.proofs.{Imports.◌≡◌, Imports.◌<◌, Imports.slicing, UnderWay.UnderWay}
 use Rattle.mwc_gather.proofs.send.send_behind.Given as goal
 
 abbrev pub invariant-loop-coalition : goal.invariant-loop-coalition

@@ -1,5 +1,5 @@
 use Rattle.mwc_gather.proofs.Imports.{List, arith, take_all, common_steps, Part}
-use Rattle.mwc_gather.proofs.Once.{each_once}
+use Rattle.mwc_gather.proofs.Wholes.{each_once}
 use Rattle.mwc_gather.proofs.gathered.Gathered.piece.Goals as goal
 
 pub unreachable-requires : goal.unreachable-requires

@@ -1,4 +1,4 @@
-use Rattle.mwc_gather.proofs.{Imports.◌≡◌, Imports.arith, Ranges.pieces_more, Ranges.same_joined}
+use Rattle.mwc_gather.proofs.{Imports.◌≡◌, Imports.arith, Wholes.pieces_more, Wholes.same_joined}
 use Rattle.mwc_gather.proofs.gathered.Gathered.pieces.Goals as goal
 
 pub loop-number-preserved : goal.loop-number-preserved
