@@ -20,7 +20,7 @@ WANTED = {
     ("mwc_gather/src/observer.rt", "self.pass(worker, slice)"),
     ("mwc_gather/src/guarded.rt", "self.gate.announce(worker, slice);"),
     ("mwc_gather/src/guarded.rt", "self.admit(worker, slice)"),
-    ("mwc_gather/src/send.rt", "let walk = Walk::new(guarded.admit(worker, slice), bits, slice);"),
+    ("mwc_gather/src/send.rt", "let mut walk = Walk::new(guarded.admit(worker, slice), bits, slice);"),
 }
 
 
