@@ -1,14 +1,11 @@
 -- The first deals, and what the end of the deal tells.
-use Rattle.std.proofs.Common.{◌≡◌, ◌⊎◌, ℕ, zero, suc, ◌+◌, ◌<◌, ◌≤◌, Bool, false, ◌||◌, cond, List, [], ◌∷◌, ◌++◌, Option, None, length}
-use Rattle.std.proofs.Common.{map, replicate, All, refl, ltb, set, get_or, ap, subst, arith, sym, ◌∙◌, inl, inr, eq-eqb, ne_eqb}
-use Rattle.std.proofs.Common.{length-append, sum_by}
-use Rattle.std.proofs.{Math.Bool.or-false, lemmas.Bool.false≢true, lemmas.List.get_or_push, lemmas.List.Sums.get_or-le-sum_by}
-use Rattle.std.specs.List.{range_with_len, Sorted.IsStrictlyIncreasing}
-use Rattle.std.proofs.lemmas.List.Elements.{All-head, All-tail, All-map, All-weaker}
+use Rattle.mwc_gather.proofs.Imports.{ne_eqb, length-append, sum_by, or-false, false≢true, range_with_len, IsStrictlyIncreasing, All-head}
+use Rattle.mwc_gather.proofs.Imports.{All-tail, All-weaker, share_from, share_of, AreDealt, Slicing, coalition_count, times_in, DeskView}
+use Rattle.mwc_gather.proofs.Imports.{◌≡◌, ◌⊎◌, ℕ, zero, suc, ◌+◌, ◌<◌, ◌≤◌, Bool, false, ◌||◌, cond, List, [], ◌∷◌, ◌++◌, Option, None}
+use Rattle.mwc_gather.proofs.Imports.{length, map, replicate, All, refl, ltb, set, get_or, ap, subst, arith, sym, ◌∙◌, inl, inr, eq-eqb}
+use Rattle.mwc_gather.proofs.Imports.{IsWell, given_slices, DealsInTurn, TakesTurn, DealsOneEach, IsFresh}
+use Rattle.std.proofs.lemmas.List.{get_or_push, Elements.All-map, Sums.get_or-le-sum_by}
 use Rattle.coalitions.proofs.Shared.Ranges.{sum_by-range-le}
-use Rattle.mwc_gather.specs.{Inner.Deals.share_from, Inner.Deals.share_of, Inner.Deals.AreDealt, Slicing.Slicing, Wording.coalition_count}
-use Rattle.mwc_gather.specs.Inner.Times.{times_in}
-use Rattle.mwc_gather.specs.Inner.Dealing.{DeskView, IsWell, given_slices, DealsInTurn, TakesTurn, DealsOneEach, IsFresh}
 use Rattle.mwc_gather.proofs.Shares.{shares_sum, each_held_once, held_increases}
 use Rattle.mwc_gather.proofs.Turns.{turn_nothing, turn_one, none_free, none_ill, still_held, went_on, share_at}
 

@@ -1,12 +1,9 @@
 mod Turns
 mod Firsts
-mod Once
 mod Settles
 mod Readings
-mod Ranges
 mod Shares
 mod Tasks
-mod Drafts
 mod Rooms
 pub mod Searches
 mod Slices
@@ -17,6 +14,5 @@ mod Joins
 mod Deals
 mod Ends
 mod Finishing
-mod Faults
 mod Wholes
 mod Imports

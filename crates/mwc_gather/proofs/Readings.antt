@@ -1,12 +1,9 @@
 -- What the words of whole slices tell.
-use Rattle.std.proofs.Common.{◌≡◌, ℕ, zero, suc, ◌+◌, ◌-◌, ◌<◌, ◌≤◌, Bool, List, [], ◌∷◌, ◌++◌, length, map, take, drop, refl, flat_map}
-use Rattle.std.proofs.Common.{get_or, ap, arith, ◌∙◌, append_assoc, append-nil, length-append}
-use Rattle.std.proofs.lemmas.{Grind.common_steps, List.Concat.length-flat_map, List.Elements.filter_map-append, List.Sums.sum_by-cons}
-use Rattle.mwc_gather.specs.{Inner.Settled.IsSentWhole, Inner.Settled.ends_from, Slicing.Slicing, Wording.wording, Wording.coalition_count}
-use Rattle.mwc_pipe.specs.declared.word.Word.{Word}
-use Rattle.mwc_pipe.specs.declared.word.Word.TheVariants.{Open, One, Done, End}
+use Rattle.mwc_gather.proofs.Imports.{flat_map, get_or, ap, arith, ◌∙◌, append_assoc, append-nil, length-append, common_steps, sum_by-cons}
+use Rattle.mwc_gather.proofs.Imports.{◌≡◌, ℕ, zero, suc, ◌+◌, ◌-◌, ◌<◌, ◌≤◌, Bool, List, [], ◌∷◌, ◌++◌, length, map, take, drop, refl}
+use Rattle.mwc_gather.proofs.Imports.{IsSentWhole, ends_from, Slicing, wording, coalition_count, Word, Open, One, Done, End, HasEnds}
+use Rattle.std.proofs.lemmas.List.{Concat.length-flat_map, Elements.filter_map-append}
 use Rattle.mwc_gather.specs.Inner.Drafts.{one_in, ones, done_counts}
-use Rattle.mwc_gather.specs.Pieces.{HasEnds}
 
 pub coalitions-cons : (g : Slicing) (j : ℕ) (s : List ℕ) → coalition_count g (j ∷ s) ≡ length (g.slice j) + coalition_count g s
 coalitions-cons g j s = sum_by-cons (λ i. length (g.slice i)) j s

@@ -1,6 +1,6 @@
 -- What the searches at functions may use.
-use Rattle.std.proofs.{Common.zero-add, Common.length-take, lemmas.Grind.common_steps, lemmas.List.Folds.list_any-append}
-use Rattle.std.proofs.{Math.Bool.or-false, Math.Seq.take-set-lt, lemmas.List.flat_map_more}
+use Rattle.std.proofs.{Common.zero-add, Common.length-take, Math.Seq.take-set-lt}
+use Rattle.mwc_gather.proofs.Imports.{common_steps, list_any-append, or-false, flat_map_more}
 use Rattle.mwc_gather.proofs.Readings.{done_counts-append, ones-append}
 use Rattle.coalitions.proofs.Shared.Ranges.{range-more}
 

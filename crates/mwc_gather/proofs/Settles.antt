@@ -1,12 +1,9 @@
 -- From the join of a worker to what is known of its words.
-use Rattle.std.proofs.{Math.Bool.or-true, lemmas.Bool.false≢true, lemmas.Bool.Decides.nat_tests, lemmas.List.Folds.list_any-append}
-use Rattle.std.proofs.Common.{◌≡◌, ◌⊎◌, ℕ, ◌<◌, Bool, true, false, List, [], ◌∷◌, ◌++◌, None, Some, if◌then◌else◌, map, All, refl, arith}
-use Rattle.std.proofs.Common.{sym, ◌∙◌, inl, inr}
-use Rattle.mwc_gather.specs.declared.fault.GatherFault.{GatherFault, TheVariants.TooMany, TheVariants.Memory}
-use Rattle.mwc_gather.specs.{Inner.Settled.IsSentWhole, Inner.Settled.AreSettled, Inner.Settled.HasAllWords, declared.draft.Draft.Draft}
-use Rattle.mwc_gather.specs.{Inner.Drafts.is_cut, Inner.Drafts.has_cut, Inner.Drafts.fault_in_draft, Inner.Sending.end_words, Slicing.Slicing}
-use Rattle.mwc_pipe.specs.declared.word.Word.{Word, TheVariants.One, TheVariants.Done}
-use Rattle.mwc_gather.specs.Wording.{open_words, wording, coalition_count, IsWholeSending, IsCutSending, slice_words}
+use Rattle.mwc_gather.proofs.Imports.{or-true, false≢true, nat_tests, list_any-append, ◌≡◌, ◌⊎◌, ℕ, ◌<◌, Bool, true, false, List, [], ◌∷◌}
+use Rattle.mwc_gather.proofs.Imports.{◌++◌, None, Some, if◌then◌else◌, map, All, refl, arith, sym, ◌∙◌, inl, inr, GatherFault, TooMany}
+use Rattle.mwc_gather.proofs.Imports.{Memory, IsSentWhole, HasAllWords, Draft, fault_in_draft, end_words, Slicing, Word, One, Done}
+use Rattle.mwc_gather.proofs.Imports.{open_words, wording, coalition_count, IsWholeSending, IsCutSending, slice_words}
+use Rattle.mwc_gather.specs.Inner.{Drafts.is_cut, Drafts.has_cut, Settled.AreSettled}
 use Rattle.mwc_gather.proofs.{Readings.Reads, Readings.reads, Tasks.all_taken, Tasks.cut_taken}
 
 pub settles : (g : Slicing) (most : ℕ) (taken left : List Word) (given : List ℕ) (told : Bool) (words : List Word)

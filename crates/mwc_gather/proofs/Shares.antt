@@ -1,11 +1,10 @@
 -- Deals, one slice at a time.
-use Rattle.std.proofs.Common.{ltb, set, get_or, take, add-one, ap, arith, ◌∙◌, eq-eqb, ne_eqb, append-nil, take_all, length-take-le, sum_by}
-use Rattle.std.proofs.Common.{◌≡◌, ℕ, zero, suc, ◌+◌, ◌<◌, ◌≤◌, Bool, true, false, cond, List, [], ◌∷◌, ◌++◌, length, map, All, refl, eqb}
-use Rattle.std.proofs.lemmas.{Bool.Decides.nat_tests, List.FromFn.get_or-map-range_with_len, List.FromFn.length-map-range_with_len}
-use Rattle.std.proofs.lemmas.List.{take_more, Sums.sum_by-cons, Sums.sum_by_push, Sums.sum_by-set}
-use Rattle.std.specs.List.{range_with_len, Sorted.IsStrictlyIncreasing}
-use Rattle.mwc_gather.specs.Inner.Times.{times_in}
-use Rattle.mwc_gather.specs.Inner.Deals.{share_from, share_of, shares_by, AscendsFrom}
+use Rattle.mwc_gather.proofs.Imports.{ltb, set, get_or, take, ap, arith, ◌∙◌, eq-eqb, ne_eqb, append-nil, take_all, sum_by, ◌≡◌, ℕ, zero}
+use Rattle.mwc_gather.proofs.Imports.{suc, ◌+◌, ◌<◌, ◌≤◌, Bool, true, false, cond, List, [], ◌∷◌, ◌++◌, length, map, All, refl, eqb}
+use Rattle.mwc_gather.proofs.Imports.{nat_tests, get_or-map-range_with_len, take_more, sum_by-cons, sum_by_push, range_with_len}
+use Rattle.mwc_gather.proofs.Imports.{IsStrictlyIncreasing, times_in, share_from, share_of, shares_by}
+use Rattle.std.proofs.{Common.add-one, Common.length-take-le, lemmas.List.FromFn.length-map-range_with_len, lemmas.List.Sums.sum_by-set}
+use Rattle.mwc_gather.specs.Inner.Deals.{AscendsFrom}
 use Rattle.coalitions.proofs.Shared.Ranges.{sum_by-range-more}
 
 cons_if : (b : Bool) (j : ℕ) (x a c : List ℕ) → x ≡ a ++ c → cond b (j ∷ x) x ≡ cond b (j ∷ a) a ++ c

@@ -1,9 +1,7 @@
 -- What was taken of the tasks that were given.
-use Rattle.std.proofs.Common.{◌≡◌, ℕ, ◌+◌, ◌<◌, ◌≤◌, Bool, true, false, List, [], ◌∷◌, ◌++◌, length, All, refl, arith}
-use Rattle.std.proofs.lemmas.List.Elements.{All-head, All-tail}
-use Rattle.mwc_gather.specs.{Inner.Sending.end_words, Slicing.Slicing, Wording.open_words, Wording.IsLast, Wording.coalition_count}
-use Rattle.mwc_pipe.specs.declared.word.Word.{Word}
-use Rattle.mwc_pipe.specs.declared.word.Word.TheVariants.{Open, One, Done, End}
+use Rattle.mwc_gather.proofs.Imports.{◌≡◌, ℕ, ◌+◌, ◌<◌, ◌≤◌, Bool, true, false, List, [], ◌∷◌, ◌++◌, length, All, refl, arith, All-head}
+use Rattle.mwc_gather.proofs.Imports.{All-tail, end_words, Slicing, open_words, coalition_count, Word, Open, One, Done, End}
+use Rattle.mwc_gather.specs.Wording.{IsLast}
 use Rattle.mwc_gather.proofs.Readings.{coalitions-cons}
 
 -- no word that ends the work is a task that gives a slice

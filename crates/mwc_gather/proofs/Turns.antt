@@ -1,15 +1,12 @@
 -- One turn of the deal.
-use Rattle.std.proofs.Common.{◌≡◌, ◌⊎◌, ℕ, zero, suc, ◌+◌, ◌<◌, Bool, true, false, ◌||◌, List, [], ◌∷◌, ◌++◌, Option, Some, None, IsSome}
-use Rattle.std.proofs.Common.{length, map, replicate, All, refl, set, get_or, ap, subst, arith, sym, ◌∙◌, inl, inr, length-set}
-use Rattle.std.proofs.Common.{length-append}
-use Rattle.std.proofs.{Math.Bool.or_assoc, Math.Bool.or-false, Math.Bool.or-true, lemmas.List.FromFn.get_or-map-range_with_len}
-use Rattle.std.proofs.lemmas.{Bool.false≢true, Grind.common_steps}
-use Rattle.std.specs.List.{range_with_len, list_any}
-use Rattle.std.proofs.lemmas.List.{length-map, get_or-map, set-get_or, map-set}
-use Rattle.std.proofs.lemmas.List.Elements.{All-head, All-tail, All-weaker, All-set, All-push}
-use Rattle.mwc_gather.specs.{Inner.Deals.share_of, Inner.Deals.shares_by, Inner.Deals.AreDealt, Table.IsFirstFree}
-use Rattle.mwc_gather.specs.Inner.Dealing.{DeskView, IsWell, is_ill, given_slices, DealsInOrder, DealsInTurn, GivesNothing, GivesOne}
-use Rattle.mwc_gather.specs.Inner.Dealing.{TakesTurn}
+use Rattle.mwc_gather.proofs.Imports.{range_with_len, list_any, length-map, get_or-map, map-set, All-head, All-tail, All-weaker, All-push}
+use Rattle.mwc_gather.proofs.Imports.{◌≡◌, ◌⊎◌, ℕ, zero, suc, ◌+◌, ◌<◌, Bool, true, false, ◌||◌, List, [], ◌∷◌, ◌++◌, Option, Some, None}
+use Rattle.mwc_gather.proofs.Imports.{length-set, length-append, or-false, or-true, get_or-map-range_with_len, false≢true, common_steps}
+use Rattle.mwc_gather.proofs.Imports.{IsSome, length, map, replicate, All, refl, set, get_or, ap, subst, arith, sym, ◌∙◌, inl, inr}
+use Rattle.mwc_gather.proofs.Imports.{share_of, shares_by, AreDealt, DeskView, IsWell, given_slices, DealsInTurn, TakesTurn}
+use Rattle.std.proofs.{Math.Bool.or_assoc, lemmas.List.set-get_or, lemmas.List.Elements.All-set}
+use Rattle.mwc_gather.specs.Table.{IsFirstFree}
+use Rattle.mwc_gather.specs.Inner.Dealing.{is_ill, DealsInOrder, GivesNothing, GivesOne}
 use Rattle.mwc_gather.proofs.Shares.{deal_from}
 use Rattle.std.proofs.Math.ListN as list
 

@@ -1,6 +1,4 @@
 -- What only proofs, private functions and invariants need: no public contract mentions it.
-pub mod Times
-pub mod Jobs
 pub mod Drafts
 pub mod Deals
 pub mod Dealing

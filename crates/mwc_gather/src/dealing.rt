@@ -5,8 +5,8 @@ ghost use Rattle.coalitions.specs.declared.limits.TheConstants.{WORKERS};
 ghost use Rattle.mwc_pipe.specs.declared.word.Word.{Word};
 ghost use Rattle.mwc_gather.specs.Inner.Sending.{is_done};
 ghost use Rattle.mwc_gather.specs.Inner.Dealing.{TakesTurn, IsFresh};
-ghost use Rattle.mwc_gather.specs.Inner.Jobs.{slices_of};
-ghost use Rattle.mwc_gather.specs.Inner.Desks.{IsSameDesk, view_of, views_of, AllOf, DealsTo, DealsFirst};
+ghost use Rattle.mwc_gather.specs.Inner.Gathering.{slices_of};
+ghost use Rattle.mwc_gather.specs.Inner.Desks.{IsSameDesk, view_of, views_of, AllOf, CanDeal, DealsTo, DealsFirst};
 
 use crate::desk::Desk;
 use crate::job::Job;
@@ -89,10 +89,7 @@ impl Deal {
         desks: &mut [Desk],
         bells: &Bells,
     )
-        requires few { length desks.old ≤ WORKERS }
-        requires all_of { AllOf (slices_of job.now) job.now.most desks.old }
-        requires fresh { All IsFresh (views_of desks.old) }
-        requires marks { self.old.marks ≡ replicate (2 ^ job.now.bits) None }
+        requires { CanDeal job.now self.old desks.old }
         ensures { DealsFirst (slices_of job.now) job.now.most self.old.stopped
             self.new (length desks.old) desks.new }
     {
@@ -110,10 +107,7 @@ impl Deal {
         desks: &mut [Desk],
         bells: &Bells,
     )
-        requires few { length desks.old ≤ WORKERS }
-        requires all_of { AllOf (slices_of job.now) job.now.most desks.old }
-        requires fresh { All IsFresh (views_of desks.old) }
-        requires marks { self.old.marks ≡ replicate (2 ^ job.now.bits) None }
+        requires { CanDeal job.now self.old desks.old }
         ensures deals { DealsTo (slices_of job.now) job.now.most self.old.stopped
             self.new desks.new }
         ensures ended { All (λ d. d.ended ≡ true) desks.new }

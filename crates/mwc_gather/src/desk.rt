@@ -5,11 +5,11 @@ ghost use Rattle.coalitions.specs.declared.limits.TheConstants.{WORKERS};
 ghost use Rattle.mwc_pipe.specs.declared.word.Word.{Word};
 ghost use Rattle.mwc_gather.specs.Slicing.{Slicing};
 ghost use Rattle.mwc_gather.specs.Wording.{open_words};
-ghost use Rattle.mwc_gather.specs.Inner.Drafts.{IsDraftOf, LosesForWantOfRoom};
+ghost use Rattle.mwc_gather.specs.Inner.Drafts.{IsDraftOf, Hears, LosesForWantOfRoom};
 ghost use Rattle.mwc_gather.specs.Inner.Sending.{end_words, is_done};
 ghost use Rattle.mwc_gather.specs.Inner.Dealing.{IsFresh};
 ghost use Rattle.mwc_gather.specs.Inner.Fault.{IsEarly, fault_in};
-ghost use Rattle.mwc_gather.specs.Inner.Jobs.{slices_of};
+ghost use Rattle.mwc_gather.specs.Inner.Gathering.{slices_of};
 ghost use Rattle.mwc_gather.specs.Sending.{HasWorked};
 ghost use Rattle.mwc_gather.specs.Inner.Sending.{is_end};
 
@@ -168,10 +168,9 @@ impl Desk {
         ensures cut { self.new.draft.cut ≡ false → self.old.draft.cut ≡ false }
     {
         let count = self.words.take_some(row);
-        let words = &row[..count];
-        self.draft.hear_row(words);
-        self.idle |= one_tells_whole(words);
-        self.ended |= one_is_end(words);
+        let news = self.draft.hear_row(&row[..count]);
+        self.idle |= news.done;
+        self.ended |= news.end;
         count
     }
 
@@ -237,40 +236,9 @@ fn put<R: Wait>(rt: &R, tasks: &mut RingIn, mut task: Word, pair: BellPair<'_>)
     unreachable!()
 }
 
-/// Whether a word tells that a slice is whole.
-fn tells_whole(word: &Word) -> bool
-    ensures { result ≡ is_done word.now }
-{
-    matches!(word, Word::Done(_))
-}
-
-/// Whether one of the words does.
-fn one_tells_whole(words: &[Word]) -> bool
-    ensures { result ≡ list_any is_done words.now }
-{
-    words.iter().any(tells_whole)
-}
-
-/// Whether a word is the last of a worker.
-fn is_end(word: &Word) -> bool
-    ensures { result ≡ is_end word.now }
-{
-    matches!(word, Word::End { cut: _ })
-}
-
-/// Whether one of the words is.
-fn one_is_end(words: &[Word]) -> bool
-    ensures { result ≡ list_any is_end words.now }
-{
-    words.iter().any(is_end)
-}
-
 /// Keeps all words that are left.
 fn drain(mut rest: Rest, draft: &mut Draft)
-    ensures keeps { (words : List Word)
-        → IsDraftOf words draft.old → IsDraftOf (words ++ rest) draft.new }
-    ensures lost { draft.new.lost ≡ false → draft.old.lost ≡ false }
-    ensures cut { draft.new.cut ≡ false → draft.old.cut ≡ false }
+    ensures { Hears draft.old rest draft.new }
 {
     while let Some(word) = rest.next() {
         draft.hear(word);

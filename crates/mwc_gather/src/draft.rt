@@ -1,10 +1,11 @@
 //! A part as its words come.
-ghost use Rattle.std.specs.Prelude.{◌≡◌, [], ◌∷◌, ◌++◌, List, false, length, None, Some, IfOk, IfErr, OnErr, OnOk, true};
+ghost use Rattle.std.specs.Prelude.{◌≡◌, [], ◌∷◌, length, None, IfOk, IfErr, true, false};
+ghost use Rattle.std.specs.List.{list_any};
 ghost use Rattle.mwc_pipe.specs.declared.word.Word.{Word};
-ghost use Rattle.mwc_gather.specs.Inner.Drafts.{ones, done_counts};
 ghost use Rattle.mwc_gather.specs.Pieces.{HasEnds};
-ghost use Rattle.mwc_gather.specs.Inner.Drafts.{is_cut, IsDraftOf, IsPartOfDraft, fault_in_draft};
-ghost use Rattle.mwc_gather.specs.Inner.Drafts.{Grows, LacksRoom, LosesForWantOfRoom};
+ghost use Rattle.mwc_gather.specs.Inner.Drafts.{Hears, Grows, LosesForWantOfRoom};
+ghost use Rattle.mwc_gather.specs.Inner.Drafts.{IsDraftOf, IsPartOfDraft, fault_in_draft};
+ghost use Rattle.mwc_gather.specs.Inner.Sending.{is_done, is_end};
 
 use crate::fault::GatherFault;
 use crate::part::Part;
@@ -24,6 +25,15 @@ pub(crate) struct Draft {
     /// Whether something was lost for want of memory, which is only where there was no room for it. Nothing
     /// is kept from then on.
     pub lost: bool,
+}
+
+/// What the words of a row tell of their worker.
+#[derive(Clone, Copy)]
+pub(crate) struct News {
+    /// Whether it has finished a slice.
+    pub done: bool,
+    /// Whether it has ended.
+    pub end: bool,
 }
 
 impl Draft {
@@ -46,48 +56,52 @@ impl Draft {
     /// Keeps one more word.
     #[tactic(auto, using(crate::proofs::Searches::for_hear))]
     pub fn hear(&mut self, word: Word)
-        ensures keeps { (words : List Word) → IsDraftOf words self.old →
-            IsDraftOf (words ++ word ∷ []) self.new }
-        ensures lost { self.new.lost ≡ false → self.old.lost ≡ false }
-        ensures cut { self.new.cut ≡ false → self.old.cut ≡ false }
+        ensures hears { Hears self.old (word ∷ []) self.new }
         ensures grows { Grows self.old 1 self.new }
         ensures full { LosesForWantOfRoom self.old 1 self.new }
     {
-        // a copy of its own for each of the two calls: the prover follows no word that two calls take
-        let again = word;
-        self.cut |= tells_cut(again);
-        if self.lost {
-            return;
-        }
-        // memory: a growth that was refused, or the count below
-        if self.keep(word).is_err() {
-            // memory: the growth was refused
-            self.lost = true;
+        match word {
+            Word::One(coalition) if !self.lost => {
+                // memory: the growth was refused
+                self.lost = self.got.push(coalition).is_err();
+            }
+            Word::Done(_) if !self.lost => match u32::try_from(self.got.len()) {
+                // memory: the growth was refused
+                Ok(end) => self.lost = self.ends.push(end).is_err(),
+                // memory: 2^32 coalitions would take more than 32 GB
+                Err(_) => self.lost = true,
+            },
+            Word::End { cut } => self.cut |= cut,
+            Word::Open(_) | Word::One(_) | Word::Done(_) => {}
         }
     }
 
-    /// Keeps the words of a row, for whose coalitions room is made once.
-    pub fn hear_row(&mut self, row: &[Word])
-        ensures keeps { (words : List Word) → IsDraftOf words self.old →
-            IsDraftOf (words ++ row.now) self.new }
-        ensures lost { self.new.lost ≡ false → self.old.lost ≡ false }
-        ensures cut { self.new.cut ≡ false → self.old.cut ≡ false }
+    /// Keeps the words of a row, for whose coalitions room is made once, and returns what they tell of
+    /// the worker.
+    pub fn hear_row(&mut self, row: &[Word]) -> News
+        ensures hears { Hears self.old row.now self.new }
         ensures full { LosesForWantOfRoom self.old (length row.now) self.new }
+        ensures done { result.done ≡ list_any is_done row.now }
+        ensures end { result.end ≡ list_any is_end row.now }
     {
+        let mut news = News {
+            done: false,
+            end: false,
+        };
         if self.got.reserve(row.len()).is_err() {
             self.lose();
         }
         for word in row {
             self.hear(*word);
+            news.done |= matches!(word, Word::Done(_));
+            news.end |= matches!(word, Word::End { .. });
         }
+        news
     }
 
-    /// Something is lost: nothing is kept from here on.
+    /// Notes a loss: nothing is kept from here on.
     pub fn lose(&mut self)
-        ensures keeps { (words : List Word) → IsDraftOf words self.old → IsDraftOf words self.new }
-        ensures lost { self.new.lost ≡ true }
-        ensures cut { self.new.cut ≡ self.old.cut }
-        ensures same { Grows self.old 0 self.new }
+        ensures { self.new ≡ record self.old { lost = true } }
     {
         // memory: the call that tells a loss
         self.lost = true;
@@ -116,39 +130,5 @@ impl Draft {
             ends: self.ends,
             got: self.got,
         })
-    }
-
-    /// Keeps what the word tells of coalitions. A count that does not fit is told as want of
-    /// memory: 2^32 coalitions would take more than 32 GB.
-    fn keep(&mut self, word: Word) -> Result<(), Memory>
-        ensures got { OnOk result (self.new.got.items ≡ self.old.got.items ++ ones (word ∷ [])) }
-        ensures ends { OnOk result (self.new.ends.items ≡ self.old.ends.items
-            ++ done_counts (length self.old.got.items) (word ∷ [])) }
-        ensures same { (self.new.cut ≡ self.old.cut) × (self.new.lost ≡ self.old.lost) }
-        ensures grows { Grows self.old 1 self.new }
-        ensures full { OnErr result (LacksRoom self.old 1) }
-    {
-        match word {
-            Word::One(coalition) => self.got.push(coalition)?,
-            Word::Done(_) => {
-                let Ok(end) = u32::try_from(self.got.len()) else {
-                    // memory: a count past 32 bits: 2^32 coalitions take more than 32 GB
-                    return Err(Memory);
-                };
-                self.ends.push(end)?;
-            }
-            Word::Open(_) | Word::End { .. } => {}
-        }
-        Ok(())
-    }
-}
-
-/// Whether a word tells of a cut.
-fn tells_cut(word: Word) -> bool
-    ensures { result ≡ is_cut word }
-{
-    match word {
-        Word::End { cut } => cut,
-        Word::Open(_) | Word::One(_) | Word::Done(_) => false,
     }
 }

@@ -1,6 +1,6 @@
-//! Why nothing was gathered: what was met, and which fault is answered.
+//! Why nothing was gathered.
 ghost use Rattle.std.specs.Prelude.{◌≡◌};
-ghost use Rattle.mwc_gather.specs.Inner.Fault.{fault_of, also, nothing};
+ghost use Rattle.mwc_gather.specs.Inner.Fault.{first_of};
 ghost use Rattle.mwc_gather.specs.declared.fault.GatherFault.TheVariants.{Memory};
 
 use std::alloc::AllocError;
@@ -40,62 +40,15 @@ impl From<council_game::Memory> for GatherFault {
     }
 }
 
-/// Which faults were met: a gatherer answers the first of them.
-#[derive(Clone, Copy, Debug)]
-pub(crate) struct Met {
-    /// A worker could not be started.
-    pub start: bool,
-    /// A growth was refused.
-    pub memory: bool,
-    /// A ring could not be finished.
-    pub ring: bool,
-    /// There are more coalitions than were asked for.
-    pub many: bool,
-}
-
-impl Met {
-    /// Nothing was met.
-    pub fn nothing() -> Met
-        ensures { result ≡ nothing }
-    {
-        Met {
-            start: false,
-            memory: false,
-            ring: false,
-            many: false,
-        }
-    }
-
-    /// This fault was met too.
-    pub fn note(&mut self, fault: GatherFault)
-        ensures { self.new ≡ also self.old fault }
-    {
-        match fault {
-            GatherFault::TooMany => self.many = true,
-            GatherFault::Start => self.start = true,
-            GatherFault::Memory => self.memory = true,
-            GatherFault::Ring => self.ring = true,
-        }
-    }
-
-    /// The fault that is answered: Start before Memory, Memory before Ring, Ring before TooMany.
-    pub fn fault(&self) -> Option<GatherFault>
-        ensures { result ≡ fault_of self.now }
-    {
-        if self.start {
-            // memory: it was answered elsewhere, and noted
-            return Some(GatherFault::Start);
-        }
-        if self.memory {
-            // memory: it was answered elsewhere, and noted
-            return Some(GatherFault::Memory);
-        }
-        if self.ring {
-            return Some(GatherFault::Ring);
-        }
-        if self.many {
-            return Some(GatherFault::TooMany);
-        }
-        None
+/// Returns which fault is answered where this one is met after `met`: Start before Memory, Memory
+/// before Ring, Ring before TooMany.
+pub(crate) fn first_of(met: Option<GatherFault>, fault: GatherFault) -> GatherFault
+    ensures { result ≡ first_of met fault }
+{
+    match (met, fault) {
+        (None | Some(GatherFault::TooMany), _) => fault,
+        (Some(GatherFault::Start), _) | (_, GatherFault::Start) => GatherFault::Start,
+        (Some(GatherFault::Memory), _) | (_, GatherFault::Memory) => GatherFault::Memory,
+        (Some(GatherFault::Ring), _) => GatherFault::Ring,
     }
 }

@@ -34,13 +34,13 @@ impl<'a, G: Gate> Guarded<'a, G> {
     pub fn pass(&self, worker: u8, slice: u16) -> &Game
         ensures { result.now ≡ self.now }
     {
-        self.enter(worker, slice)
+        self.admit(worker, slice)
     }
 }
 
 impl<'a, G: SliceObserver> Guarded<'a, G> {
     /// Passes the gate for a worker and slice that it may hear of, and then returns the game.
-    pub(crate) fn enter(&self, worker: u8, slice: u16) -> &Game
+    pub(crate) fn admit(&self, worker: u8, slice: u16) -> &Game
         requires { G.takes worker slice }
         ensures { result.now ≡ self.now }
     {

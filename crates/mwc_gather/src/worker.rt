@@ -1,7 +1,7 @@
 //! The body of a worker's thread.
 ghost use Rattle.std.specs.Prelude.{◌≡◌, ℕ, ◌+◌, ◌<◌, ◌≤◌, ◌^◌, ◌++◌, ◌∷◌, [], length, IfOk, MatchOption};
 ghost use Rattle.coalitions.specs.declared.limits.TheConstants.{BITS, WORKERS, COALITIONS};
-ghost use Rattle.mwc_gather.specs.Inner.Jobs.{slices_of};
+ghost use Rattle.mwc_gather.specs.Inner.Gathering.{slices_of};
 ghost use Rattle.mwc_gather.specs.Slicing.{slicing};
 ghost use Rattle.mwc_gather.specs.Sending.{HasWorked};
 ghost use Rattle.mwc_gather.specs.Inner.Sending.{TakesLast, TakesTask};

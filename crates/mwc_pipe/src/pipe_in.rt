@@ -1,6 +1,6 @@
 //! What items can be put into.
-ghost use Rattle.std.specs.Prelude.{◌≡◌, ◌++◌, ◌∷◌, [], List, Bool, OnOk, IfErr};
-ghost use Rattle.mwc_pipe.specs.Refusal.{handed_back, broken_after};
+ghost use Rattle.std.specs.Prelude.{◌≡◌, List, Bool};
+ghost use Rattle.mwc_pipe.specs.Refusal.{PutsIn};
 
 use crate::refused::Refused;
 
@@ -27,9 +27,6 @@ pub trait PipeIn<T> {
     /// good; after Full a later put may succeed.
     fn put(&mut self, item: T) -> Result<(), Refused<T>>
         ensures identity { identity self.new ≡ identity self.old }
-        ensures ok { OnOk result ((accepted self.new ≡ accepted self.old ++ item ∷ [])
-            × (broken self.new ≡ broken self.old)) }
-        ensures refused { IfErr result (λ e. (handed_back e ≡ item)
-            × (accepted self.new ≡ accepted self.old)
-            × (broken self.new ≡ broken_after e (broken self.old))) };
+        ensures put { PutsIn item (accepted self.old) (broken self.old) result
+            (accepted self.new) (broken self.new) };
 }

@@ -3,7 +3,7 @@ ghost use Rattle.std.specs.Prelude.{◌≡◌, ◌+◌, ◌<◌, ◌≤◌, List
 ghost use Rattle.mwc_pipe.specs.declared.word.Word.{Word};
 ghost use Rattle.mwc_pipe.specs.History.{Event};
 ghost use Rattle.mwc_pipe.specs.RowSteps.{AreAnswered, IsSeenByIn, puts_of};
-ghost use Rattle.mwc_pipe.specs.Refusal.{handed_back, broken_after};
+ghost use Rattle.mwc_pipe.specs.Refusal.{PutsIn};
 ghost use Rattle.mwc_pipe.specs.RingName.{RingName};
 
 use crate::closed::{Closed, Unfinished};
@@ -113,10 +113,7 @@ impl PipeIn<Word> for RingIn {
     /// Full where the ring is full, and no other refusal: a ring is never broken.
     fn put(&mut self, item: Word) -> Result<(), Refused<Word>>
         ensures identity { self.new.ring ≡ self.old.ring }
-        ensures ok { OnOk result
-            ((self.new.accepted ≡ self.old.accepted ++ item ∷ []) × (false ≡ false)) }
-        ensures refused { IfErr result (λ e. (handed_back e ≡ item)
-            × (self.new.accepted ≡ self.old.accepted) × (false ≡ broken_after e false)) }
+        ensures put { PutsIn item self.old.accepted false result self.new.accepted false }
         ensures full { IfErr result (λ e. e ≡ Refused.Full item) }
         ensures room { length self.old.accepted < self.old.capacity → IsOk result }
     {

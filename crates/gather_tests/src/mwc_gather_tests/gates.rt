@@ -5,14 +5,18 @@ use super::*;
 use mwc_pipe::Refused;
 use std::array;
 
-/// A gate that keeps of each of 64 slices how often it passed and by which worker, and counts what is
-/// told of any other slice or worker.
+/// A gate that keeps of each of 64 slices how often it passed and by which worker, counts how often
+/// any other slice or worker passed, and adds up what it is informed of.
 #[derive(Drop)]
 struct Seen {
     workers: u8,
     passed: [AtomicU64; 64],
     by: [AtomicU64; 64],
     other: AtomicU64,
+    prefixes: AtomicU64,
+    /// The most prefixes that one call told of.
+    most_at_once: AtomicU64,
+    found: AtomicU64,
 }
 
 impl Seen {
@@ -22,7 +26,15 @@ impl Seen {
             passed: array::from_fn(|_| AtomicU64::new(0)),
             by: array::from_fn(|_| AtomicU64::new(0)),
             other: AtomicU64::new(0),
+            prefixes: AtomicU64::new(0),
+            most_at_once: AtomicU64::new(0),
+            found: AtomicU64::new(0),
         }
+    }
+
+    /// How many coalitions all calls of `inform` told of.
+    fn found(&self) -> u64 {
+        self.found.load(Ordering::SeqCst)
     }
 
     /// How often slice `slice` passed.
@@ -51,6 +63,12 @@ impl Gate for Seen {
             self.other.fetch_add(1, Ordering::SeqCst);
         }
     }
+
+    fn inform(&self, prefixes: u64, found: u64) {
+        self.prefixes.fetch_add(prefixes, Ordering::SeqCst);
+        self.most_at_once.fetch_max(prefixes, Ordering::SeqCst);
+        self.found.fetch_add(found, Ordering::SeqCst);
+    }
 }
 
 /// What each gate saw are the slices of the parts, and each worker began with that of its own number.
@@ -77,6 +95,7 @@ fn gates_see_the_slices_of_the_parts(rt: HostRuntime) {
             );
         }
         same(&rt, count, 64, ("workers", workers));
+        same(&rt, seen.found(), 792, ("workers", workers));
         same(
             &rt,
             seen.other.load(Ordering::SeqCst),
@@ -84,6 +103,19 @@ fn gates_see_the_slices_of_the_parts(rt: HostRuntime) {
             ("workers", workers),
         );
     }
+}
+
+/// What all calls of `inform` tell of adds up to all that was found, about 1,048,576 prefixes a call.
+#[test]
+fn informs_add_up(rt: HostRuntime) {
+    let game = game(&rt, rt.alloc(), 11, &[1; 22]);
+    let seen = Seen::new(1);
+    let gathered = gathered(&rt, rt.alloc(), &game, &seen, 0, 1, 1_000_000).expect(&rt, "parts");
+    same(&rt, gathered.parts.len(), 1, "parts");
+    same(&rt, seen.found(), 705_432, "found");
+    let prefixes = seen.prefixes.load(Ordering::SeqCst);
+    let most = seen.most_at_once.load(Ordering::SeqCst);
+    same(&rt, (prefixes > 1_048_576, most < 1_048_576 + 22), (true, true), (prefixes, most));
 }
 
 /// A slice whose sending is cut has passed once, and those after it, which nobody was given, never.
@@ -146,7 +178,11 @@ impl<'a> PipeIn<Word> for Behind<'a> {
 #[test]
 fn a_slice_passes_before_its_first_word(rt: HostRuntime) {
     let game = five(&rt, rt.alloc());
-    for (left, wanted) in [(6, Sent::Whole { left: 3 }), (3, Sent::Cut), (1, Sent::Cut)] {
+    for (left, wanted, found) in [
+        (6, Sent::Whole { left: 3 }, 3),
+        (3, Sent::Cut, 3),
+        (1, Sent::Cut, 1),
+    ] {
         assert!(rt; 0 < left && left < 7);
         let seen = Seen::new(2);
         let guarded = Guarded::new(&game, &seen);
@@ -161,11 +197,8 @@ fn a_slice_passes_before_its_first_word(rt: HostRuntime) {
             wanted,
             "send_slice",
         );
-        let found = (
-            pipe.early,
-            seen.passed_by(1, 1),
-            seen.other.load(Ordering::SeqCst),
-        );
-        same(&rt, found, (false, true, 0), left);
+        let other = seen.other.load(Ordering::SeqCst);
+        let told = (pipe.early, seen.passed_by(1, 1), other, seen.found());
+        same(&rt, told, (false, true, 0, found), left);
     }
 }

@@ -1,6 +1,6 @@
 -- Who holds which slice: what only proofs and private functions need.
 use Rattle.std.specs.Prelude.{◌≡◌, ℕ, ◌+◌, ◌<◌, ◌≤◌, List, [], ◌∷◌, length, map, All, if◌then◌else◌, ◌==◌}
-use Rattle.std.specs.List.{range_with_len}
+use Rattle.std.specs.List.{range_with_len, sum_by}
 
 -- of the slices from j on, with their holders in a row, those that worker w holds
 abbrev pub share_from : ℕ → ℕ → List ℕ → List ℕ
@@ -26,3 +26,7 @@ pub record AreDealt (n : ℕ) (shares : List (List ℕ)) : Type 0 where
 abbrev pub AscendsFrom : ℕ → List ℕ → Type 0
 AscendsFrom n [] = Unit {0}
 AscendsFrom n (j ∷ js) = (n ≤ j) × AscendsFrom (j + 1) js
+
+-- how often a number stands in a list
+abbrev pub times_in : ℕ → List ℕ → ℕ
+times_in i s = sum_by (λ x. if x == i then 1 else 0) s

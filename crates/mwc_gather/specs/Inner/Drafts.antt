@@ -1,5 +1,5 @@
 -- What is kept of a worker's words, and room for it.
-use Rattle.std.specs.Prelude.{◌≡◌, ◌⊎◌, ◌+◌, ◌<◌, ◌≤◌, ◌^◌, ℕ, Bool, true, false, List, [], ◌∷◌, Option, Some, None, if◌then◌else◌, vec_len}
+use Rattle.std.specs.Prelude.{◌≡◌, ◌⊎◌, ◌+◌, ◌<◌, ◌≤◌, ◌^◌, ℕ, Bool, true, false, List, [], ◌∷◌, ◌++◌, Option, Some, None, if◌then◌else◌, vec_len}
 use Rattle.std.specs.List.{filter_map, list_any}
 use Rattle.std.specs.Vec.{vec_capacity}
 use Rattle.mwc_pipe.specs.declared.word.Word.{Word}
@@ -40,6 +40,11 @@ pub record IsDraftOf (words : List Word) (draft : Draft) : Type 0 where
   pub cut_is : draft.cut ≡ has_cut words
   pub got_are : draft.lost ≡ false → draft.got.items ≡ ones words
   pub ends_are : draft.lost ≡ false → draft.ends.items ≡ done_counts 0 words
+
+-- these words were heard: they are kept after those before, and what was lost or cut stays so
+abbrev pub Hears : Draft → List Word → Draft → Type 0
+Hears old row new = ((words : List Word) → IsDraftOf words old → IsDraftOf (words ++ row) new)
+    × (new.lost ≡ false → old.lost ≡ false) × (new.cut ≡ false → old.cut ≡ false)
 
 -- why a draft can be no part: something was lost, or else there was a cut
 abbrev pub fault_in_draft : Draft → Option GatherFault

@@ -13,7 +13,6 @@ loop-worker-preserved g c =
           (All-push (IsOf game c.args.job.now.most) c.loop-worker.desks.items c.in-Ok.desk i.2 c.in-Ok.ensures.order),
       subst (λ (w : List Desk). All IsFresh (views_of w)) (sym c.push_reserved.ensures.items)
           (fresh_push c.loop-worker.desks.items c.in-Ok.desk i.3 c.in-Ok.ensures.fresh),
-      i.4,
     )
 
 pub returns-then-is_err : goal.returns-then-is_err

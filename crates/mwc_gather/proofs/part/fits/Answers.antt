@@ -1,5 +1,5 @@
-use Rattle.std.proofs.{Common.◌+◌, Common.length, Common.arith, lemmas.List.Sums.sum_by-take-le, lemmas.List.Sums.sum_by_more}
-use Rattle.mwc_gather.specs.declared.part.Part.{Part}
+use Rattle.mwc_gather.proofs.Imports.{◌+◌, length, arith, Part}
+use Rattle.std.proofs.lemmas.List.Sums.{sum_by-take-le, sum_by_more}
 use Rattle.mwc_gather.proofs.part.fits.Goals as goal
 
 pub returns-then-len-left-clause-many : goal.returns-then-len-left-clause-many

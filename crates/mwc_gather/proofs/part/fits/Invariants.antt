@@ -1,5 +1,4 @@
-use Rattle.std.proofs.Common.{◌≡◌, ◌+◌, length, take, sum_by}
-use Rattle.mwc_gather.specs.declared.part.Part.{Part}
+use Rattle.mwc_gather.proofs.Imports.{◌≡◌, ◌+◌, length, take, sum_by, Part}
 use Rattle.mwc_gather.proofs.part.fits.Given as goal
 
 abbrev pub invariant-loop-part : goal.invariant-loop-part

@@ -1,6 +1,5 @@
 use Rattle.mwc_gather.proofs.Imports.{◌≡◌, ℕ, ◌+◌, ◌<◌, List, [], ◌∷◌, ◌++◌, length, rules, arith, sym, ◌∙◌, ap, All-push, Word, Open}
-use Rattle.mwc_gather.proofs.Imports.{Slicing, slice_words, coalition_count, slices_of, map_push}
-use Rattle.std.proofs.lemmas.List.{flat_map_more, Sums.sum_by_push}
+use Rattle.mwc_gather.proofs.Imports.{Slicing, slice_words, coalition_count, slices_of, map_push, flat_map_more, sum_by_push}
 use Rattle.mwc_gather.proofs.worker.work_beside.Goals as goal
 
 pub loop-init : goal.loop-init

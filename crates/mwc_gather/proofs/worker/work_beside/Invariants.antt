@@ -1,5 +1,4 @@
-use Rattle.mwc_gather.proofs.Imports.{◌≡◌, ℕ, ◌+◌, ◌<◌, List, All, coalition_count, slices_of}
-use Rattle.mwc_gather.specs.Wording.{open_words, wording}
+use Rattle.mwc_gather.proofs.Imports.{◌≡◌, ℕ, ◌+◌, ◌<◌, List, All, coalition_count, slices_of, open_words, wording}
 use Rattle.mwc_gather.proofs.worker.work_beside.Given as goal
 
 abbrev pub invariant-loop : goal.invariant-loop

@@ -4,8 +4,8 @@ use Rattle.mwc_gather.proofs.dealing.Deal.deal_first.Goals as goal
 
 pub loop-i-init : goal.loop-i-init
 loop-i-init g c =
-    deal_starts {g = slices_of c.args.job.now} c.args.self.now c.args.desks.now c.requires.all_of c.requires.fresh
-    c.requires.marks
+    deal_starts {g = slices_of c.args.job.now} c.args.self.now c.args.desks.now c.requires.1 c.requires.2
+    c.requires.3
 
 pub loop-i-preserved : goal.loop-i-preserved
 loop-i-preserved g c =

@@ -1,5 +1,5 @@
-use Rattle.mwc_gather.proofs.Imports.{◌≡◌, true, All, subst, common_steps, ◌<◌, length, arith, slices_of}
-use Rattle.std.proofs.{Common.take_all, lemmas.List.Elements.All-nil}
+use Rattle.mwc_gather.proofs.Imports.{◌≡◌, true, All, subst, common_steps, ◌<◌, length, arith, slices_of, take_all}
+use Rattle.std.proofs.lemmas.List.Elements.{All-nil}
 use Rattle.mwc_gather.proofs.Deals.{turn_of, ended_more}
 use Rattle.mwc_gather.proofs.dealing.Deal.read_all.Goals as goal
 

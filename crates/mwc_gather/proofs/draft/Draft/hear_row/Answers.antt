@@ -1,6 +1,5 @@
-use Rattle.std.proofs.lemmas.{Bool.Decides.nat_tests, List.take_more}
-use Rattle.std.proofs.Common.{◌≡◌, ◌+◌, ◌++◌, ◌∷◌, [], List, take, append_assoc, arith}
-use Rattle.mwc_pipe.specs.declared.word.Word.{Word}
+use Rattle.mwc_gather.proofs.Imports.{nat_tests, take_more, list_any-append, or-false, ◌≡◌, ◌+◌, ◌++◌, ◌∷◌, [], List, take, append_assoc}
+use Rattle.mwc_gather.proofs.Imports.{arith, Word}
 use Rattle.mwc_gather.proofs.Rooms.{loses_by}
 use Rattle.mwc_gather.proofs.draft.Draft.hear_row.Goals as goal
 
@@ -10,4 +9,4 @@ loop-word-preserved c =
     let row : List Word = c.args.row.now in
     let word : Word = c.word-item.result in
     let more : take (at + 1) row ≡ take at row ++ word ∷ [] = grind (arith, take_more) in
-    grind (arith, nat_tests, append_assoc, loses_by)
+    grind (arith, nat_tests, append_assoc, list_any-append, or-false, loses_by)

@@ -1,6 +1,4 @@
-use Rattle.std.proofs.Common.{◌≡◌, ℕ, List, All, flat_map}
-use Rattle.std.specs.List.{range_with_len}
-use Rattle.mwc_gather.specs.Parts.{HasPieces}
+use Rattle.mwc_gather.proofs.Imports.{◌≡◌, ℕ, List, All, flat_map, range_with_len, HasPieces}
 use Rattle.mwc_gather.proofs.gathered.Gathered.in_order.Given as goal
 
 abbrev pub invariant-loop-j : goal.invariant-loop-j

@@ -1,6 +1,5 @@
-use Rattle.std.proofs.{Common.List, Common.arith, Common.take_all, lemmas.Grind.common_steps}
-use Rattle.mwc_gather.specs.declared.part.Part.{Part}
-use Rattle.mwc_gather.proofs.Once.{each_once}
+use Rattle.mwc_gather.proofs.Imports.{List, arith, take_all, common_steps, Part}
+use Rattle.mwc_gather.proofs.Wholes.{each_once}
 use Rattle.mwc_gather.proofs.gathered.Gathered.piece.Goals as goal
 
 pub unreachable-requires : goal.unreachable-requires

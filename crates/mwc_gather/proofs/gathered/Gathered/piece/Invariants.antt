@@ -1,5 +1,4 @@
-use Rattle.std.proofs.Common.{◌≡◌, take, sum_by}
-use Rattle.mwc_gather.specs.{Inner.Times.times_in, Parts.shares}
+use Rattle.mwc_gather.proofs.Imports.{◌≡◌, take, sum_by, times_in, shares}
 use Rattle.mwc_gather.proofs.gathered.Gathered.piece.Given as goal
 
 abbrev pub invariant-loop-part : goal.invariant-loop-part

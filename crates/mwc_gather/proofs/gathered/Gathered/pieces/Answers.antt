@@ -1,5 +1,4 @@
-use Rattle.mwc_gather.proofs.Ranges.{pieces_more, same_joined}
-use Rattle.std.proofs.Common.{◌≡◌, arith}
+use Rattle.mwc_gather.proofs.{Imports.◌≡◌, Imports.arith, Wholes.pieces_more, Wholes.same_joined}
 use Rattle.mwc_gather.proofs.gathered.Gathered.pieces.Goals as goal
 
 pub loop-number-preserved : goal.loop-number-preserved

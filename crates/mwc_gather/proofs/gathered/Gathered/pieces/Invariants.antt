@@ -1,6 +1,4 @@
-use Rattle.std.proofs.Common.{◌≡◌, ℕ, List, All, map}
-use Rattle.std.specs.List.{range_with_len}
-use Rattle.mwc_gather.specs.Parts.{HasPieces}
+use Rattle.mwc_gather.proofs.Imports.{◌≡◌, ℕ, List, All, map, range_with_len, HasPieces}
 use Rattle.mwc_gather.proofs.gathered.Gathered.pieces.Given as goal
 
 abbrev pub invariant-loop-number : goal.invariant-loop-number

@@ -1,4 +1,5 @@
-use Rattle.std.proofs.{Common.None, lemmas.List.take-replicate}
+use Rattle.mwc_gather.proofs.Imports.{None}
+use Rattle.std.proofs.lemmas.List.{take-replicate}
 use Rattle.mwc_gather.proofs.marks.Marks.new.Goals as goal
 
 pub returns : goal.returns

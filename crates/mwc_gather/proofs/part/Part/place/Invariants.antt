@@ -1,5 +1,4 @@
-use Rattle.std.proofs.Common.{◌≡◌, take}
-use Rattle.mwc_gather.specs.Inner.Times.{times_in}
+use Rattle.mwc_gather.proofs.Imports.{◌≡◌, take, times_in}
 use Rattle.mwc_gather.proofs.part.Part.place.Given as goal
 
 abbrev pub invariant-loop-m : goal.invariant-loop-m

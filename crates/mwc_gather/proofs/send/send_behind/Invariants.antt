@@ -1,5 +1,5 @@
-use Rattle.mwc_gather.proofs.{Imports.◌≡◌, Imports.◌<◌, UnderWay.UnderWay}
-use Rattle.mwc_gather.proofs.send.send_walk.Given as goal
+use Rattle.mwc_gather.proofs.{Imports.◌≡◌, Imports.◌<◌, Imports.slicing, UnderWay.UnderWay}
+use Rattle.mwc_gather.proofs.send.send_behind.Given as goal
 
 abbrev pub invariant-loop-coalition : goal.invariant-loop-coalition
 invariant-loop-coalition g l =
@@ -7,7 +7,7 @@ invariant-loop-coalition g l =
       same : g.P.PipeIn.identity l.out ≡ g.P.PipeIn.identity l.fn.out;
       broken : g.P.PipeIn.broken l.out ≡ g.P.PipeIn.broken l.fn.out;
       some_left : 0 < l.left;
-      sent : UnderWay l.initial.walk.to_come l.slice l.initial.left l.left (g.P.PipeIn.accepted l.fn.out)
+      sent : UnderWay ((slicing l.guarded l.bits).slice l.slice) l.slice l.initial.left l.left (g.P.PipeIn.accepted l.fn.out)
           l.walk.to_come (g.P.PipeIn.accepted l.out) l.parcel;
     }
 
