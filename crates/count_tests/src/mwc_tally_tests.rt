@@ -244,12 +244,13 @@ fn prefixes_of(game: &Game) -> u64
     let mut prefixes = 0u64;
     for slice in 0..2 {
         let mut walk = Walk::new(game, 1, slice);
+        let fixed = walk.visits();
         for _ in 0..4_000_000u32 {
             if walk.next().is_none() {
                 break;
             }
         }
-        prefixes = prefixes.saturating_add(walk.visits());
+        prefixes = prefixes.saturating_add(walk.visits().saturating_sub(fixed));
     }
     prefixes
 }
