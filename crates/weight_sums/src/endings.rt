@@ -27,7 +27,6 @@ pub struct EndingCounts {
 ///
 /// `Memory` where a growth was refused.
 #[inline(never)]
-#[tactic(auto, using(crate::proofs::EndingLaws::fewer))]
 pub fn count_endings(
     alloc: Global,
     weights: &[u64],

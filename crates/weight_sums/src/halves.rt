@@ -1,7 +1,7 @@
 //! The coalitions that members lead to, from the sets of their two halves (Horowitz and Sahni 1974).
 ghost use Rattle.coalitions.specs.declared.limits.TheConstants.{MEMBERS, SIZES, TOTAL};
 ghost use Rattle.weight_sums.specs.declared.sets.Set.{Set};
-ghost use Rattle.weight_sums.specs.Endings.{AreAllEndings, AreEndings, AreEndingsWith, endings, left_out};
+ghost use Rattle.weight_sums.specs.Endings.{AreAllEndings, endings, left_out};
 ghost use Rattle.weight_sums.specs.Inner.Halves.{AreHalves, ArePairs, IsLeft};
 ghost use Rattle.weight_sums.specs.Inner.Sets.{AreSets, IsHalfOf, fits, over};
 ghost use Rattle.weight_sums.specs.Inner.Groups.{HaveRows};
@@ -164,47 +164,19 @@ impl Halves {
         left_of(&won, &shortened, &own, heads)
     }
 
-    /// The coalitions that all members lead to.
-    #[tactic(auto, using(std::proofs::lemmas::Grind::common_steps, crate::proofs::HalfSums::places))]
-    fn all(&self, weights: &[u64], heads: usize) -> SizeCounts
-        requires few { length weights.now ≤ MEMBERS }
-        requires halves { AreHalves weights.now self.now }
-        requires some { 0 < self.now.quota }
-        requires heads { heads ≤ MEMBERS }
-        ensures { AreEndings weights.now heads self.now.quota result }
-    {
-        self.endings_without(weights, heads, weights.len())
-    }
-
-    /// The coalitions with the member of a place: those that the others do not lead to.
-    fn with(&self, weights: &[u64], heads: usize, place: usize, all: &SizeCounts) -> SizeCounts
-        requires few { length weights.now ≤ MEMBERS }
-        requires halves { AreHalves weights.now self.now }
-        requires some { 0 < self.now.quota }
-        requires heads { heads ≤ MEMBERS }
-        requires all { AreEndings weights.now heads self.now.quota all.now }
-        requires less { (s : ℕ) → s ≤ MEMBERS
-            → endings (left_out place weights.now) heads s self.now.quota 0
-            ≤ endings weights.now heads s self.now.quota 0 }
-        ensures { AreEndingsWith weights.now heads self.now.quota place result }
-    {
-        difference(all, &self.endings_without(weights, heads, place))
-    }
-
-    /// All coalitions that the members lead to, and by place those that contain it.
+    /// All coalitions that the members lead to, and by place those that contain it: the others do not lead to them.
+    #[tactic(auto, using(crate::proofs::EndingLaws::fewer, crate::proofs::HalfSums::places))]
     fn counts(&self, weights: &[u64], heads: usize) -> EndingCounts
         requires few { length weights.now ≤ MEMBERS }
         requires halves { AreHalves weights.now self.now }
         requires some { 0 < self.now.quota }
         requires heads { heads ≤ MEMBERS }
-        requires less { (p s : ℕ) → p < length weights.now → s ≤ MEMBERS
-            → endings (left_out p weights.now) heads s self.now.quota 0 ≤ endings weights.now heads s self.now.quota 0 }
         ensures { AreAllEndings weights.now heads self.now.quota result }
     {
-        let all = self.all(weights, heads);
+        let all = self.endings_without(weights, heads, weights.len());
         let mut each = [all; limits::MEMBERS];
         for place in 0..weights.len() {
-            each[place] = self.with(weights, heads, place, &all);
+            each[place] = difference(&all, &self.endings_without(weights, heads, place));
         }
         EndingCounts { all, each }
     }
@@ -221,8 +193,6 @@ pub(crate) fn by_halves(
     requires light { sum weights.now ≤ TOTAL }
     requires some { 0 < quota }
     requires heads { heads ≤ MEMBERS }
-    requires less { (p s : ℕ) → p < length weights.now → s ≤ MEMBERS →
-        endings (left_out p weights.now) heads s quota 0 ≤ endings weights.now heads s quota 0 }
     ensures { IfOk result (AreAllEndings weights.now heads quota) }
 {
     let halves = Halves::new(alloc, weights, quota)?;

@@ -1,6 +1,6 @@
 //! The coalitions that members lead to, member by member.
 ghost use Rattle.coalitions.specs.declared.limits.TheConstants.{MEMBERS, SIZES, TOTAL};
-ghost use Rattle.weight_sums.specs.Endings.{AreAllEndings, AreEndings, AreEndingsWith, endings, left_out};
+ghost use Rattle.weight_sums.specs.Endings.{AreAllEndings, left_out};
 ghost use Rattle.weight_sums.specs.Inner.Rows.{AreOfPrefixes, AreOfTheRest, come_to};
 ghost use Rattle.std.specs.Prelude.{◌≡◌, ℕ, ◌+◌, ◌-◌, ◌<◌, ◌≤◌, [], true, IfOk, IfSome, length, sum, slice_index, slice_index_or};
 
@@ -67,6 +67,7 @@ fn fill_from(
 }
 
 /// The coalitions that members lead to, with room for the rows; none where there is too little.
+#[tactic(auto, using(crate::proofs::EndingLaws::fewer))]
 fn count(
     rows: &mut Rows,
     others: &mut Rows,
@@ -77,8 +78,6 @@ fn count(
 ) -> Result<Option<EndingCounts>, Memory>
     requires few { length weights.now ≤ MEMBERS }
     requires total { total ≡ sum weights.now }
-    requires less { (p s : ℕ) → p < length weights.now → s ≤ MEMBERS →
-        endings (left_out p weights.now) heads.now.asked s quota 0 ≤ endings weights.now heads.now.asked s quota 0 }
     ensures { IfOk result (λ counts. IfSome counts (AreAllEndings weights.now heads.now.asked quota)) }
 {
     rows.begin(quota, weights.len())?;
@@ -104,8 +103,6 @@ pub(crate) fn by_sums(
     requires few { length weights.now ≤ MEMBERS }
     requires light { sum weights.now ≤ TOTAL }
     requires heads { heads ≤ MEMBERS }
-    requires less { (p s : ℕ) → p < length weights.now → s ≤ MEMBERS →
-        endings (left_out p weights.now) heads s quota 0 ≤ endings weights.now heads s quota 0 }
     ensures { IfOk result (λ counts. IfSome counts (AreAllEndings weights.now heads quota)) }
 {
     let asked = Heads::new(alloc, heads)?;
