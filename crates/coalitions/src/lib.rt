@@ -1,5 +1,5 @@
-//! Coalitions, and what every crate shares: lists by place, want of memory, the limits, and which lines a report shows.
-//! `council_game` and `council_report` pass them on.
+//! Coalitions, and what all crates share: counts by size, lists, the observer of workers, `Memory`,
+//! the limits, and which lines a report shows.
 #![tactic(auto)]
 
 mod coalition;

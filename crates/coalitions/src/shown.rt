@@ -1,6 +1,6 @@
 //! Which lines a report shows.
 
-/// Which lines a report shows beside those that each report has.
+/// The lines that a report shows besides those of every report.
 #[derive(Clone, Copy, Debug, PartialEq, Eq)]
 pub struct Shown {
     /// A line for each minimal winning coalition.

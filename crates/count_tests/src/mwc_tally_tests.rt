@@ -91,8 +91,8 @@ fn five_of_forty_win(rt: HostRuntime) {
     }
 }
 
-/// The slices of 32 that were passed, a binary digit for each, how many were passed again, and how many came in
-/// descending order: slice 31 first.
+/// The slices of 32 that were passed, a binary digit for each, how many were passed again, and how
+/// many came in descending order: slice 31 first.
 #[derive(Drop)]
 struct Once {
     seen: AtomicU64,
@@ -114,8 +114,8 @@ impl Gate for Once {
     }
 }
 
-/// The workers pass each slice once, so nothing is left to be counted anew at the end. A single worker takes the last
-/// slice first.
+/// The workers pass each slice once, so nothing is left to be counted anew at the end. A single
+/// worker takes the last slice first.
 #[test]
 fn each_slice_is_passed_once(rt: HostRuntime) {
     let game = five(&rt, rt.alloc());
@@ -146,7 +146,8 @@ fn each_slice_is_passed_once(rt: HostRuntime) {
     }
 }
 
-/// Holds the first `held` workers that pass until `until` slices were passed, for a hundred million turns at most.
+/// Holds the first `held` workers that pass until `until` slices were passed, for a hundred million
+/// turns at most.
 #[derive(Drop)]
 struct Holding {
     held: u64,
@@ -196,8 +197,9 @@ impl Gate for Holding {
     }
 }
 
-/// A slice that nobody took yet goes to whichever worker is free: a fixed assignment of slices fails. And as many
-/// workers count as were asked for, each with a number of its own: 16 are held at their first slice until all are there.
+/// A slice that nobody took yet goes to whichever worker is free: a fixed assignment of slices
+/// fails. And as many workers count as were asked for, each with a number of its own: 16 are held
+/// at their first slice until all are there.
 #[test]
 fn a_held_worker_holds_no_slice(rt: HostRuntime) {
     let game = five(&rt, rt.alloc());
@@ -214,7 +216,8 @@ fn a_held_worker_holds_no_slice(rt: HostRuntime) {
     }
 }
 
-/// What a gate was informed of: all together, how often before 1,048,576 were reached, and how often long after.
+/// What a gate was informed of: all together, how often before 1,048,576 were reached, and how
+/// often long after.
 #[derive(Drop)]
 struct Informed {
     prefixes: AtomicU64,
@@ -255,8 +258,8 @@ fn prefixes_of(game: &Game) -> u64
     prefixes
 }
 
-/// The gate is informed after each 1,048,576 prefixes, and once before, at the end of each of two slices; of all
-/// 3,838,380 coalitions and of all prefixes.
+/// The gate is informed after each 1,048,576 prefixes, and once before, at the end of each of two
+/// slices; of all 3,838,380 coalitions and of all prefixes.
 #[test]
 fn informs_add_up(rt: HostRuntime) {
     let game = forty(&rt, rt.alloc(), 6);

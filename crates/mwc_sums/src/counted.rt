@@ -19,7 +19,7 @@ pub struct Counted {
     ghost are: { AreCountsOfGame game counts.value },
 }
 
-/// How many coalitions of a game of two chambers have a size: pairs of one of each.
+/// Counts the coalitions of a size of a game of two chambers: pairs of one of each.
 #[tactic(auto, using(crate::proofs::Pairs::pairs))]
 fn pairs_of_size(game: &Game, first: &Counted, second: &Counted, size: usize) -> u64
     requires size { size ≤ length game.now.names }
@@ -34,7 +34,7 @@ fn pairs_of_size(game: &Game, first: &Counted, second: &Counted, size: usize) ->
     pairs
 }
 
-/// How many of those contain a member: it is in the one or in the other.
+/// Counts those of them that contain a member, in the one or in the other.
 #[tactic(auto, using(crate::proofs::Pairs::pairs))]
 fn pairs_of_member(
     game: &Game,
@@ -58,7 +58,7 @@ fn pairs_of_member(
     pairs
 }
 
-/// How many coalitions of a game of two chambers there are, by size.
+/// Counts the coalitions of a game of two chambers, by size.
 #[tactic(auto, using(crate::proofs::Pairs::above))]
 fn pairs(game: &Game, first: &Counted, second: &Counted) -> SizeCounts
     requires { AreChambersOf game.now first.now.game second.now.game }
@@ -71,7 +71,7 @@ fn pairs(game: &Game, first: &Counted, second: &Counted) -> SizeCounts
     sizes
 }
 
-/// How many of those contain a member, by size.
+/// Counts those of them that contain a member, by size.
 #[tactic(auto, using(crate::proofs::Pairs::above))]
 fn pairs_with(game: &Game, first: &Counted, second: &Counted, member: usize) -> SizeCounts
     requires member { member < length game.now.names }
@@ -86,8 +86,8 @@ fn pairs_with(game: &Game, first: &Counted, second: &Counted, member: usize) -> 
 }
 
 impl Counted {
-    /// The counts of a game of two chambers, this one and another. (By itself, so that what it takes of the stack is free
-    /// again.)
+    /// Counts the game of two chambers, this one and another. (Out of line: inlined, it would cost
+    /// stack on every call.)
     #[inline(never)]
     #[tactic(auto, using(power_index::proofs::Shared::Minimal::can_be_counted))]
     pub(crate) fn join(self, game: &Game, other: &Counted) -> Box<Counts>

@@ -27,7 +27,8 @@ pieces-length f xs k x lt is =
     let e = length-flat_map-take f xs k x lt in
     let same = ap (λ y. length (f y)) is in omega (arith, e, same)
 
--- a stretch has come as far as piece x, at place k, with s still to be skipped and l still to be taken
+-- a stretch has come as far as piece x, at place k, with s still to be skipped and l still to be
+-- taken
 module _ {X : Type 0} (f : X → List ℕ) (xs : List X) (k skip most : ℕ) {s l a m : ℕ} {x : X} (lt : k < length xs) (is : x ≡ get_or xs k x)
     (s-is : s ≡ skip - length (flat_map f (take k xs))) (l-is : l ≡ most - length (drop skip (flat_map f (take k xs))))
     (a-is : a ≡ min s (length (f x))) (m-is : m ≡ min l (length (take (length (f x) - a) (drop a (f x))))) where

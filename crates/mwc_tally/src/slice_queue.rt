@@ -46,8 +46,9 @@ impl<'a, G: Gate> SliceQueue<'a, G> {
             .store(u64::from(self.slices.count()), Ordering::SeqCst);
     }
 
-    /// Counts one slice after another that nobody took yet, until none is left. The last slice comes first: the heaviest
-    /// members are out there, and it mostly takes longest.
+    /// Counts one slice after another that nobody took yet, until none is left.
+    ///
+    /// The last slice comes first: the heaviest members are out there, and it mostly takes longest.
     fn count(&self, alloc: Global, worker: u8) -> Result<Share, Memory>
         ensures { IfOk result (IsShare self.now.slices) }
     {
@@ -66,7 +67,8 @@ impl<'a, G: Gate> SliceQueue<'a, G> {
         Ok(share)
     }
 
-    /// Counts as `count` does. If memory runs out, it leaves nothing to the other workers, since all is lost.
+    /// Counts as `count` does. If memory runs out, it leaves nothing to the other workers, since
+    /// all is lost.
     pub(crate) fn run(&self, alloc: Global, worker: u8) -> Result<Share, Memory>
         ensures { IfOk result (IsShare self.now.slices) }
     {

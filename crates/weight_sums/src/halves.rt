@@ -1,4 +1,5 @@
-//! The coalitions that members lead to, from the sets of their two halves (Horowitz and Sahni 1974).
+//! The coalitions that members lead to, from the sets of their two halves (Horowitz and Sahni
+//! 1974).
 ghost use Rattle.coalitions.specs.declared.limits.TheConstants.{MEMBERS, SIZES, TOTAL};
 ghost use Rattle.weight_sums.specs.declared.sets.Set.{Set};
 ghost use Rattle.weight_sums.specs.Endings.{AreAllEndings, endings, left_out};
@@ -57,8 +58,10 @@ impl Pairs {
     }
 }
 
-/// How many sets of a size are left of those that meet a quota without those that do so without their last member:
-/// of just as many as heads all, of more the others, of fewer none.
+/// Returns how many sets of a size are left of those that meet a quota.
+///
+/// Of just as many members as heads, all are; of more, those that do not meet it without their last
+/// member; of fewer, none.
 fn left_at(size: usize, won: u64, shortened: u64, own: u64, heads: usize) -> u64
     requires { heads < size → shortened + own ≤ won }
     ensures { IsLeft heads size won shortened own result }
@@ -72,7 +75,7 @@ fn left_at(size: usize, won: u64, shortened: u64, own: u64, heads: usize) -> u64
     }
 }
 
-/// The same of each size.
+/// Does the same for each size.
 fn left_of(won: &SizeCounts, shortened: &SizeCounts, own: &SizeCounts, heads: usize) -> SizeCounts
     requires { (s : ℕ) → heads < s → s ≤ MEMBERS
         → slice_index shortened.now s + slice_index own.now s ≤ slice_index won.now s }
@@ -100,8 +103,8 @@ struct Halves {
 }
 
 impl Halves {
-    /// The sets of the second half are in one list after another, and so are those of the first. (Where `own` was made first, the
-    /// memory of these lists came to a third more.)
+    /// Lists the sets of the second half twice, and those of the first. (With `own` made first,
+    /// these lists took a third more memory.)
     fn of_lists(
         alloc: Global,
         weights: &[u64],
@@ -147,7 +150,8 @@ impl Halves {
         Halves::of_lists(alloc, weights, quota, &mut first, &mut second, &mut spare)
     }
 
-    /// How many coalitions of each size the members lead to without that of a place, which is that of none behind the last.
+    /// Counts the coalitions that members lead to without that of a place, or of all if no member
+    /// has that place.
     fn endings_without(&self, weights: &[u64], heads: usize, place: usize) -> SizeCounts
         requires few { length weights.now ≤ MEMBERS }
         requires halves { AreHalves weights.now self.now }
@@ -164,7 +168,8 @@ impl Halves {
         left_of(&won, &shortened, &own, heads)
     }
 
-    /// All coalitions that the members lead to, and by place those that contain it: the others do not lead to them.
+    /// Counts all coalitions that the members lead to, and those with each member: the others do
+    /// not lead to these.
     #[tactic(auto, using(crate::proofs::EndingLaws::fewer, crate::proofs::HalfSums::places))]
     fn counts(&self, weights: &[u64], heads: usize) -> EndingCounts
         requires few { length weights.now ≤ MEMBERS }
@@ -182,7 +187,7 @@ impl Halves {
     }
 }
 
-/// The coalitions that members lead to, by their halves.
+/// Counts the coalitions that members lead to, by their halves.
 pub(crate) fn by_halves(
     alloc: Global,
     weights: &[u64],

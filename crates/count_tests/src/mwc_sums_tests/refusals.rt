@@ -1,5 +1,6 @@
-//! The calls that take memory, by sums, by halves, by chambers and in part, and their counts, which are those of all subsets.
-//! `tests/refusals.sh` refuses the allocations between the line `call` and the line of the answer.
+//! The calls that take memory, by sums, by halves, by chambers and in part, and their counts, which
+//! are those of all subsets. `tests/refusals.sh` refuses the allocations between the line `call`
+//! and the line of the answer.
 ghost use Rattle.power_index.specs.Tables.{AreCountsOfGame};
 
 use crate::helpers::{game_of_rules, same, say};
@@ -37,7 +38,8 @@ fn by_subsets(rt: &impl Abort, alloc: Global, game: &Game) -> Counts
     Counts::of(game, &list)
 }
 
-/// The counts of a game by sums, and by all subsets of a part that these leave; none if they count nothing.
+/// The counts of a game by sums, and by all subsets of a part that these leave; none if they count
+/// nothing.
 fn by_sums(rt: &impl Abort, alloc: Global, game: &Game) -> Result<Option<Box<Counts>>, Memory> {
     match count_by_sums(alloc, game)? {
         Coverage::All(counts) => Ok(Some(counts)),
@@ -52,7 +54,8 @@ fn by_sums(rt: &impl Abort, alloc: Global, game: &Game) -> Result<Option<Box<Cou
     }
 }
 
-/// Calls it for the game of rules that have these quotas and weights, at most 20 members, and says what came of it.
+/// Calls it for the game of rules that have these quotas and weights, at most 20 members, and says
+/// what came of it.
 fn counts<R: Abort + Print>(rt: &R, alloc: Global, rules: &[(u64, &[u64])]) {
     let game = game_of_rules(rt, alloc, rules);
     let wanted = by_subsets(rt, alloc, &game);
