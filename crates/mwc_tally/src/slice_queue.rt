@@ -14,8 +14,8 @@ use std::sync::atomic::{AtomicU64, Ordering};
 #[derive(Drop)]
 pub(crate) struct SliceQueue<'a, G> {
     pub slices: SlicedGame<'a>,
-    taken: &'a AtomicU64,
-    gate: &'a G,
+    pub taken: &'a AtomicU64,
+    pub gate: &'a G,
 }
 
 impl<'a, G: Gate> SliceQueue<'a, G> {
@@ -31,13 +31,6 @@ impl<'a, G: Gate> SliceQueue<'a, G> {
             taken,
             gate,
         }
-    }
-
-    /// Returns the same queue, for another thread.
-    pub(crate) fn share(&self) -> SliceQueue<'a, G>
-        ensures { result.slices ≡ self.now.slices }
-    {
-        SliceQueue::new(self.slices, self.taken, self.gate)
     }
 
     /// Leaves no slice to be taken.

@@ -74,7 +74,7 @@ fn start<'s, E, G: Gate + Sync>(
 ) -> Option<Started<'s>>
     ensures { MatchOption result ⊤ (λ t. t.promise ≡ queue.now.slices) }
 {
-    let own = queue.share();
+    let own = SliceQueue { ..*queue };
     let body = move || -> Result<Share, Memory>
         ensures { IfOk result (IsShare own.entry.slices) }
     { own.run(alloc, worker) };
