@@ -71,7 +71,7 @@ impl Rows {
     }
 
     /// Returns the coalitions that are counted so far, by size.
-    pub(crate) fn counted(&self) -> SizeCounts
+    pub(crate) fn sizes(&self) -> SizeCounts
         ensures long { length result ≡ SIZES }
         ensures done { result ≡ self.now.done }
     {

@@ -34,7 +34,7 @@ const ALONE: Set = Set {
 
 impl Set {
     /// The same set, where one member more stands in front who is not in it.
-    fn left(&self) -> Set
+    fn without_member(&self) -> Set
         requires { self.now.members < 2 ^ 31 }
         ensures { result ≡ left self.now }
     {
@@ -46,7 +46,7 @@ impl Set {
     }
 
     /// The set with a member of this weight in front.
-    fn joined(&self, weight: u64) -> Set
+    fn with_member(&self, weight: u64) -> Set
         requires { HasRoom weight self.now }
         ensures { result ≡ joined weight self.now }
     {
@@ -93,9 +93,9 @@ fn with_first(sets: &[Set], weight: u64, short: bool, next: &mut Vec<Set>) -> Re
     next.reserve(sets.len() * 2)?;
     let (mut i, mut j) = (0, 0);
     while j < sets.len() {
-        let with = sets[j].joined(weight);
+        let with = sets[j].with_member(weight);
         if is_light(sets, i, with.weight) {
-            next.push(sets[i].left())?;
+            next.push(sets[i].without_member())?;
             i += 1;
         } else {
             next.push(with)?;

@@ -85,7 +85,7 @@ fn count(
     if !rows.finish(weights, total, heads)? {
         return Ok(None);
     }
-    let all = rows.counted();
+    let all = rows.sizes();
     let mut each = [all; limits::MEMBERS];
     rows.begin(quota, weights.len())?;
     if !fill_from(rows, others, weights, total, heads, &all, 0, &mut each)? {
