@@ -145,6 +145,7 @@ fn join_all<'s, R: Threads>(
             Err(_) => lost = true,
         }
     }
+    // memory: a share that was lost, or not added
     if lost { Err(Memory) } else { Ok(all) }
 }
 
