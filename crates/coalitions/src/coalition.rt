@@ -5,8 +5,10 @@ ghost use Rattle.coalitions.specs.Coalitions.{has, with_member, without, size};
 
 use std::marker::Model;
 
-/// A set of members. It is held as its rank mask, a number of 40 binary digits: among n members, the
-/// member of rank place p is in where digit n - 1 - p is 1. A clause sees the number.
+/// A set of members.
+///
+/// It is held as its rank mask, a number of 40 binary digits: among n members, the member of rank
+/// place p is in it if digit n - 1 - p is 1. A clause sees the number.
 #[derive(Clone, Copy, Debug, PartialEq, Eq)]
 pub struct Coalition {
     mask: u64,
@@ -26,14 +28,14 @@ impl Model for Coalition {
 }
 
 impl Coalition {
-    /// The empty coalition, of no member.
+    /// Returns the empty coalition.
     pub fn none() -> Coalition
         ensures { result ≡ 0 }
     {
         Coalition { mask: 0 }
     }
 
-    /// The coalition with this rank mask, a number below 2^40.
+    /// Returns the coalition with this rank mask, a number below 2^40.
     pub fn of_mask(mask: u64) -> Coalition
         requires { mask < 2 ^ MEMBERS }
         ensures { result ≡ mask }
@@ -41,7 +43,7 @@ impl Coalition {
         Coalition { mask }
     }
 
-    /// The rank mask, a number below 2^40.
+    /// Returns the rank mask, a number below 2^40.
     pub fn mask(self) -> u64
         ensures same { result ≡ self }
         ensures bound { result < 2 ^ MEMBERS }
@@ -49,8 +51,9 @@ impl Coalition {
         self.mask
     }
 
-    /// In a game of `members` members, at most 40, whether the member of this rank place is in. Places
-    /// count from 0, the heaviest first.
+    /// Returns whether the member of this rank place is in.
+    ///
+    /// There are `members` members, at most 40. Places count from 0, the heaviest first.
     pub fn has(self, members: usize, place: usize) -> bool
         requires few { members ≤ MEMBERS }
         requires place { place < members }
@@ -59,8 +62,9 @@ impl Coalition {
         (self.mask >> (members - 1 - place)) % 2 == 1
     }
 
-    /// In a game of `members` members, at most 40, the coalition with the member of this rank place besides;
-    /// the same where that member is in.
+    /// Returns the coalition with the member of this rank place.
+    ///
+    /// There are `members` members, at most 40. If that member is in, it is the same coalition.
     pub fn with(self, members: usize, place: usize) -> Coalition
         requires few { members ≤ MEMBERS }
         requires place { place < members }
@@ -80,8 +84,9 @@ impl Coalition {
         }
     }
 
-    /// In a game of `members` members, at most 40, the coalition without the member of this rank place;
-    /// the same where that member is not in.
+    /// Returns the coalition without the member of this rank place.
+    ///
+    /// There are `members` members, at most 40. If that member is not in, it is the same coalition.
     pub fn without(self, members: usize, place: usize) -> Coalition
         requires few { members ≤ MEMBERS }
         requires place { place < members }
@@ -100,7 +105,7 @@ impl Coalition {
         }
     }
 
-    /// How many members are in, 0 to 40.
+    /// Returns how many members are in, 0 to 40.
     pub fn size(self) -> u8
         ensures size { (n : ℕ) → self < 2 ^ n → result ≡ size n self }
         ensures bound { result ≤ MEMBERS }

@@ -2,7 +2,7 @@
 ghost use Rattle.std.specs.Prelude.{◌≡◌, ◌*◌, ◌^◌, ◌+◌};
 ghost use Rattle.coalitions.specs.declared.limits.TheConstants.{MEMBERS, SIZES, RULES, WEIGHT, TOTAL, TITLE_BYTES, NAME_BYTES, FILE_BYTES, BITS, SLICES, WORKERS, COALITIONS, CAPACITY, PLAIN_MEMBERS};
 
-/// The most members that a game can have.
+/// The most members of a game.
 pub const MEMBERS: usize = 40;
 
 /// How many sizes a coalition can have: 0 to 40 members.
@@ -41,10 +41,10 @@ pub const COALITIONS: u32 = 4_000_000;
 /// The most words that a ring can have room for.
 pub const CAPACITY: usize = 65_536;
 
-/// The most members of a game of which each coalition is tried.
+/// The most members of a game whose coalitions are all tried.
 pub const PLAIN_MEMBERS: usize = 20;
 
-/// What the limits are, as numbers: contracts and definitions name them.
+/// Says what the limits are, as numbers: contracts and definitions name them.
 pub fn are_these_numbers()
     ensures members { MEMBERS ≡ 40 }
     ensures sizes { SIZES ≡ MEMBERS + 1 }

@@ -4,11 +4,13 @@ ghost use Rattle.std.specs.Prelude.{◌≡◌, ◌<◌, ℕ, IfOk, map};
 
 use std::alloc::{AllocError, Global};
 
-/// The list of what each number below `count` gives, from 0 on. Its room is reserved before anything is made.
+/// Lists what each number from 0 to `count - 1` gives.
+///
+/// Room for the list is reserved before anything is made.
 ///
 /// # Errors
 ///
-/// `AllocError` where the room was refused.
+/// Returns `AllocError` if the room was refused.
 pub fn listed<T: Copy, F: Fn(usize) -> T>(
     alloc: Global,
     count: usize,

@@ -1,13 +1,14 @@
 //! Counts of worked games, by one thread and by several.
 mod pieces;
 mod refusals;
-mod stops;
 
 ghost use Rattle.std.specs.Prelude.{◌≡◌, length};
 
 use crate::helpers::{game, same};
+use coalitions::{Gate, NoGate};
 use council_game::Game;
-use mwc_tally::{NoWatch, Watch, tally, tally_slice};
+use mwc_tally::{tally, tally_slice};
+use mwc_walk::Walk;
 use power_index::Counts;
 use std::alloc::Global;
 use std::process::Abort;
@@ -30,16 +31,6 @@ fn forty(rt: &impl Abort, alloc: Global, quota: u64) -> Game
     let game = game(rt, alloc, quota, &[1; 40]);
     assert!(rt; game.members() == 40);
     game
-}
-
-/// How many slices were counted.
-#[derive(Drop)]
-struct Counted(AtomicU64);
-
-impl Watch for Counted {
-    fn counted(&self, _slice: u16, _slices: u16) {
-        self.0.fetch_add(1, Ordering::SeqCst);
-    }
 }
 
 /// The counts of the five members of weights 35, 20, 15, 15, 15 with quota 51.
@@ -66,17 +57,10 @@ fn five_members_by_any_threads_and_bits(rt: HostRuntime) {
     let game = five(&rt, rt.alloc());
     for bits in 0..6u8 {
         for workers in [1, 2, 4, 16] {
-            let counted = Counted(AtomicU64::new(0));
-            let counts = tally(&rt, rt.alloc(), &game, bits, workers, &counted).expect(
+            let counts = tally(&rt, rt.alloc(), &game, bits, workers, &NoGate).expect(
                 &rt, "counts",
             );
             assert_of_five(&rt, &counts);
-            same(
-                &rt,
-                counted.0.load(Ordering::SeqCst),
-                1 << bits,
-                "counted.0.load",
-            );
         }
     }
 }
@@ -94,7 +78,7 @@ fn one_slice(rt: HostRuntime) {
 #[test]
 fn five_of_forty_win(rt: HostRuntime) {
     let game = forty(&rt, rt.alloc(), 5);
-    let counts = tally(&rt, rt.alloc(), &game, 6, 4, &NoWatch).expect(&rt, "counts");
+    let counts = tally(&rt, rt.alloc(), &game, 6, 4, &NoGate).expect(&rt, "counts");
     assert!(rt; counts.members() == 40);
     same(&rt, counts.wide_total(), 658_008, "counts.total");
     for member in 0..40 {
@@ -107,8 +91,8 @@ fn five_of_forty_win(rt: HostRuntime) {
     }
 }
 
-/// Which of 32 slices were counted, a binary digit for each, how often one was counted again, and how many came in
-/// descending order: slice 31 first.
+/// The slices of 32 that were passed, a binary digit for each, how many were passed again, and how
+/// many came in descending order: slice 31 first.
 #[derive(Drop)]
 struct Once {
     seen: AtomicU64,
@@ -117,8 +101,8 @@ struct Once {
     descending: AtomicU64,
 }
 
-impl Watch for Once {
-    fn counted(&self, slice: u16, _slices: u16) {
+impl Gate for Once {
+    fn pass(&self, _worker: u8, slice: u16) {
         let digit = if slice < 32 { 1 << slice } else { 0 };
         if digit == 0 || self.seen.fetch_or(digit, Ordering::SeqCst) & digit != 0 {
             self.again.fetch_add(1, Ordering::SeqCst);
@@ -130,10 +114,10 @@ impl Watch for Once {
     }
 }
 
-/// The threads count each slice, and none twice: nothing is left to be counted anew at the end. One thread takes the
-/// last slice first.
+/// The workers pass each slice once, so nothing is left to be counted anew at the end. A single
+/// worker takes the last slice first.
 #[test]
-fn each_slice_is_counted_once(rt: HostRuntime) {
+fn each_slice_is_passed_once(rt: HostRuntime) {
     let game = five(&rt, rt.alloc());
     for workers in 1..17u8 {
         let once = Once {
@@ -162,14 +146,16 @@ fn each_slice_is_counted_once(rt: HostRuntime) {
     }
 }
 
-/// Holds the threads that counted the first `held` slices until `until` are counted, for a hundred million turns at
-/// most.
+/// Holds the first `held` workers that pass until `until` slices were passed, for a hundred million
+/// turns at most.
 #[derive(Drop)]
 struct Holding {
     held: u64,
     until: u64,
-    done: AtomicU64,
+    passed: AtomicU64,
     missed: AtomicU64,
+    /// The numbers of the workers that passed, a binary digit for each.
+    workers: AtomicU64,
 }
 
 impl Holding {
@@ -177,14 +163,15 @@ impl Holding {
         Holding {
             held,
             until,
-            done: AtomicU64::new(0),
+            passed: AtomicU64::new(0),
             missed: AtomicU64::new(0),
+            workers: AtomicU64::new(0),
         }
     }
 
     fn sees(&self) -> bool {
         for turn in 0..100_000_000u32 {
-            if self.done.load(Ordering::SeqCst) >= self.until {
+            if self.passed.load(Ordering::SeqCst) >= self.until {
                 return true;
             }
             if self.missed.load(Ordering::SeqCst) > 0 {
@@ -199,63 +186,101 @@ impl Holding {
     }
 }
 
-impl Watch for Holding {
-    fn counted(&self, _slice: u16, _slices: u16) {
-        let before = self.done.fetch_add(1, Ordering::SeqCst);
+impl Gate for Holding {
+    fn pass(&self, worker: u8, _slice: u16) {
+        let digit = if worker < 16 { 1 << worker } else { 1 << 16 };
+        self.workers.fetch_or(digit, Ordering::SeqCst);
+        let before = self.passed.fetch_add(1, Ordering::SeqCst);
         if before < self.held && !self.sees() {
             self.missed.store(1, Ordering::SeqCst);
         }
     }
 }
 
-/// A slice that nobody took yet goes to whichever thread is free: a fixed deal of slices fails. And as many
-/// threads count as were asked for: each of 16 holds its first slice until all are there.
+/// A slice that nobody took yet goes to whichever worker is free: a fixed assignment of slices
+/// fails. And as many workers count as were asked for, each with a number of its own: 16 are held
+/// at their first slice until all are there.
 #[test]
-fn a_held_thread_holds_no_slice(rt: HostRuntime) {
+fn a_held_worker_holds_no_slice(rt: HostRuntime) {
     let game = five(&rt, rt.alloc());
-    for (workers, held, until) in [(2, 1, 32), (16, 16, 16)] {
+    for (workers, held, until, numbers) in [(2, 1, 32, 3), (16, 16, 16, 65_535)] {
         let holding = Holding::new(held, until);
         let counts = tally(&rt, rt.alloc(), &game, 5, workers, &holding).expect(&rt, "counts");
         assert_of_five(&rt, &counts);
         let found = (
-            holding.done.load(Ordering::SeqCst),
+            holding.passed.load(Ordering::SeqCst),
             holding.missed.load(Ordering::SeqCst),
+            holding.workers.load(Ordering::SeqCst),
         );
-        same(&rt, found, (32, 0), workers);
+        same(&rt, found, (32, 0, numbers), workers);
     }
 }
 
-/// How many coalitions were told of, and how often of two slices.
+/// What a gate was informed of: all together, how often before 1,048,576 were reached, and how
+/// often long after.
 #[derive(Drop)]
-struct Met {
-    coalitions: AtomicU64,
-    times: AtomicU64,
+struct Informed {
+    prefixes: AtomicU64,
+    found: AtomicU64,
+    early: AtomicU64,
+    late: AtomicU64,
 }
 
-impl Watch for Met {
-    fn counted(&self, _slice: u16, _slices: u16) {}
+impl Gate for Informed {
+    fn pass(&self, _worker: u8, _slice: u16) {}
 
-    fn met(&self, more: u64, slices: u16) {
-        self.coalitions.fetch_add(more, Ordering::SeqCst);
-        self.times
-            .fetch_add(u64::from(slices == 2), Ordering::SeqCst);
+    fn inform(&self, prefixes: u64, found: u64) {
+        self.prefixes.fetch_add(prefixes, Ordering::SeqCst);
+        self.found.fetch_add(found, Ordering::SeqCst);
+        let most = prefixes.max(found);
+        self.early
+            .fetch_add(u64::from(most < 1_048_576), Ordering::SeqCst);
+        self.late
+            .fetch_add(u64::from(most > 1_048_700), Ordering::SeqCst);
     }
 }
 
-/// While a slice of 3,262,623 coalitions is counted, three times 1,048,576 of them are told of, and then the
-/// 116,895 that are left; and at the end of the other slice its 575,757.
+/// How many prefixes the walks over both slices examine.
+fn prefixes_of(game: &Game) -> u64
+    requires { length game.now.names ≡ 40 }
+{
+    let mut prefixes = 0u64;
+    for slice in 0..2 {
+        let mut walk = Walk::new(game, 1, slice);
+        let fixed = walk.visits();
+        for _ in 0..4_000_000u32 {
+            if walk.next().is_none() {
+                break;
+            }
+        }
+        prefixes = prefixes.saturating_add(walk.visits().saturating_sub(fixed));
+    }
+    prefixes
+}
+
+/// The gate is informed after each 1,048,576 prefixes, and once before, at the end of each of two
+/// slices; of all 3,838,380 coalitions and of all prefixes.
 #[test]
-fn is_told_of_coalitions_meanwhile(rt: HostRuntime) {
+fn informs_add_up(rt: HostRuntime) {
     let game = forty(&rt, rt.alloc(), 6);
-    let met = Met {
-        coalitions: AtomicU64::new(0),
-        times: AtomicU64::new(0),
+    let informed = Informed {
+        prefixes: AtomicU64::new(0),
+        found: AtomicU64::new(0),
+        early: AtomicU64::new(0),
+        late: AtomicU64::new(0),
     };
-    let counts = tally(&rt, rt.alloc(), &game, 1, 1, &met).expect(&rt, "counts");
+    let counts = tally(&rt, rt.alloc(), &game, 1, 1, &informed).expect(&rt, "counts");
+    same(&rt, counts.wide_total(), 3_838_380, "coalitions");
     let found = (
-        counts.wide_total(),
-        met.coalitions.load(Ordering::SeqCst),
-        met.times.load(Ordering::SeqCst),
+        informed.found.load(Ordering::SeqCst),
+        informed.prefixes.load(Ordering::SeqCst),
+        informed.early.load(Ordering::SeqCst),
+        informed.late.load(Ordering::SeqCst),
     );
-    same(&rt, found, (3_838_380, 3_838_380, 5), "coalitions");
+    same(
+        &rt,
+        found,
+        (3_838_380, prefixes_of(&game), 2, 0),
+        "informed",
+    );
 }

@@ -172,7 +172,8 @@ fn forty_equal_members(rt: HostRuntime) {
     }
 }
 
-/// A list of all and the slices joined, at each number of bits up to 10, are what `plain_list` gives.
+/// A list of all and the slices joined, at each number of bits up to 10, are what `plain_list`
+/// gives.
 fn all_lists_agree(rt: &impl Abort, alloc: Global, game: &Game) {
     assert!(rt; game.members() <= 20);
     let plain = plain_list(alloc, game).expect(rt, "a plain list");
@@ -222,8 +223,8 @@ fn the_slices_joined_and_the_whole_list_are_the_plain_list(rt: HostRuntime) {
     }
 }
 
-/// The slices at two bits have these numbers of coalitions, and the whole list has all of them, which is refused one
-/// short.
+/// The slices at two bits have these numbers of coalitions, and the whole list has all of them,
+/// which is refused one short.
 fn counts_of_slices(rt: &impl Abort, alloc: Global, game: &Game, counts: &[usize; 4], whole: u32) {
     assert!(rt; 2 <= game.members() && 0 < whole);
     for (j, wanted) in (0..).zip(counts) {
@@ -239,8 +240,8 @@ fn counts_of_slices(rt: &impl Abort, alloc: Global, game: &Game, counts: &[usize
     same(rt, fewer.is_none(), true, "more than asked for");
 }
 
-/// Of 39 and 40 members in two, three or four groups one of each is needed: a slice of four has as many
-/// coalitions as there are choices, given which of the first two members are in.
+/// Of 39 and 40 members in two, three or four groups one of each is needed: a slice of four has as
+/// many coalitions as there are choices, given which of the first two members are in.
 #[test]
 fn slices_under_several_rules(rt: HostRuntime) {
     let rows: [(Statute, [usize; 4], u32); 4] = [

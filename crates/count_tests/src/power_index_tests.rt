@@ -83,7 +83,8 @@ fn check_indices(rt: &impl Abort, counts: &Counts, member: usize, wanted: [Print
     );
 }
 
-/// The counts are of `total` coalitions, of these numbers of each size, and of these members, which are all.
+/// The counts are of `total` coalitions, of these numbers of each size, and of these members, which
+/// are all.
 fn check(rt: &impl Abort, counts: &Counts, total: u32, sizes: &[(usize, u32)], rows: &[Members]) {
     same(rt, counts.total(), total, "total");
     for (size, wanted) in sizes {
@@ -164,8 +165,8 @@ type Worked = (
     &'static [Members],
 );
 
-/// The board in two orders of the file, and where all three are needed; the six of 1958, of whom one is a dummy; one member; and
-/// a member of weight 0.
+/// The board in two orders of the file, and where all three are needed; the six of 1958, of whom
+/// one is a dummy; one member; and a member of weight 0.
 const WORKED: [Worked; 6] = [
     (
         51,

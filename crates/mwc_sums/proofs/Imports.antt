@@ -20,4 +20,4 @@ pub use Rattle.std.proofs.lemmas.List.Elements.{All-filter, All-from_get_or, All
 pub use Rattle.std.proofs.lemmas.List.Sums.{AllPass-from_list_all, length-filter, list_all-from_AllPass, sum_by-cons}
 pub use Rattle.std.specs.List.{list_all, list_any, range_with_len}
 unfoldable pub use Rattle.council_game.specs.Votes.{down, has, minimal_coalitions, weight, wins, without}
-unfoldable pub use Rattle.mwc_sums.specs.Inner.{Pairs.of_place_size, Rules.side}
+unfoldable pub use Rattle.mwc_sums.specs.Inner.{Rules.side}

@@ -1,4 +1,5 @@
--- As many coalitions pass one test as pass another, and sets that win where they win under two conditions.
+-- As many coalitions pass one test as pass another, and sets that win where they win under two
+-- conditions.
 use Rattle.mwc_sums.proofs.Imports.{◌≡◌, ◌∙◌, ◌↔◌, ◌==◌, ◌&&◌, ℕ, zero, suc, ◌^◌, ◌<◌, Bool, true, false, List, length, get_or, filter, sym}
 use Rattle.mwc_sums.proofs.Imports.{nat_tests, not, ◌||◌, true_from_ne_false, ◌+◌, size, filter-both, eqb, ap, refl, arith, sum_by}
 use Rattle.mwc_sums.proofs.Imports.{cases_eq, sum_by-cons, length-filter, down, sum-zero}
@@ -100,7 +101,8 @@ module _ {n : ℕ} {own other : ℕ → Bool} {won_g won_a won_b : (ℕ → Bool
   least-sides {c = c} least i lt inside = grind (arith, nat_tests)
 
   module _ {x y : ℕ → Bool} (least_x : IsLeast n won_a x) (least_y : IsLeast n won_b y) where
-    -- of the two together, those of each side are the one set and the other, and these share no member
+    -- of the two together, those of each side are the one set and the other, and these share no
+    -- member
     pub least-parts : (i : ℕ) → i < n → (((x i || y i) && own i) ≡ x i) × (((x i || y i) && other i) ≡ y i) × (x i ≡ true → y i ≡ false)
     least-parts i lt =
         grind (arith, nat_tests, least-seen own joint.sees_own least_x i lt, least-seen other joint.sees_other least_y i lt, joint.apart i lt)

@@ -1,4 +1,5 @@
--- The coalitions that meet a quota and have as many members as are asked for, those that members lead to, the heaviest first, and how many.
+-- The coalitions that meet a quota and have as many members as are asked for, those that members
+-- lead to, the heaviest first, and how many.
 use Rattle.mwc_sums.proofs.Imports.{◌≡◌, ◌∙◌, ◌↔◌, ◌⊎◌, ◌&&◌, ℕ, ◌+◌, ◌-◌, ◌*◌, ◌^◌, ◌<◌, ◌≤◌, Bool, true, cond, leb, List, [], ◌∷◌, length}
 use Rattle.mwc_sums.proofs.Imports.{get_or, take, sym, ap, arith, range_with_len, cases_lt, length-filter, RuleView, Votes, nat_tests, refl}
 use Rattle.mwc_sums.proofs.Imports.{false, ltb, ◌++◌, map, filter, inl, inr, le-ltb, down, minimal_coalitions, suc, IsVotes, has, without}
@@ -61,7 +62,8 @@ heads-law v heads c votes two asks below =
     let parts = by-heads v.members (wins (take 1 v.rules)) heads c in
     grind (arith, same, minimal-min v c, parts, minimal-min (first_rule v) c, first-wins v.rules c votes.has_rule)
 
--- a coalition that members lead to, from a need and a number of members: where the first meets the need, others behind it fill it up to the heads
+-- a coalition that members lead to, from a need and a number of members: where the first meets the
+-- need, others behind it fill it up to the heads
 unfoldable pub leads : List ℕ → ℕ → ℕ → ℕ → ℕ → Bool
 leads [] heads need a c = false
 leads (w ∷ ws) heads need a c =

@@ -2,8 +2,9 @@
 use Rattle.mwc_sums.proofs.Imports.{◌≡◌, ◌∙◌, ◌==◌, ◌&&◌, ℕ, ◌+◌, ◌-◌, ◌*◌, ◌^◌, ◌<◌, ◌≤◌, Bool, List, [], ◌∷◌, length, get_or, filter, sym}
 use Rattle.mwc_sums.proofs.Imports.{IsGame, votes_of, size_of, minimal-few, AreChambersOf, minimal_of_size, sum-plus, filter-both, refl}
 use Rattle.mwc_sums.proofs.Imports.{arith, nat_tests, sum_by, range_with_len, sum_by-range-more, has, minimal_coalitions, GameView, ap}
-use Rattle.mwc_sums.proofs.Imports.{of_place_size, leb, true, contains, met, sum_by-cons, sum-range, sum-filter, minimal, down}
-use Rattle.mwc_sums.specs.{Chambers.paired, Chambers.minimal_of_member_size, Inner.Pairs.of_member_size, Inner.Pairs.of_size}
+use Rattle.mwc_sums.proofs.Imports.{leb, true, contains, met, sum_by-cons, sum-range, sum-filter, minimal, down}
+use Rattle.mwc_sums.specs.{Chambers.paired, Chambers.minimal_of_member_size, declared.counted.Counted.Counted}
+use Rattle.power_index.specs.Tables.{Tables, table_of_member_size, table_of_size}
 use Rattle.coalitions.proofs.Shared.Ranges.{sum_by-range-le}
 use Rattle.power_index.specs.Counting.{count_of_size, count_of_member_size}
 use Rattle.power_index.proofs.Shared.{Members.size-le, Sums.length-filter-le, Sums.sum-by_size}
@@ -116,42 +117,66 @@ few-of : (g : GameView) (p : ℕ → Bool) → IsGame g → length (filter p (mi
 few-of g p is = omega (arith, length-filter-le p (minimal_coalitions (votes_of g)), minimal-few g is)
 
 -- the pairs of a size, and those of them that contain a member
-abbrev pub size-pairs : GameView → GameView → ℕ → ℕ → ℕ
-size-pairs a b s j = of_size a j * of_size b (s - j)
+abbrev pub size-pairs : Tables → Tables → ℕ → ℕ → ℕ
+size-pairs a b s j = table_of_size a j * table_of_size b (s - j)
 
-abbrev pub place-pairs : GameView → GameView → ℕ → ℕ → ℕ → ℕ
-place-pairs a b i s j = of_member_size a i j * of_size b (s - j) + of_size a j * of_member_size b i (s - j)
+abbrev pub member-pairs : Tables → Tables → ℕ → ℕ → ℕ → ℕ
+member-pairs a b i s j = table_of_member_size a i j * table_of_size b (s - j) + table_of_size a j * table_of_member_size b i (s - j)
 
-module _ (g a b : GameView) (is_g : IsGame g) (is_a : IsGame a) (is_b : IsGame b) (are : AreChambersOf g a b) where
-  pub all-pairs : (s n x : ℕ) → x ≡ sum_by (size-pairs a b s) (range_with_len 0 n) → n ≡ s + 1 → x ≡ minimal_of_size g s
-  unfolding of_size
-  all-pairs s n x is e = grind (arith, chamber-sizes g a b is_g is_a is_b are s)
+module _ (g : GameView) (a b : Counted) (is_g : IsGame g) (are : AreChambersOf g a.game b.game) (s : ℕ) (le : s ≤ length g.names) where
+  size-at : (j : ℕ) → j < s + 1 → size-pairs a.counts.value b.counts.value s j ≡ minimal_of_size a.game j * minimal_of_size b.game (s - j)
+  size-at j lt = grind (arith, a.are.of_size j, b.are.of_size (s - j), a.are.members, b.are.members, are.first, are.second)
 
-  pub pairs-more : (s j : ℕ) → j < s + 1 → size-pairs a b s j + sum_by (size-pairs a b s) (range_with_len 0 j) ≤ 2 ^ 40
-  unfolding of_size
-  pairs-more s j lt =
-      let part = sum_by-range-le (size-pairs a b s) (j + 1) (s + 1) in
-      grind (arith, part, sum_by-range-more (size-pairs a b s) j, all-pairs s (s + 1), few-of g (λ c. size_of g c == s) is_g)
+  pub all-pairs : (n x : ℕ) → x ≡ sum_by (size-pairs a.counts.value b.counts.value s) (range_with_len 0 n) → n ≡ s + 1 → x ≡ minimal_of_size g s
+  all-pairs n x is e =
+      is ∙ ap (λ (n : ℕ). sum_by (size-pairs a.counts.value b.counts.value s) (range_with_len 0 n)) e
+      ∙ sum-range (size-pairs a.counts.value b.counts.value s) (λ j. minimal_of_size a.game j * minimal_of_size b.game (s - j)) 0 (s + 1)
+      (λ j _ lt. size-at j (omega (arith, lt))) ∙ sym (chamber-sizes g a.game b.game is_g a.is b.is are s)
 
-  pub each-pairs : (i p s n x : ℕ) → x ≡ sum_by (place-pairs a b i s) (range_with_len 0 n) → n ≡ s + 1 → i < length g.names
-      → get_or g.ranks i 0 ≡ p → x ≡ of_place_size g p s
-  unfolding of_size of_member_size of_place_size
-  each-pairs i p s n x is e lt place =
-      is ∙ ap (λ (n : ℕ). sum_by (place-pairs a b i s) (range_with_len 0 n)) e
-      ∙ sum-plus (λ j. of_member_size a i j * of_size b (s - j)) (λ j. of_size a j * of_member_size b i (s - j)) (range_with_len 0 (s + 1))
-      ∙ sym (chamber-members g a b is_g is_a is_b are i s lt)
-      ∙ (λ k. length (filter (λ c. has (length g.names) (place k) c && (size_of g c == s)) (minimal_coalitions (votes_of g))))
+  pub pairs-more : (j : ℕ) → j < s + 1 → size-pairs a.counts.value b.counts.value s j
+      + sum_by (size-pairs a.counts.value b.counts.value s) (range_with_len 0 j) ≤ 2 ^ 40
+  pairs-more j lt =
+      let part = sum_by-range-le (size-pairs a.counts.value b.counts.value s) (j + 1) (s + 1) in
+      grind (arith, part, sum_by-range-more (size-pairs a.counts.value b.counts.value s) j, all-pairs (s + 1), few-of g (λ c. size_of g c == s) is_g)
 
-  pub each-more : (i s j : ℕ) → i < length g.names → j < s + 1 → place-pairs a b i s j + sum_by (place-pairs a b i s) (range_with_len 0 j) ≤ 2 ^ 40
-  unfolding of_place_size
-  each-more i s j lt within =
-      let few = few-of g (λ c. has (length g.names) (get_or g.ranks i 0) c && (size_of g c == s)) is_g in
-      let part = sum_by-range-le (place-pairs a b i s) (j + 1) (s + 1) in
-      grind (arith, part, sum_by-range-more (place-pairs a b i s) j, each-pairs i (get_or g.ranks i 0) s (s + 1), few)
+  module _ (i : ℕ) (li : i < length g.names) where
+    abbrev each : ℕ → ℕ
+    each = member-pairs a.counts.value b.counts.value i s
 
-  pub each-other : (i s j : ℕ) → i < length g.names → j < s + 1 → of_size a j * of_member_size b i (s - j) ≤ 2 ^ 40
-  each-other i s j lt within = omega (arith, each-more i s j lt within)
+    member-at : (j : ℕ) → j < s + 1 → each j
+        ≡ minimal_of_member_size a.game i j * minimal_of_size b.game (s - j) + minimal_of_size a.game j * minimal_of_member_size b.game i (s - j)
+    member-at j lt =
+        grind (
+          arith,
+          size-at j lt,
+          a.are.of_member_size i j,
+          b.are.of_member_size i (s - j),
+          a.are.of_size j,
+          b.are.of_size (s - j),
+          a.are.members,
+          b.are.members,
+          are.first,
+          are.second,
+        )
 
-pub ruleset pairs = (all-pairs, pairs-more, sum_by-range-more)
+    pub each-pairs : (n x : ℕ) → x ≡ sum_by (member-pairs a.counts.value b.counts.value i s) (range_with_len 0 n) → n ≡ s + 1
+        → x ≡ minimal_of_member_size g i s
+    each-pairs n x is e =
+        is ∙ ap (λ (n : ℕ). sum_by each (range_with_len 0 n)) e
+        ∙ sum-range each (λ j. minimal_of_member_size a.game i j * minimal_of_size b.game (s - j)
+        + minimal_of_size a.game j * minimal_of_member_size b.game i (s - j)) 0 (s + 1) (λ j _ lt. member-at j (omega (arith, lt)))
+        ∙ sum-plus (λ j. minimal_of_member_size a.game i j * minimal_of_size b.game (s - j))
+        (λ j. minimal_of_size a.game j * minimal_of_member_size b.game i (s - j)) (range_with_len 0 (s + 1))
+        ∙ sym (chamber-members g a.game b.game is_g a.is b.is are i s li)
 
-pub ruleset places = (each-more, each-other, each-pairs, sum_by-range-more)
+    pub each-more : (j : ℕ) → j < s + 1 → member-pairs a.counts.value b.counts.value i s j
+        + sum_by (member-pairs a.counts.value b.counts.value i s) (range_with_len 0 j) ≤ 2 ^ 40
+    each-more j lt =
+        let part = sum_by-range-le each (j + 1) (s + 1) (omega (arith, lt)) in
+        let all = each-pairs (s + 1) (sum_by each (range_with_len 0 (s + 1))) refl refl in
+        omega (arith, part, sum_by-range-more each j, all, few-of g (λ c. contains g i c && (size_of g c == s)) is_g)
+
+    pub each-other : (j : ℕ) → j < s + 1 → table_of_size a.counts.value j * table_of_member_size b.counts.value i (s - j) ≤ 2 ^ 40
+    each-other j lt = omega (arith, each-more j lt)
+
+pub ruleset pairs = (pairs-more, each-more, each-other, sum_by-range-more)

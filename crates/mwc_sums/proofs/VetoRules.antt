@@ -1,4 +1,5 @@
--- Members that can veto, what is left of the rules where all of them agree, and rules that a game can have.
+-- Members that can veto, what is left of the rules where all of them agree, and rules that a game
+-- can have.
 use Rattle.mwc_sums.proofs.Imports.{sum_by-range-more, RuleView, sum-plus, get_or, wins, Votes, IsVotes, rule_at, length-map, filter-append}
 use Rattle.mwc_sums.proofs.Imports.{sum_by, range_with_len, sum_by-cons, sum-range, ◌≡◌, ◌∙◌, ℕ, suc, ◌+◌, ◌*◌, ◌<◌, Bool, true, false, met}
 use Rattle.mwc_sums.proofs.Imports.{rules_beside, can_veto, ◌^◌, map, filter, ap, refl, arith, All, sum, leb, ltb, List, [], ◌∷◌, rule-is}

@@ -1,5 +1,4 @@
 -- What only proofs, private functions and invariants need: no public contract mentions it.
 pub mod Fair
-pub mod Pairs
 pub mod Rules
 pub mod Seats

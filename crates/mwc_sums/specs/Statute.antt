@@ -7,12 +7,13 @@ use Rattle.mwc_sums.specs.Chambers.{chamber_of, share}
 use Rattle.mwc_sums.specs.Heads.{are_of_one_chamber}
 use Rattle.mwc_sums.specs.Vetoers.{can_veto, rest_of, rule_for}
 
--- the rule that asks for each of n members who passes a test, and what some rules ask of the others where all of these agree;
--- those that ask for nothing are left out
+-- the rule that asks for each of n members who passes a test, and what some rules ask of the others
+-- where all of these agree; those that ask for nothing are left out
 abbrev pub rules_beside : ℕ → (ℕ → Bool) → List RuleView → List RuleView
 rules_beside n f rs = filter (λ r. nat_lt 0 r.quota) (rule_for n f ∷ map (rest_of n f) rs)
 
--- the rules that a game consists of: the one for the members that can veto, and what its own ask of the others
+-- the rules that a game consists of: the one for the members that can veto, and what its own ask of
+-- the others
 abbrev pub statute : GameView → List RuleView
 statute g = rules_beside (length g.names) (can_veto g.rules) g.rules
 

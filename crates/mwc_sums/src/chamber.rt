@@ -8,7 +8,8 @@ ghost use Rattle.std.specs.Prelude.{◌≡◌, ◌<◌, ◌==◌, ◌&&◌, ◌|
 use crate::statute::Statute;
 
 impl Statute {
-    /// Whether a rule gives each member the weight `each`, but nothing to some who have no weight in another rule either.
+    /// Returns whether a rule gives each member `each`, or nothing if another rule gives nothing
+    /// either.
     fn gives_all(&self, each: u64, heads: usize, weights: usize) -> bool
         requires heads { heads < length self.now.rules }
         requires weights { weights < length self.now.rules }
@@ -22,7 +23,7 @@ impl Statute {
         })
     }
 
-    /// Whether a rule gives each member the weight `each` above 0, but nothing to some who have no weight in another rule either.
+    /// Returns the same of a weight `each` above 0.
     fn gives_each(&self, each: u64, heads: usize, weights: usize) -> bool
         requires heads { heads < length self.now.rules }
         requires weights { weights < length self.now.rules }
@@ -32,7 +33,8 @@ impl Statute {
         each > 0 && self.gives_all(each, heads, weights)
     }
 
-    /// A rule gives the same weight to some members, among them each with weight in another, and none to others.
+    /// Returns whether a rule gives some members the same weight, among them all with weight in
+    /// another rule, and nothing to the rest.
     fn asks_of_those(&self, heads: usize, weights: usize) -> bool
         requires heads { heads < length self.now.rules }
         requires weights { weights < length self.now.rules }
@@ -46,7 +48,8 @@ impl Statute {
         ))
     }
 
-    /// Of rules of one chamber, the one with the weights of its members, and the one that says who they are. None of others.
+    /// Returns the rule with the weights of a chamber's members, and the one that says who they
+    /// are; none if the rules are not of one chamber.
     pub(crate) fn seats(&self) -> Option<(usize, usize)>
         ensures seats { IfSome result (λ r. AreSeated self.now.members self.now.rules r.0 r.1) }
         ensures kind { IsSome result ↔ are_of_one_chamber self.now.members self.now.rules ≡ true }

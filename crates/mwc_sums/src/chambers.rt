@@ -15,7 +15,7 @@ use power_index::Counts;
 use std::alloc::Global;
 
 impl Statute {
-    /// Whether the rules that share a member with one are each of one chamber.
+    /// Returns whether the rules that share a member with one are each of one chamber.
     #[tactic(auto, unfolding(crate::specs::Inner::Rules::side))]
     pub(crate) fn is_counted(&self, alloc: Global, rule: usize) -> Result<bool, Memory>
         requires { rule < length self.now.rules }
@@ -30,7 +30,7 @@ impl Statute {
         Ok(true)
     }
 
-    /// The game of the rules of the first rule's chamber, counted.
+    /// Counts the game of the rules of the first rule's chamber.
     fn first_chamber(&self, alloc: Global, game: &Game) -> Result<Counted, Memory>
         requires some { 0 < length self.now.rules }
         requires chambers { AreOfChambers self.now.members self.now.rules }
@@ -49,7 +49,8 @@ impl Statute {
         })
     }
 
-    /// The counts of a game by these rules, of chambers: those of the first rule's chamber and of the others, paired.
+    /// Counts a game by these rules, of chambers: pairs of the first rule's chamber and of the
+    /// others.
     #[cycle(count)]
     pub(crate) fn count(&self, alloc: Global, game: &Game) -> Result<Box<Counts>, Memory>
         requires some { 0 < length self.now.rules }
@@ -69,7 +70,7 @@ impl Statute {
         Ok(first.join(game, &second))
     }
 
-    /// The game of these rules with the members of another, counted.
+    /// Counts the game of these rules with the members of another game.
     #[cycle(count)]
     pub(crate) fn counted(&self, alloc: Global, game: &Game) -> Result<Counted, Memory>
         requires some { 0 < length self.now.rules }

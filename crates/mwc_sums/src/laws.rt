@@ -16,17 +16,20 @@ pub fn minimal_coalitions_complete_the_quota()
         ≡ completing (rule_at v.rules 0).weights (rule_at v.rules 0).quota }
 {}
 
-/// In a game of two rules, of which the second asks for a number of heads, a coalition is minimal exactly where
-/// it has just as many members and meets the first quota, or has more members and is minimal under the first
-/// rule alone.
+/// The minimal coalitions of a game of two rules, of which the second asks for a number of heads.
+///
+/// They have just as many members and meet the first quota, or have more members and are minimal
+/// under the first rule alone.
 pub fn minimal_coalitions_by_heads()
     ensures { (v : Votes) (heads c : ℕ) → IsVotes v → length v.rules ≡ 2
         → AsksForHeads v.members heads (rule_at v.rules 1) → c < 2 ^ v.members
         → (minimal v c ≡ true) ↔ IsMinimalByHeads v heads c }
 {}
 
-/// The counts of a game's minimal winning coalitions, by member and by size, do not depend on the order of its
-/// rules, nor on the order of places that comes with it: those of a game with the same rules are its own.
+/// Counts of minimal winning coalitions do not depend on the order of the rules.
+///
+/// Nor do they depend on the order of places that comes with it: the counts of a game with the same
+/// rules are its own.
 #[tactic(auto, using(crate::proofs::Orders::same_counts))]
 pub fn counts_do_not_depend_on_the_order_of_rules()
     ensures { (g h : GameView) (t : Tables) → IsGame g → IsGame h → HaveTheSameRules g h
@@ -40,8 +43,10 @@ pub fn vetoers_are_in_each_winning_coalition()
         → wins v.rules c ≡ true → has v.members p c ≡ true }
 {}
 
-/// Where the rules of a game are those of two others, and no member has weight in both, each minimal winning coalition
-/// is one of each together: so are those of a size, and of a member and a size.
+/// A minimal winning coalition of a game of two chambers is one of each together.
+///
+/// The chambers have the rules of the game, and no member has weight in both. The law counts them
+/// by size, and by member and size.
 pub fn coalitions_of_chambers_are_pairs()
     ensures sizes { (g a b : GameView) (s : ℕ) → IsGame g → IsGame a → IsGame b → AreChambersOf g a b
         → minimal_of_size g s ≡ paired (minimal_of_size a) (minimal_of_size b) s }

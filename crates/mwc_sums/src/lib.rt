@@ -1,5 +1,6 @@
-//! Counts the minimal winning coalitions of games of one rule, of weights and heads, of such chambers, and beside vetoers,
-//! without listing any; and of other games the part that is of this kind.
+//! Counts the minimal winning coalitions of a game without listing any: of a game of one rule, of
+//! weights and heads, of several such chambers, and beside vetoers. Of another game it counts the
+//! part that is of this kind.
 //!
 //! ```text
 //! match count_by_sums(alloc, &game)? {
@@ -12,7 +13,8 @@
 //! }
 //! ```
 //!
-//! `weight_sums` counts what members with some weights lead to; here it is said which games that counts.
+//! `weight_sums` counts what members with some weights lead to; this crate says for which games
+//! that is the answer.
 #![tactic(auto)]
 
 mod chamber;

@@ -14,7 +14,8 @@ use council_game::{Game, GameFault, Memory, Rule};
 use std::alloc::Global;
 use std::marker::Model;
 
-/// Rules over members that are numbered as those of a game: the rules that it consists of, or some of them.
+/// Rules over members that are numbered as those of a game: those that it consists of, or some of
+/// them.
 #[derive(Drop)]
 pub(crate) struct Statute {
     members: usize,
@@ -34,7 +35,7 @@ impl Model for Statute {
     ghost invariant = { λ s. All (IsFair s.members) (rule_views s.rules.items) };
 }
 
-/// The names of a game's members.
+/// Copies the names of a game's members.
 fn copied_names(alloc: Global, game: &Game) -> Result<Vec<String>, Memory>
     ensures { IfOk result (λ names. map string_bytes names.items ≡ game.now.names) }
 {
@@ -47,7 +48,7 @@ fn copied_names(alloc: Global, game: &Game) -> Result<Vec<String>, Memory>
 }
 
 impl Statute {
-    /// What a game consists of.
+    /// Returns the rules that a game consists of.
     #[tactic(auto, using(crate::proofs::VetoRules::statutes))]
     pub(crate) fn of(alloc: Global, game: &Game) -> Result<Statute, Memory>
         ensures members { IfOk result (λ s. s.members ≡ length game.now.names) }
@@ -62,14 +63,14 @@ impl Statute {
         Ok(Statute { members, rules })
     }
 
-    /// Each rule is one that a game can have. Nothing runs: a caller writes it where the prover is to know.
+    /// Says to the prover that each rule is one that a game can have. Nothing runs.
     pub(crate) fn rules_are_fair(&self)
         ensures { All (IsFair self.now.members) self.now.rules }
     {
         let _ = &self.rules;
     }
 
-    /// How many members there are; each rule is one that a game can have.
+    /// Returns how many members there are.
     pub(crate) fn members(&self) -> usize
         ensures count { result ≡ self.now.members }
         ensures fair { All (IsFair self.now.members) self.now.rules }
@@ -77,14 +78,14 @@ impl Statute {
         self.members
     }
 
-    /// How many rules there are.
+    /// Returns how many rules there are.
     pub(crate) fn rules(&self) -> usize
         ensures { result ≡ length self.now.rules }
     {
         self.rules.len()
     }
 
-    /// The weight of a member under a rule.
+    /// Returns the weight of a member under a rule.
     pub(crate) fn weight(&self, rule: usize, member: usize) -> u64
         requires rule { rule < length self.now.rules }
         requires member { member < self.now.members }
@@ -93,7 +94,7 @@ impl Statute {
         self.rules[rule].weights[member]
     }
 
-    /// One of the rules.
+    /// Copies one of the rules.
     fn copied(&self, rule: usize) -> Result<Rule, Memory>
         requires { rule < length self.now.rules }
         ensures { IfOk result (λ r. rule_view r ≡ rule_at self.now.rules rule) }
@@ -105,7 +106,7 @@ impl Statute {
         })
     }
 
-    /// Whether a member has weight in both of two rules.
+    /// Returns whether a member has weight in both of two rules.
     pub(crate) fn share(&self, first: usize, second: usize) -> bool
         requires first { first < length self.now.rules }
         requires second { second < length self.now.rules }
@@ -116,7 +117,7 @@ impl Statute {
             && self.weight(second, member) > 0)
     }
 
-    /// The rules that share a member with one of them, or the others.
+    /// Copies the rules that share a member with one of them, or the others.
     pub(crate) fn beside(
         &self,
         alloc: Global,
@@ -137,7 +138,7 @@ impl Statute {
         Ok(Statute { members, rules })
     }
 
-    /// Those that sums count, or those that they leave.
+    /// Copies the rules that sums count, or those that they leave.
     pub(crate) fn part(&self, alloc: Global, counted: bool) -> Result<Statute, Memory>
         ensures members { IfOk result (λ s. s.members ≡ self.now.members) }
         ensures rules { IfOk result (λ s. s.rules ≡ part_of counted self.now.members self.now.rules) }
@@ -152,7 +153,7 @@ impl Statute {
         Ok(Statute { members, rules })
     }
 
-    /// The same rules once more.
+    /// Copies all rules.
     pub(crate) fn copy(&self, alloc: Global) -> Result<Statute, Memory>
         ensures { IfOk result (λ s. s ≡ self.now) }
     {
@@ -164,7 +165,7 @@ impl Statute {
         Ok(Statute { members, rules })
     }
 
-    /// The game of these rules, with the members of another and no title. Its places are ranked by the first of them.
+    /// Makes the game of these rules, with the members of another and no title.
     #[tactic(auto, using(crate::proofs::VetoRules::remaking))]
     pub(crate) fn game(self, alloc: Global, game: &Game) -> Result<Game, Memory>
         requires members { self.members ≡ length game.now.names }

@@ -1,4 +1,4 @@
-//! Games in which some members can veto: where these agree, the rules ask the others for what is left.
+//! Games in which some members have a veto: if these agree, the rules ask the others for the rest.
 ghost use Rattle.council_game.specs.Rules.{rule_view, rule_views};
 ghost use Rattle.council_game.specs.Votes.{rule_at};
 ghost use Rattle.mwc_sums.specs.Statute.{statute};
@@ -8,7 +8,7 @@ ghost use Rattle.std.specs.Prelude.{◌≡◌, ◌<◌, ◌∷◌, ◌++◌, [],
 use council_game::{Game, Memory, Rule};
 use std::alloc::Global;
 
-/// Whether a member can veto: the others together miss the quota of some rule.
+/// Returns whether a member can veto: the others together miss the quota of some rule.
 fn can_veto(game: &Game, member: usize) -> bool
     requires { member < length game.now.names }
     ensures { result ≡ can_veto game.now.rules member }
@@ -24,7 +24,7 @@ fn can_veto(game: &Game, member: usize) -> bool
     false
 }
 
-/// The rule that asks for each member that can veto.
+/// Makes the rule that asks for each member with a veto.
 fn rule_for_vetoers(alloc: Global, game: &Game) -> Result<Rule, Memory>
     ensures { IfOk result (λ r. rule_view r ≡ rule_for (length game.now.names) (can_veto game.now.rules)) }
 {
@@ -39,7 +39,7 @@ fn rule_for_vetoers(alloc: Global, game: &Game) -> Result<Rule, Memory>
     Ok(Rule { quota, weights })
 }
 
-/// What is left of a rule where all that can veto agree: what it asks of the others, and their weights.
+/// Makes what a rule asks of the others if all with a veto agree.
 fn rest_of_rule(alloc: Global, game: &Game, rule: usize) -> Result<Rule, Memory>
     requires { rule < length game.now.rules }
     ensures { IfOk result (λ r. rule_view r
@@ -59,7 +59,7 @@ fn rest_of_rule(alloc: Global, game: &Game, rule: usize) -> Result<Rule, Memory>
     Ok(Rule { quota, weights })
 }
 
-/// Puts a rule behind others where it asks for something.
+/// Puts a rule at the end of others if it asks for something.
 fn put(rules: &mut Vec<Rule>, rule: Rule) -> Result<(), Memory>
     ensures { IfOk result (λ _. rule_views rules.new.items
         ≡ rule_views rules.old.items ++ filter (λ r. nat_lt 0 r.quota) (rule_view rule ∷ [])) }
@@ -70,8 +70,8 @@ fn put(rules: &mut Vec<Rule>, rule: Rule) -> Result<(), Memory>
     Ok(())
 }
 
-/// The rule that asks for all that can veto, and what the rules ask of the others where these agree; those that ask for
-/// nothing are left out.
+/// Makes the rule that asks for all with a veto, and what the rules ask of the others if these
+/// agree; those that ask for nothing are left out.
 #[tactic(auto, using(crate::proofs::VetoRules::one_more))]
 pub(crate) fn rules_beside_vetoers(alloc: Global, game: &Game) -> Result<Vec<Rule>, Memory>
     ensures { IfOk result (λ rules. rule_views rules.items ≡ statute game.now) }

@@ -58,10 +58,8 @@ pub slices-room : (s : SlicedGame) (j : ℕ) → IsGame s.game.now → j < 2 ^ s
 slices-room s j game lt =
     let f : ℕ → ℕ = λ i. length (slice_of s i) in
     let ends = ap (λ (l : List ℕ). length l) (all-slices s) in
-    let most : sum_by f (range_with_len 0 (2 ^ s.bits)) ≤ 2 ^ 40 =
-    omega (arith, length-flat_map (slice_of s) (range_with_len 0 (2 ^ s.bits)), ends, minimal-few s.game.now game) in
-    let less = sum_by-range-le f (j + 1) (2 ^ s.bits) (omega (arith, lt)) in
-    omega (arith, most, length-flat_map (slice_of s) (range_with_len 0 j), sum_by-range-more f j, less)
+    let most : sum_by f (range_with_len 0 (2 ^ s.bits)) ≤ 2 ^ 40 = grind (arith, length-flat_map, minimal-few) in
+    let less = sum_by-range-le f (j + 1) (2 ^ s.bits) (omega (arith, lt)) in grind (arith, length-flat_map, sum_by-range-more)
 
 pub slices-more : (s : SlicedGame) (j : ℕ)
     → flat_map (slice_of s) (range_with_len 0 j) ++ slice_of s j ≡ flat_map (slice_of s) (range_with_len 0 (j + 1))
@@ -100,9 +98,7 @@ module _ {X : Type 0} (P : X → Type 0) {x : X} {rest all : List X} (begins : a
 -- what a thread counted of the slices that it was given, as they are read
 pub same-share : {s given : SlicedGame} {taken : List ℕ} {t : Tables} (share : Share) → given ≡ s → IsShare given share
     → taken ≡ share.taken.items → t ≡ share.counts.value → CountSlices s taken t
-same-share {s} {t = t} share own h items counts =
-    subst (λ (l : List ℕ). CountSlices s l t) (sym items)
-    (subst (CountSlices s share.taken.items) (sym counts) (subst (λ (u : SlicedGame). IsShare u share) own h))
+same-share {s} {t = t} share own h items counts = grind (arith)
 
 -- what a row of numbers rests on
 pub ruleset shares = (common_steps, range-more)

@@ -23,11 +23,10 @@ take-append (suc n) (x ∷ xs) ys = grind (arith, take-append n xs ys)
 -- a piece and those before it are no longer than all
 pub pieces-length : {X : Type 0} (f : X → List ℕ) (xs : List X) (k : ℕ) (x : X) → k < length xs → x ≡ get_or xs k x
     → length (flat_map f (take k xs)) + length (f x) ≤ length (flat_map f xs)
-pieces-length f xs k x lt is =
-    let e = length-flat_map-take f xs k x lt in
-    let same = ap (λ y. length (f y)) is in omega (arith, e, same)
+pieces-length f xs k x lt is = grind (arith, length-flat_map-take)
 
--- a stretch has come as far as piece x, at place k, with s still to be skipped and l still to be taken
+-- a stretch has come as far as piece x, at place k, with s still to be skipped and l still to be
+-- taken
 module _ {X : Type 0} (f : X → List ℕ) (xs : List X) (k skip most : ℕ) {s l a m : ℕ} {x : X} (lt : k < length xs) (is : x ≡ get_or xs k x)
     (s-is : s ≡ skip - length (flat_map f (take k xs))) (l-is : l ≡ most - length (drop skip (flat_map f (take k xs))))
     (a-is : a ≡ min s (length (f x))) (m-is : m ≡ min l (length (take (length (f x) - a) (drop a (f x))))) where

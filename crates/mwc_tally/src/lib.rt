@@ -1,6 +1,5 @@
-//! Counts by several threads. Of the minimal winning coalitions of a game, which is walked slice by
-//! slice: nothing is kept of a coalition but that it was counted, so there may be any number of them.
-//! And of a list of coalitions that lies in pieces.
+//! Counts by several threads: of all minimal winning coalitions of a game, slice by slice and
+//! without keeping any, so there may be any number of them; and of a list of coalitions in pieces.
 //!
 //! ```text
 //! let counts = tally(rt, alloc, &game, 6, 4, &NoGate)?;

@@ -34,7 +34,7 @@ impl<'s> Promise<Counts> for GivenStretch<'s> {
 /// A thread that counts a stretch.
 type Counting<'s> = PromisedHandle<Counts, GivenStretch<'s>>;
 
-/// How many coalitions pieces have together.
+/// Returns how many coalitions pieces have together.
 #[tactic(auto, using(crate::proofs::Stretches::lengths))]
 fn length_of(pieces: &[&[Coalition]]) -> usize
     requires { length (joined pieces.now) ≤ 2 ^ MEMBERS }
@@ -43,7 +43,7 @@ fn length_of(pieces: &[&[Coalition]]) -> usize
     pieces.iter().map(|piece| piece.len()).sum()
 }
 
-/// The counts of at most `most` coalitions of a list in pieces, past its first `skip`.
+/// Counts at most `most` coalitions of a list in pieces, past its first `skip`.
 fn of_stretch(game: &Game, pieces: &[&[Coalition]], skip: usize, most: usize) -> Counts
     requires list { CanBeCounted game.now (joined pieces.now) }
     ensures { CountStretch game.now pieces.now skip most result }
@@ -61,13 +61,14 @@ fn of_stretch(game: &Game, pieces: &[&[Coalition]], skip: usize, most: usize) ->
     counts
 }
 
-/// The counts of a list of coalitions, none of them empty, that is given in pieces, one after the
-/// other, by 1 to 16 threads, the calling one among them. Each counts an equal stretch of the list,
-/// wherever the pieces end. It waits for their end.
+/// Counts a list of nonempty coalitions in pieces by 1 to 16 threads, the calling one included.
+///
+/// Each thread counts an equal stretch of the list, wherever the pieces end. The call waits for
+/// their end.
 ///
 /// # Errors
 ///
-/// `Start` where a thread could not be started.
+/// Returns `Start` if a thread could not be started.
 pub fn tally_pieces<R: Threads + Wait + Sync>(
     rt: &R,
     game: &Game,
@@ -100,7 +101,7 @@ pub fn tally_pieces<R: Threads + Wait + Sync>(
     )
 }
 
-/// Starts a thread that counts a stretch; none where it could not be started.
+/// Starts a thread that counts a stretch; none if it could not be started.
 fn start<'s, E>(
     scope: &Scope<'s, E>,
     game: &'s Game,
@@ -125,7 +126,7 @@ fn start<'s, E>(
     scope.spawn_with(given, body).ok()
 }
 
-/// Counts the first `stretch` coalitions of a list, in place of what was counted before.
+/// Counts the first `stretch` coalitions of a list into `counts`.
 #[inline(never)]
 fn count_first(game: &Game, pieces: &[&[Coalition]], stretch: usize, counts: &mut Counts)
     requires list { CanBeCounted game.now (joined pieces.now) }
@@ -134,7 +135,8 @@ fn count_first(game: &Game, pieces: &[&[Coalition]], stretch: usize, counts: &mu
     *counts = of_stretch(game, pieces, 0, stretch);
 }
 
-/// Joins the thread that counts `stretch` coalitions behind the first `skip`, and adds its counts to theirs.
+/// Joins the thread that counts the `stretch` coalitions after the first `skip`, and adds its
+/// counts to theirs.
 #[inline(never)]
 fn add_stretch<'s, R: Threads>(
     rt: &R,
@@ -154,8 +156,10 @@ fn add_stretch<'s, R: Threads>(
     counts.add(&own);
 }
 
-/// Counts the first stretches of a list, of `stretch` coalitions each: the calling thread counts one, and `others`
-/// threads one each. It calls itself for each thread, so that it keeps no counts of its own on the stack.
+/// Counts the first stretches of a list, of `stretch` coalitions each.
+///
+/// The calling thread counts one, and `others` threads one each. It calls itself for each thread,
+/// so it keeps no counts of its own on the stack.
 fn count_stretches<'s, E, R: Threads>(
     scope: &Scope<'s, E>,
     rt: &R,

@@ -11,17 +11,17 @@ use std::alloc::Global;
 /// No game has more minimal winning coalitions.
 const MOST: u64 = 1 << limits::MEMBERS;
 
-/// The counts of some slices of a game together, and which slices they were, in the order in which
+/// The counts of some slices of a game together, and which slices these are, in the order in which
 /// they were added.
 #[derive(Drop)]
 pub(crate) struct Share {
     pub taken: Vec<u16>,
-    /// (On the heap: a thread hands its share on by value, and its stack may be small.)
+    /// On the heap: a thread returns its share by value, and its stack may be small.
     pub counts: Box<Counts>,
 }
 
 impl Share {
-    /// No slice. (By itself, so that the room in which the counts are made is free again when a walk begins.)
+    /// Returns the share of no slice. (Out of line: inlined, it would cost stack on every call.)
     #[inline(never)]
     pub(crate) fn none(alloc: Global, slices: SlicedGame<'_>) -> Result<Share, Memory>
         ensures { IfOk result (IsShare slices.entry) }
@@ -33,9 +33,10 @@ impl Share {
         })
     }
 
-    /// Adds the counts of further slices. Where there were more than any game has, nothing is
-    /// added; whoever looks at the slices that were taken finds some missing. Nor is anything added
-    /// where a growth was refused.
+    /// Adds the counts of further slices.
+    ///
+    /// If there were more coalitions than any game has, it adds nothing, and `whole` finds that
+    /// slices are missing. Nor does it add anything if an allocation was refused.
     pub(crate) fn add(
         &mut self,
         slices: SlicedGame<'_>,
@@ -54,7 +55,7 @@ impl Share {
         Ok(())
     }
 
-    /// The counts, where the slices are all those of the game, each once.
+    /// Returns the counts if the slices are all those of the game, each once.
     pub(crate) fn whole(self, slices: SlicedGame<'_>) -> Option<Box<Counts>>
         requires { IsShare slices self }
         ensures { IfSome result (λ counts. CountWhole slices.entry counts.value) }
@@ -69,7 +70,7 @@ impl Share {
     }
 }
 
-/// Whether a row of numbers is 0, 1, .. up to, but not, `count`.
+/// Returns whether a row of numbers is 0, 1, .. up to, but not, `count`.
 #[tactic(auto, using(crate::proofs::Counting::shares))]
 fn is_each_once(row: &[u16], count: u16) -> bool
     ensures { result ≡ true → row.now ≡ range_with_len 0 count }

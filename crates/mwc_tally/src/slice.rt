@@ -13,7 +13,8 @@ use council_game::Game;
 use mwc_walk::{Seek, Walk};
 use power_index::Counts;
 
-/// A gate is informed of each 1,048,576 prefixes or coalitions of a slice, and of the rest at its end.
+/// A gate is informed of each 1,048,576 prefixes or coalitions of a slice, and of the rest at its
+/// end.
 const EACH: u64 = 1 << 20;
 
 /// What the constant is, as a number: clauses name it.

@@ -14,8 +14,8 @@ use std::sync::atomic::{AtomicU64, Ordering};
 #[derive(Drop)]
 pub(crate) struct SliceQueue<'a, G> {
     pub slices: SlicedGame<'a>,
-    taken: &'a AtomicU64,
-    gate: &'a G,
+    pub taken: &'a AtomicU64,
+    pub gate: &'a G,
 }
 
 impl<'a, G: Gate> SliceQueue<'a, G> {
@@ -33,21 +33,15 @@ impl<'a, G: Gate> SliceQueue<'a, G> {
         }
     }
 
-    /// Returns the same queue, for another thread.
-    pub(crate) fn share(&self) -> SliceQueue<'a, G>
-        ensures { result.slices ≡ self.now.slices }
-    {
-        SliceQueue::new(self.slices, self.taken, self.gate)
-    }
-
     /// Leaves no slice to be taken.
     pub(crate) fn stop(&self) {
         self.taken
             .store(u64::from(self.slices.count()), Ordering::SeqCst);
     }
 
-    /// Counts one slice after another that nobody took yet, until none is left. The last slice comes first: the heaviest
-    /// members are out there, and it mostly takes longest.
+    /// Counts one slice after another that nobody took yet, until none is left.
+    ///
+    /// The last slice comes first: the heaviest members are out there, and it mostly takes longest.
     fn count(&self, alloc: Global, worker: u8) -> Result<Share, Memory>
         ensures { IfOk result (IsShare self.now.slices) }
     {
@@ -66,7 +60,8 @@ impl<'a, G: Gate> SliceQueue<'a, G> {
         Ok(share)
     }
 
-    /// Counts as `count` does. If memory runs out, it leaves nothing to the other workers, since all is lost.
+    /// Counts as `count` does. If memory runs out, it leaves nothing to the other workers, since
+    /// all is lost.
     pub(crate) fn run(&self, alloc: Global, worker: u8) -> Result<Share, Memory>
         ensures { IfOk result (IsShare self.now.slices) }
     {

@@ -17,7 +17,7 @@ pub(crate) struct SlicedGame<'a> {
 }
 
 impl<'a> SlicedGame<'a> {
-    /// How many slices there are.
+    /// Returns how many slices there are.
     pub(crate) fn count(self) -> u16
         ensures { result ≡ 2 ^ self.entry.bits }
     {

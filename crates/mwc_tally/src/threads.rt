@@ -21,15 +21,17 @@ use std::thread::{PromisedHandle, Scope, Threads};
 /// A thread that was started.
 type Started<'s> = PromisedHandle<Result<Share, Memory>, SlicedGame<'s>>;
 
-/// Counts all minimal winning coalitions of a game by `workers` threads, 1 to 16, and waits for their end.
+/// Counts all minimal winning coalitions of a game by `workers` threads, 1 to 16.
 ///
-/// At most 10 of the heaviest members, `bits` of them, are fixed in each slice. A worker takes the next slice that
-/// nobody took yet, until none is left. Before it walks a slice it passes the gate, with its number and that of the
-/// slice; workers are numbered from 0.
+/// The `bits` heaviest members are fixed in each slice; there are at most 10 bits, and no more than
+/// members. A worker takes the next slice that nobody took yet, until none is left. Before it walks
+/// a slice, it passes the gate with its number, from 0, and that of the slice. The call waits for
+/// the end of all workers.
 ///
 /// # Errors
 ///
-/// Returns `Start` if a thread could not be started, and else `Memory` if an allocation was refused.
+/// Returns `Start` if a thread could not be started, and else `Memory` if an allocation was
+/// refused.
 pub fn tally<R: Threads + Wait + Sync, G: Gate + Sync>(
     rt: &R,
     alloc: Global,
@@ -72,7 +74,7 @@ fn start<'s, E, G: Gate + Sync>(
 ) -> Option<Started<'s>>
     ensures { MatchOption result ⊤ (λ t. t.promise ≡ queue.now.slices) }
 {
-    let own = queue.share();
+    let own = SliceQueue { ..*queue };
     let body = move || -> Result<Share, Memory>
         ensures { IfOk result (IsShare own.entry.slices) }
     { own.run(alloc, worker) };
@@ -143,6 +145,7 @@ fn join_all<'s, R: Threads>(
             Err(_) => lost = true,
         }
     }
+    // memory: a share that was lost, or not added
     if lost { Err(Memory) } else { Ok(all) }
 }
 

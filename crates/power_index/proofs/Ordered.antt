@@ -1,4 +1,5 @@
--- Two fractions are ordered by their quotients, and where these are equal by what is left, turned upside down.
+-- Two fractions are ordered by their quotients, and where these are equal by what is left, turned
+-- upside down.
 use Rattle.power_index.proofs.Imports.{◌≡◌, ◌∙◌, ◌≢◌, ℕ, suc, ◌+◌, ◌*◌, ◌/◌, ◌%◌, ◌<◌, ◌≤◌, ap, refl, arith, inl, inr, cases_lt, cases_eq}
 use Rattle.power_index.proofs.Imports.{div-add-mod, mod-lt, mul-le-mul, nat_tests}
 use Rattle.std.proofs.Common.{nat_cmp}

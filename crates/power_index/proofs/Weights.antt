@@ -1,4 +1,5 @@
--- What the table of a member's sizes weighs: the unit fractions of its coalitions, over the common denominator.
+-- What the table of a member's sizes weighs: the unit fractions of its coalitions, over the common
+-- denominator.
 use Rattle.power_index.proofs.Imports.{◌≡◌, ◌∙◌, ℕ, ◌+◌, ◌*◌, ◌/◌, ◌<◌, ◌≤◌, List, length, sym, ap, arith, filter, sum_by, range_with_len}
 use Rattle.power_index.proofs.Imports.{AllByRecursion, fold-map, GameView, members, contains, count_of_member, size_of, Tables, AreCounts}
 use Rattle.power_index.proofs.Imports.{denominator, weighted_sum, table_total, table_of_member, table_of_member_size, table_memberships}

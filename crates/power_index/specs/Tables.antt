@@ -7,7 +7,8 @@ use Rattle.council_game.specs.Votes.{has, minimal_coalitions, size}
 use Rattle.council_game.specs.Game.{GameView, IsGame, votes_of}
 use Rattle.power_index.specs.Counting.{count_of_size, count_of_member, count_of_member_size}
 
--- the rank place of each member, how many coalitions there are by size, and by rank place how many contain each member
+-- the rank place of each member, how many coalitions there are by size, and by rank place how many
+-- contain each member
 pub record Tables : Type 0 where
   pub members : ℕ
   pub ranks : List ℕ

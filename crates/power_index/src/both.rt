@@ -9,7 +9,7 @@ use crate::{Counts, Index, deegan_packel, public_good};
 use council_game::Memory;
 use std::alloc::Global;
 
-/// Both indices of a member. Each can be printed, as a digit, a point and six digits.
+/// Both indices of a member, each of which prints as a digit, a point and six digits.
 #[derive(Clone, Copy, Debug, PartialEq, Eq)]
 pub struct MemberIndices {
     /// The Deegan-Packel index (Deegan and Packel 1978).
@@ -18,7 +18,7 @@ pub struct MemberIndices {
     pub public_good: Index,
 }
 
-/// Both indices of a member.
+/// Computes both indices of a member.
 fn indices_of(counts: &Counts, member: usize) -> MemberIndices
     requires some { 1 ≤ table_total counts.now }
     requires member { member < counts.now.members }
@@ -31,11 +31,13 @@ fn indices_of(counts: &Counts, member: usize) -> MemberIndices
     }
 }
 
-/// Both indices of each member, in the order of the file, over each list that has these counts.
+/// Computes both indices of each member, in the order of the file.
+///
+/// They hold for each list with these counts.
 ///
 /// # Errors
 ///
-/// `Memory` where a growth was refused.
+/// Returns `Memory` if an allocation was refused.
 pub fn all_indices(alloc: Global, counts: &Counts) -> Result<Vec<MemberIndices>, Memory>
     requires { 1 ≤ table_total counts.now }
     ensures count { IfOk result (λ v. length v.items ≡ counts.now.members) }

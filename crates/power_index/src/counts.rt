@@ -13,13 +13,16 @@ use coalitions::{SizeCounts, add_counts};
 use council_game::{Coalition, Game, limits};
 use std::marker::Model;
 
-/// The counts of a list of coalitions of a game, none of them empty: how many there are, how many
-/// have each size, how many contain each member, and how many have each size among those. They are
-/// counted one by one, and the counts of two lists can be added.
+/// The counts of a list of nonempty coalitions of a game.
 ///
-/// The numbers have 64 bits. No game of 40 members has more than 2^40 coalitions, so nothing that
-/// is counted once is ever too many. The plain readers give 32 bits, which hold the counts of any list
-/// of a run, as it has at most 4,000,000 coalitions; the wide ones give all. Contracts see the tables.
+/// They say how many coalitions there are, how many have each size, how many contain each member,
+/// and how many of those have each size. Coalitions are counted one by one, and the counts of two
+/// lists can be added.
+///
+/// The numbers have 64 bits. A game of 40 members has at most 2^40 coalitions, so no number
+/// overflows as long as each coalition is counted once. The plain readers return 32 bits, enough
+/// for the list of any run, which has at most 4,000,000 coalitions; the wide ones return 64.
+/// Contracts see the tables.
 #[derive(Drop)]
 pub struct Counts {
     members: usize,
@@ -52,7 +55,7 @@ impl Model for Counts {
     }) };
 }
 
-/// Counts a coalition at each place that is in it: one step for each binary digit 1 of its mask.
+/// Counts a coalition at each place that is in it, one step for each 1 of its mask.
 fn add_to_places(
     members: usize,
     coalition: Coalition,
@@ -77,7 +80,7 @@ fn add_to_places(
     }
 }
 
-/// Adds the numbers of other coalitions, place by place.
+/// Adds the counts of other coalitions, place by place.
 fn join_places(
     members: usize,
     by_place: &mut [SizeCounts; limits::MEMBERS],
@@ -96,7 +99,7 @@ fn join_places(
     }
 }
 
-/// How many coalitions of the sizes from 0 to the number of members there are.
+/// Adds up the coalitions of the sizes from 0 to the number of members.
 #[tactic(auto, using(crate::proofs::Sizes::one_more))]
 fn total(sizes: &SizeCounts, members: usize) -> u64
     requires members { members ≤ MEMBERS }
@@ -110,7 +113,7 @@ fn total(sizes: &SizeCounts, members: usize) -> u64
     total
 }
 
-/// A number in 32 bits, or the greatest that these hold.
+/// Returns a number in 32 bits, or the greatest of these.
 fn narrow(number: u64) -> u32
     ensures { result ≡ min number (2 ^ 32 - 1) }
 {
@@ -118,7 +121,7 @@ fn narrow(number: u64) -> u32
 }
 
 impl Counts {
-    /// The counts of no coalition of a game.
+    /// Returns the counts of no coalition of a game.
     pub fn none(game: &Game) -> Counts
         ensures tallies { AreTallies game.now [] result }
         ensures counts { AreCounts game.now [] result }
@@ -136,8 +139,10 @@ impl Counts {
         }
     }
 
-    /// The counts of a list of coalitions, none of them empty, that were counted elsewhere: by size how
-    /// many there are, and by rank place how many contain it.
+    /// Returns the counts of a list of nonempty coalitions that were counted elsewhere.
+    ///
+    /// `all` has the number of each size, and `each`, by rank place, the numbers of those that
+    /// contain it.
     pub fn of_sizes(game: &Game, all: SizeCounts, each: [SizeCounts; limits::MEMBERS]) -> Counts
         ghost list: { List ℕ }
         requires few { length list ≤ 2 ^ MEMBERS }
@@ -155,8 +160,7 @@ impl Counts {
         counts
     }
 
-    /// Counts one coalition more. Where these were the counts of a list, they are then those of the
-    /// list with the coalition at its end.
+    /// Counts one more coalition: the list gets it at its end.
     pub fn count(&mut self, coalition: Coalition)
         requires some { 0 < coalition }
         requires below { coalition < 2 ^ self.old.members }
@@ -171,7 +175,7 @@ impl Counts {
         add_to_places(self.members, coalition, size, &mut self.each);
     }
 
-    /// Counts a row of coalitions more.
+    /// Counts the coalitions of a slice as well, at the end of the list.
     pub fn count_row(&mut self, row: &[Coalition])
         requires coalitions { All (λ c. (0 < c) × (c < 2 ^ self.old.members)) row.now }
         requires room { table_total self.old + length row.now ≤ 2 ^ MEMBERS }
@@ -185,8 +189,9 @@ impl Counts {
         }
     }
 
-    /// Adds the counts of another list of coalitions of the same game: these are then the counts of
-    /// both lists, one after the other.
+    /// Adds the counts of another list of coalitions of the same game.
+    ///
+    /// The result counts both lists, one after the other.
     pub fn add(&mut self, other: &Counts)
         requires game { AreOfOneGame self.old other.now }
         requires room { table_total self.old + table_total other.now ≤ 2 ^ MEMBERS }
@@ -199,7 +204,7 @@ impl Counts {
         join_places(self.members, &mut self.each, &other.each);
     }
 
-    /// Counts the coalitions of a list, none of them empty, in one pass.
+    /// Counts a list of nonempty coalitions in one pass.
     pub fn of(game: &Game, list: &[Coalition]) -> Counts
         requires few { length list.now ≤ 2 ^ MEMBERS }
         requires coalitions { AreNonemptyCoalitions game.now list.now }
@@ -211,8 +216,10 @@ impl Counts {
         counts
     }
 
-    /// The number of members of the game, 1 to 40, and what all counts keep: there are at most 2^40
-    /// coalitions, no count is above that of all, and the fractions of each member add up to at most 1.
+    /// Returns the number of members of the game, 1 to 40.
+    ///
+    /// Its contract also says what all counts keep: there are at most 2^40 coalitions, no count
+    /// exceeds that of all, and the fractions of each member add up to at most 1.
     pub fn members(&self) -> usize
         ensures members { result ≡ self.now.members }
         ensures some { 1 ≤ result }
@@ -222,7 +229,7 @@ impl Counts {
         self.members
     }
 
-    /// The number of coalitions, at most 2^40.
+    /// Returns the number of coalitions, at most 2^40.
     pub fn wide_total(&self) -> u64
         ensures total { result ≡ table_total self.now }
         ensures few { result ≤ 2 ^ MEMBERS }
@@ -230,7 +237,7 @@ impl Counts {
         total(&self.all, self.members)
     }
 
-    /// The number of coalitions of a size.
+    /// Returns the number of coalitions of a size.
     pub fn wide_of_size(&self, size: usize) -> u64
         requires { size ≤ self.now.members }
         ensures count { result ≡ table_of_size self.now size }
@@ -240,7 +247,7 @@ impl Counts {
         all[size]
     }
 
-    /// The number of coalitions that contain a member, given by its place in the file.
+    /// Returns the number of coalitions that contain a member, by its place in the file.
     pub fn wide_of_member(&self, member: usize) -> u64
         requires { member < self.now.members }
         ensures count { result ≡ table_of_member self.now member }
@@ -250,7 +257,7 @@ impl Counts {
         total(&each[self.ranks[member]], self.members)
     }
 
-    /// The number of coalitions of a size that contain a member.
+    /// Returns the number of coalitions of a size that contain a member.
     pub fn wide_of_member_size(&self, member: usize, size: usize) -> u64
         requires member { member < self.now.members }
         requires size { size ≤ self.now.members }
@@ -261,15 +268,14 @@ impl Counts {
         each[self.ranks[member]][size]
     }
 
-    /// The number of coalitions in 32 bits, or the greatest number of 32 bits where there are more.
+    /// Returns the number of coalitions, or the greatest number of 32 bits if there are more.
     pub fn total(&self) -> u32
         ensures { result ≡ min (table_total self.now) (2 ^ 32 - 1) }
     {
         narrow(self.wide_total())
     }
 
-    /// The number of coalitions of a size in 32 bits, or the greatest number of 32 bits where there are
-    /// more.
+    /// Returns `wide_of_size`, or the greatest number of 32 bits if it is greater.
     pub fn of_size(&self, size: usize) -> u32
         requires { size ≤ self.now.members }
         ensures count { table_total self.now < 2 ^ 32 → result ≡ table_of_size self.now size }
@@ -279,8 +285,7 @@ impl Counts {
         narrow(self.wide_of_size(size))
     }
 
-    /// The number of coalitions that contain a member, given by its place in the file, in 32 bits, or
-    /// the greatest number of 32 bits where there are more.
+    /// Returns `wide_of_member`, or the greatest number of 32 bits if it is greater.
     pub fn of_member(&self, member: usize) -> u32
         requires { member < self.now.members }
         ensures count { table_total self.now < 2 ^ 32 → result ≡ table_of_member self.now member }
@@ -290,8 +295,7 @@ impl Counts {
         narrow(self.wide_of_member(member))
     }
 
-    /// The number of coalitions of a size that contain a member, in 32 bits, or the greatest number of
-    /// 32 bits where there are more.
+    /// Returns `wide_of_member_size`, or the greatest number of 32 bits if it is greater.
     pub fn of_member_size(&self, member: usize, size: usize) -> u32
         requires member { member < self.now.members }
         requires size { size ≤ self.now.members }
@@ -303,7 +307,7 @@ impl Counts {
         narrow(self.wide_of_member_size(member, size))
     }
 
-    /// The numbers of all members, added.
+    /// Adds up the numbers of all members.
     #[tactic(auto, using(crate::proofs::Sizes::one_more))]
     pub(crate) fn memberships(&self) -> u64
         ensures sum { result ≡ table_memberships self.now }

@@ -12,7 +12,7 @@ pub struct Fraction {
     pub bottom: u128,
 }
 
-/// The greatest common divisor, by Euclid's algorithm.
+/// Computes the greatest common divisor, by Euclid's algorithm.
 fn gcd(a: u128, b: u128) -> u128
     ensures { IsGcd a b result }
 {
@@ -26,7 +26,7 @@ fn gcd(a: u128, b: u128) -> u128
     x
 }
 
-/// The fraction `top / bottom` in lowest terms: no number above 1 divides both. A top of 0 gives 0/1.
+/// Returns `top / bottom` in lowest terms: no number above 1 divides both. 0 becomes 0/1.
 pub fn lowest(top: u128, bottom: u128) -> Fraction
     requires { 0 < bottom }
     ensures lowest { IsLowestOf (top, bottom) (pair_of result) }
@@ -40,7 +40,7 @@ pub fn lowest(top: u128, bottom: u128) -> Fraction
     }
 }
 
-/// The last decimal digit of a number, as its code.
+/// Returns the last decimal digit of a number, as its code.
 fn digit_of(n: u128) -> u8
     ensures { result ≡ digit n }
 {
@@ -48,8 +48,9 @@ fn digit_of(n: u128) -> u8
 }
 
 impl Fraction {
-    /// A fraction from 0 to 1 as one digit, a point and six digits: the millionths are cut off and
-    /// not rounded.
+    /// Returns a fraction from 0 to 1 as one digit, a point and six digits.
+    ///
+    /// The millionths are cut off, not rounded.
     pub fn decimals(&self) -> [u8; 8]
         requires positive { 0 < self.now.bottom }
         requires at_most_one { self.now.top ≤ self.now.bottom }

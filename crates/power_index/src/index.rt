@@ -10,8 +10,9 @@ use std::cmp::Ordering;
 use std::fmt;
 use std::marker::Model;
 
-/// An index of a member: a fraction from 0 to 1 in lowest terms, whose bottom is 1 to 10^30. Two are
-/// equal exactly where they are the same number. Contracts see the pair of its top and its bottom.
+/// An index of a member: a fraction from 0 to 1 in lowest terms, whose bottom is 1 to 10^30.
+///
+/// Two are equal exactly if they are the same number. Contracts see the pair of top and bottom.
 #[derive(Clone, Copy, Debug, PartialEq, Eq)]
 pub struct Index {
     top: u128,
@@ -32,7 +33,7 @@ impl Model for Index {
 }
 
 impl Index {
-    /// The index that a fraction is, as `deegan_packel` and `public_good` give it.
+    /// Returns the index that a fraction is, as `deegan_packel` and `public_good` give it.
     pub fn of(fraction: Fraction) -> Index
         requires { IsIndex (pair_of fraction) }
         ensures { result ≡ pair_of fraction }
@@ -43,7 +44,7 @@ impl Index {
         }
     }
 
-    /// The fraction, with all that an index keeps.
+    /// Returns the fraction; its contract says all that an index keeps.
     pub fn fraction(self) -> Fraction
         ensures same { pair_of result ≡ self }
         ensures index { IsIndex (pair_of result) }
@@ -54,7 +55,7 @@ impl Index {
         }
     }
 
-    /// The number above the line, at most that below it.
+    /// Returns the number above the line, at most that below it.
     pub fn top(self) -> u128
         ensures top { result ≡ self.0 }
         ensures at_most_one { result ≤ self.1 }
@@ -62,7 +63,7 @@ impl Index {
         self.top
     }
 
-    /// The number below the line, 1 to 10^30.
+    /// Returns the number below the line, 1 to 10^30.
     pub fn bottom(self) -> u128
         ensures bottom { result ≡ self.1 }
         ensures some { 1 ≤ result }
@@ -71,14 +72,14 @@ impl Index {
         self.bottom
     }
 
-    /// The index as one digit, a point and six digits: the millionths are cut off and not rounded.
+    /// Returns one digit, a point and six digits: the millionths are cut off, not rounded.
     pub fn decimals(self) -> [u8; 8]
         ensures { result ≡ decimals self }
     {
         self.fraction().decimals()
     }
 
-    /// Which of two indices is greater, exactly.
+    /// Compares two indices, exactly.
     pub fn compare(self, other: Index) -> Ordering
         ensures { result ≡ fraction_cmp self other }
     {

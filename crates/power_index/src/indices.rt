@@ -13,7 +13,7 @@ use crate::{Counts, Fraction, lowest};
 /// The least common multiple of the sizes 1 to 40.
 const DENOMINATOR: u128 = 5_342_931_457_063_200;
 
-/// What a part is of a whole, in lowest terms: 0/1 where there is nothing to share.
+/// Divides a part by a whole, in lowest terms: 0/1 if there is nothing to share.
 fn share(part: u128, whole: u128) -> Fraction
     requires part { part ≤ whole }
     requires small { whole ≤ 10 ^ 30 }
@@ -24,7 +24,7 @@ fn share(part: u128, whole: u128) -> Fraction
     lowest(part, whole.max(1))
 }
 
-/// The sum of 1 / size over the coalitions that contain a member, times `DENOMINATOR`.
+/// Adds up 1 / size over the coalitions that contain a member, times `DENOMINATOR`.
 fn weight(counts: &Counts, member: usize) -> u128
     requires { member < counts.now.members }
     ensures sum { result ≡ weighted_sum DENOMINATOR (table_of_member_size counts.now member) counts.now.members }
@@ -38,10 +38,11 @@ fn weight(counts: &Counts, member: usize) -> u128
     sum
 }
 
-/// The Deegan-Packel index of a member, in lowest terms, over each list that has these counts: the
-/// sum of 1 / size over the coalitions that contain the member, divided by the number of all
-/// coalitions (Deegan and Packel 1978, over the minimal winning coalitions). It is 0/1 for a member
-/// of none.
+/// Computes the Deegan-Packel index of a member, in lowest terms.
+///
+/// For each list with these counts it is the sum of 1 / size over the coalitions that contain the
+/// member, divided by the number of all coalitions (Deegan and Packel 1978, over the minimal
+/// winning coalitions). It is 0/1 for a member of none.
 pub fn deegan_packel(counts: &Counts, member: usize) -> Fraction
     requires { member < counts.now.members }
     ensures lowest { (g : GameView) (list : List ℕ) → AreCounts g list counts.now →
@@ -56,10 +57,11 @@ pub fn deegan_packel(counts: &Counts, member: usize) -> Fraction
     share(sum, DENOMINATOR * u128::from(counts.wide_total()))
 }
 
-/// The public good index of a member, in lowest terms, over each list that has these counts: the
-/// number of coalitions that contain the member, divided by the sum of these numbers over all
-/// members (Holler 1982; Holler and Packel 1983, over the minimal winning coalitions). It is 0/1 for a
-/// member of none.
+/// Computes the public good index of a member, in lowest terms.
+///
+/// For each list with these counts it is the number of coalitions that contain the member, divided
+/// by the sum of these numbers over all members (Holler 1982; Holler and Packel 1983, over the
+/// minimal winning coalitions). It is 0/1 for a member of none.
 pub fn public_good(counts: &Counts, member: usize) -> Fraction
     requires { member < counts.now.members }
     ensures lowest { (g : GameView) (list : List ℕ) → AreCounts g list counts.now →

@@ -1,5 +1,5 @@
-//! Laws of the definitions, with nothing to run: each index adds up to 1, what lowest terms are, and
-//! that two indices which are the same number are equal.
+//! Laws of the definitions, with nothing to run: each index adds up to 1, what lowest terms are,
+//! and that two indices which are the same number are equal.
 ghost use Rattle.coalitions.specs.declared.limits.TheConstants.{MEMBERS};
 ghost use Rattle.council_game.specs.Game.{GameView, IsGame, votes_of, AreNonemptyCoalitions};
 ghost use Rattle.council_game.specs.Votes.{minimal_coalitions};
@@ -9,16 +9,16 @@ ghost use Rattle.power_index.specs.Indices.{deegan_packel, public_good};
 ghost use Rattle.power_index.specs.Tables.{AreCounts, AreTallies, Tables};
 ghost use Rattle.std.specs.Prelude.{◌≡◌, ℕ, ◌<◌, ◌≤◌, ◌^◌, List, length, map};
 
-/// The Deegan-Packel indices of a game's members add up to 1, over each list of coalitions that are not
-/// empty, if there is one in it.
+/// The Deegan-Packel indices of all members add up to 1, over any list of nonempty coalitions that
+/// is not itself empty.
 #[tactic(auto, using(crate::proofs::Shared::AddUp::deegan_packel_adds_up))]
 pub fn deegan_packel_adds_up()
     ensures { (g : GameView) (list : List ℕ) → IsGame g → 0 < length list
         → AreNonemptyCoalitions g list → AddUpToOne (map (deegan_packel g list) (members g)) }
 {}
 
-/// The public good indices of a game's members add up to 1, over each list of coalitions that are not
-/// empty, if there is one in it.
+/// The public good indices of all members add up to 1, over any list of nonempty coalitions that is
+/// not itself empty.
 #[tactic(auto, using(crate::proofs::Shared::AddUp::public_good_adds_up))]
 pub fn public_good_adds_up()
     ensures { (g : GameView) (list : List ℕ) → IsGame g
@@ -26,8 +26,7 @@ pub fn public_good_adds_up()
         → AddUpToOne (map (public_good g list) (members g)) }
 {}
 
-/// The minimal winning coalitions of a game are such a list: there is one, none is empty, and there
-/// are at most 2^40.
+/// The minimal winning coalitions are such a list: there are 1 to 2^40, and none is empty.
 #[tactic(auto, using(crate::proofs::Shared::Minimal::can_be_counted))]
 pub fn minimal_coalitions_can_be_counted()
     ensures few { (g : GameView) → IsGame g → length (minimal_coalitions (votes_of g)) ≤ 2 ^ MEMBERS }
@@ -42,14 +41,13 @@ pub fn lowest_terms_are_unique()
     ensures { (p : ℕ × ℕ) → 0 < p.1 → HasLowestTerms p }
 {}
 
-/// Tables that hold a list of coalitions of a game as they are counted, by rank place, hold its
-/// counts.
+/// Tables that hold a list of coalitions as they are counted, by rank place, hold its counts.
 pub fn tallies_are_counts()
     ensures { (g : GameView) (list : List ℕ) (t : Tables) →
         AreTallies g list t → AreCounts g list t }
 {}
 
-/// Two indices that are the same number are one: their pairs are equal.
+/// Two indices that are the same number have equal pairs.
 #[tactic(auto, using(crate::proofs::Unique::index_unique))]
 pub fn same_indices_are_equal()
     ensures { (p q : ℕ × ℕ) → IsIndex p → IsIndex q → SameFraction p q → p ≡ q }

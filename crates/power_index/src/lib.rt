@@ -1,6 +1,6 @@
-//! Counts of coalitions, fractions in lowest terms, and the two power indices that rest on minimal
-//! winning coalitions: the Deegan-Packel index (Deegan and Packel 1978) and the public good index (Holler 1982;
-//! Holler and Packel 1983).
+//! Counts of coalitions, fractions in lowest terms, and two power indices over minimal winning
+//! coalitions: the Deegan-Packel index (Deegan and Packel 1978) and the public good index (Holler
+//! 1982; Holler and Packel 1983).
 //!
 //! Nothing here but `all_indices` takes memory.
 //!

@@ -5,8 +5,10 @@ ghost use Rattle.std.specs.Prelude.{◌≡◌, ◌<◌};
 use crate::Fraction;
 use std::cmp::Ordering;
 
-/// The order of two fractions, by Euclid's algorithm on both at once: their quotients decide, and while
-/// these are equal, what is left of each, turned upside down. No product of a top and a bottom is made.
+/// Compares two fractions, by Euclid's algorithm on both at once.
+///
+/// Their quotients decide, and if these are equal, the rests, turned upside down. No product of a
+/// top and a bottom is made.
 pub(crate) fn order(first: Fraction, second: Fraction) -> Ordering
     requires first { 0 < first.bottom }
     requires second { 0 < second.bottom }

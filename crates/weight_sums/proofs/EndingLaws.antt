@@ -1,4 +1,5 @@
--- What members lead to, by size: fewer than are asked for, as many, more; by their sets; and without a member.
+-- What members lead to, by size: fewer than are asked for, as many, more; by their sets; and
+-- without a member.
 use Rattle.weight_sums.proofs.Imports.{◌≡◌, ℕ, zero, suc, ◌+◌, ◌-◌, ◌<◌, ◌≤◌, true, false, cond, leb, List, [], ◌∷◌, length, refl, arith}
 use Rattle.weight_sums.proofs.Imports.{cases_lt, nat_tests, choose, one_of_size, fill, endings, left_out, over, fits}
 use Rattle.weight_sums.proofs.{SetLaws.fits-more, Shared.Choices.choose-none, Shared.Choices.left_out-past, Taking.choose-more}
@@ -59,7 +60,8 @@ endings-law s [] d k some = grind (arith, nat_tests)
 endings-law s (w ∷ ws) d k some =
     grind (arith, endings-law s ws (d - w) (k + 1), endings-law s ws d k some, nat_tests, fits-more, all-but-one)
 
--- of fewer members than heads none, of as many all that meet the quota, of more those that do not meet it without their last
+-- of fewer members than heads none, of as many all that meet the quota, of more those that do not
+-- meet it without their last
 pub record AreCounted (ws : List ℕ) (heads s q n : ℕ) : Type 0 where
   pub fewer : s < heads → n ≡ 0
   pub just : s ≡ heads → n ≡ over false ws (fits q 0 s)

@@ -9,7 +9,8 @@ use Rattle.weight_sums.proofs.{FittingSets.added, FittingSets.fits-few, FittingS
 use Rattle.weight_sums.proofs.SetLaws.{sum-same}
 
 -- ---- the sets of a list, one after another
--- of the first n sets: the others that meet the quota with them, and that what meets their needs will meet those of the next
+-- of the first n sets: the others that meet the quota with them, and that what meets their needs
+-- will meet those of the next
 pub record Paired (q digits : ℕ) (xs ys : List Set) (n : ℕ) (lows highs : List (List ℕ)) (t : Fitting) : Type 0 where
   pub low_long : length lows ≡ 2 ^ digits
   pub high_long : length highs ≡ 2 ^ digits

@@ -19,7 +19,8 @@ left_out-back q p [] ys is = let e : q ≡ p = omega arith in ap (λ (k : ℕ). 
 left_out-back zero p (x ∷ xs) ys is = absurd (omega arith)
 left_out-back (suc q) p (x ∷ xs) ys is = ap (λ (l : List ℕ). x ∷ l) (left_out-back q p xs ys (omega arith))
 
--- of members in two halves, without that of a place in the one or the other: the pairs of their sets, and the sets of the first alone
+-- of members in two halves, without that of a place in the one or the other: the pairs of their
+-- sets, and the sets of the first alone
 module _ (short : Bool) (fr bk : List ℕ) (xs ys : List Set) (front : ℕ) (first : AreSets false fr xs) (second : AreSets short bk ys)
     (long : length fr ≡ front) (q s place : ℕ) where
   pub front-met : place < front → over short (left_out place (fr ++ bk)) (fits q 0 s)
@@ -52,7 +53,8 @@ own-met fr zs are q s place =
     let others = left_out-over true place fr (λ m k. cond (leb q m) (one_of_size s (0 + k)) 0) in
     grind (arith, are.same (λ x. cond (has place x.members) 0 (met q (nobody ∷ []) s x)), met-nobody q s, others)
 
--- how many sets of these members meet a quota, and how many do so without their last member, of one half or the other
+-- how many sets of these members meet a quota, and how many do so without their last member, of one
+-- half or the other
 pub record AreMet (ws : List ℕ) (q s won shortened own : ℕ) : Type 0 where
   pub won_is : won ≡ over false ws (fits q 0 s)
   pub shortened_is : shortened + own ≡ over true ws (fits q 0 s)

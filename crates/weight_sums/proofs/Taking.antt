@@ -54,7 +54,8 @@ weigh-most f x (o ∷ row) most = simp sum_by-cons (omega (arith, weigh-most f x
 taken-most : (w heads left s r a : ℕ) → taken w (fill heads s left) (λ x y. 2 ^ left) r a ≤ 2 ^ left
 taken-most w heads left s r a = grind (arith, nat_tests, fill-most heads s left (a + 1))
 
--- what is counted of the prefixes and what is put down are no more than they are, and what is left can fill up
+-- what is counted of the prefixes and what is put down are no more than they are, and what is left
+-- can fill up
 pub others-few : {w heads left : ℕ} {before done : List ℕ} {all row others : List Prefixes}
     → AreTaken w heads left before done all row others → (s : ℕ) → s ≤ 40
     → get_or done s 0 + prefixes others * 2 ^ left ≤ get_or before s 0 + prefixes row * 2 ^ left

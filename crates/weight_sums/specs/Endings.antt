@@ -19,8 +19,9 @@ one_of_size s size = if size == s then 1 else 0
 abbrev pub taken : ℕ → (ℕ → ℕ) → (ℕ → ℕ → ℕ) → ℕ → ℕ → ℕ
 taken w complete g need size = if nat_le need w then complete (size + 1) else g (need - w) (size + 1)
 
--- how many coalitions of size s a prefix of this size leads to that meets the first quota, and that by its last member,
--- where `left` members are left, and `heads` are asked for: itself where it has more, and else any others that fill it up
+-- how many coalitions of size s a prefix of this size leads to that meets the first quota, and that
+-- by its last member, where `left` members are left, and `heads` are asked for: itself where it has
+-- more, and else any others that fill it up
 abbrev pub fill : ℕ → ℕ → ℕ → ℕ → ℕ
 fill heads s left size =
     if nat_lt heads size then one_of_size s size else one_of_size s heads * choose left (heads - size)

@@ -7,7 +7,7 @@ ghost use Rattle.weight_sums.specs.Inner.Rows.{AreChoices};
 use coalitions::{Memory, limits};
 use std::alloc::Global;
 
-/// The row for one member more: each number and the one before it, added (Pascal 1654).
+/// Returns the row for one member more: each number and the one before it, added (Pascal 1654).
 #[tactic(auto, using(std::proofs::lemmas::Grind::common_steps, crate::proofs::Taking::chosen))]
 fn next_row(row: &[u64; limits::SIZES], of: usize) -> [u64; limits::SIZES]
     requires few { of ≤ MEMBERS }
@@ -21,7 +21,7 @@ fn next_row(row: &[u64; limits::SIZES], of: usize) -> [u64; limits::SIZES]
     next
 }
 
-/// Row m has, for each k, in how many ways k of m members can be chosen.
+/// Makes rows: row m has, for each k, in how many ways k of m members can be chosen.
 fn choices(alloc: Global) -> Result<Vec<[u64; limits::SIZES]>, Memory>
     ensures { IfOk result (λ v. AreChoices v.items) }
 {
@@ -35,7 +35,8 @@ fn choices(alloc: Global) -> Result<Vec<[u64; limits::SIZES]>, Memory>
     Ok(rows)
 }
 
-/// How many members are asked for besides a quota, and in how many ways others fill a coalition up to them.
+/// How many members are asked for besides a quota, and in how many ways others fill a coalition up
+/// to them.
 #[derive(Drop)]
 pub(crate) struct Heads {
     /// How many members are asked for, 0 to 40.
@@ -47,7 +48,7 @@ pub(crate) struct Heads {
 }
 
 impl Heads {
-    /// Where `asked` members are asked for, 0 to 40.
+    /// Asks for `asked` members, 0 to 40.
     pub(crate) fn new(alloc: Global, asked: usize) -> Result<Heads, Memory>
         requires { asked ≤ MEMBERS }
         ensures { IfOk result (λ heads. heads.asked ≡ asked) }
@@ -56,8 +57,9 @@ impl Heads {
         Ok(Heads { asked, choices })
     }
 
-    /// In how many ways a coalition of this size is filled up to as many members as are asked for, by some of the
-    /// `left` members that are left; 1 where it has more.
+    /// Returns in how many ways some of `left` members fill a coalition of this size up.
+    ///
+    /// It is 1 if the coalition has more members than are asked for.
     pub(crate) fn filled(&self, size: usize, left: usize) -> u64
         requires { left ≤ MEMBERS }
         ensures { result ≡ (if nat_lt self.now.asked size then 1

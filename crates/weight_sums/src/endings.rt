@@ -15,19 +15,20 @@ pub struct EndingCounts {
     pub each: [SizeCounts; limits::MEMBERS],
 }
 
-/// How many coalitions members with these weights lead to from a quota, by size: of all, and by place of those that contain
-/// it; on the heap. Each meets the quota and loses it without its last member, and has more members than the heads
-/// that are asked for, or just as many and meets the quota. By sums where their rows have room, and else by halves, in 64 MB.
+/// Counts the coalitions that members with these weights lead to from a quota.
 ///
-/// There are at most 40 weights, of at most 40 * 10^12 together; the quota is above 0, and at most 40 heads are asked for. With
-/// the heaviest first, and all members in them, these are the minimal winning coalitions of `[quota; weights]`, where
-/// there are no heads.
+/// Each meets the quota and loses it without its last member, and has more members than the heads
+/// that are asked for; or it has just as many and meets the quota. There are at most 40 weights, of
+/// at most 40 * 10^12 together, the quota is above 0, and at most 40 heads are asked for. With no
+/// heads, and the weights of all members, the heaviest first, these are the minimal winning
+/// coalitions of `[quota; weights]`.
+///
+/// It counts by sums if their rows have room, and else by halves, in 64 MB.
 ///
 /// # Errors
 ///
-/// `Memory` where a growth was refused.
+/// Returns `Memory` if an allocation was refused.
 #[inline(never)]
-#[tactic(auto, using(crate::proofs::EndingLaws::fewer))]
 pub fn count_endings(
     alloc: Global,
     weights: &[u64],

@@ -28,8 +28,9 @@ fn high(members: u32, digits: u32) -> usize
     (members >> digits) as usize
 }
 
-/// How many sets meet a quota together with a set of a list, by their size together, for each choice of the first members that
-/// the sets of the list are chosen from, and for each choice of the others.
+/// How many sets meet a quota together with a set of a list, by their size together, for each
+/// choice of the first members that the sets of the list are chosen from, and for each choice of
+/// the others.
 #[derive(Drop)]
 pub(crate) struct Groups {
     /// How many members are the first; at most as many are the others.
@@ -39,7 +40,8 @@ pub(crate) struct Groups {
 }
 
 impl Groups {
-    /// Both lists are by weight: while the need falls, more and more of the others meet it, and each comes in once.
+    /// Both lists are by weight: while the need falls, more and more of the others meet it, and
+    /// each comes in once.
     pub(crate) fn new(
         alloc: Global,
         list: &[Set],

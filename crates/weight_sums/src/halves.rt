@@ -1,7 +1,8 @@
-//! The coalitions that members lead to, from the sets of their two halves (Horowitz and Sahni 1974).
+//! The coalitions that members lead to, from the sets of their two halves (Horowitz and Sahni
+//! 1974).
 ghost use Rattle.coalitions.specs.declared.limits.TheConstants.{MEMBERS, SIZES, TOTAL};
 ghost use Rattle.weight_sums.specs.declared.sets.Set.{Set};
-ghost use Rattle.weight_sums.specs.Endings.{AreAllEndings, AreEndings, AreEndingsWith, endings, left_out};
+ghost use Rattle.weight_sums.specs.Endings.{AreAllEndings, endings, left_out};
 ghost use Rattle.weight_sums.specs.Inner.Halves.{AreHalves, ArePairs, IsLeft};
 ghost use Rattle.weight_sums.specs.Inner.Sets.{AreSets, IsHalfOf, fits, over};
 ghost use Rattle.weight_sums.specs.Inner.Groups.{HaveRows};
@@ -57,8 +58,10 @@ impl Pairs {
     }
 }
 
-/// How many sets of a size are left of those that meet a quota without those that do so without their last member:
-/// of just as many as heads all, of more the others, of fewer none.
+/// Returns how many sets of a size are left of those that meet a quota.
+///
+/// Of just as many members as heads, all are; of more, those that do not meet it without their last
+/// member; of fewer, none.
 fn left_at(size: usize, won: u64, shortened: u64, own: u64, heads: usize) -> u64
     requires { heads < size → shortened + own ≤ won }
     ensures { IsLeft heads size won shortened own result }
@@ -72,7 +75,7 @@ fn left_at(size: usize, won: u64, shortened: u64, own: u64, heads: usize) -> u64
     }
 }
 
-/// The same of each size.
+/// Does the same for each size.
 fn left_of(won: &SizeCounts, shortened: &SizeCounts, own: &SizeCounts, heads: usize) -> SizeCounts
     requires { (s : ℕ) → heads < s → s ≤ MEMBERS
         → slice_index shortened.now s + slice_index own.now s ≤ slice_index won.now s }
@@ -100,8 +103,8 @@ struct Halves {
 }
 
 impl Halves {
-    /// The sets of the second half are in one list after another, and so are those of the first. (Where `own` was made first, the
-    /// memory of these lists came to a third more.)
+    /// Lists the sets of the second half twice, and those of the first. (With `own` made first,
+    /// these lists took a third more memory.)
     fn of_lists(
         alloc: Global,
         weights: &[u64],
@@ -147,7 +150,8 @@ impl Halves {
         Halves::of_lists(alloc, weights, quota, &mut first, &mut second, &mut spare)
     }
 
-    /// How many coalitions of each size the members lead to without that of a place, which is that of none behind the last.
+    /// Counts the coalitions that members lead to without that of a place, or of all if no member
+    /// has that place.
     fn endings_without(&self, weights: &[u64], heads: usize, place: usize) -> SizeCounts
         requires few { length weights.now ≤ MEMBERS }
         requires halves { AreHalves weights.now self.now }
@@ -164,53 +168,26 @@ impl Halves {
         left_of(&won, &shortened, &own, heads)
     }
 
-    /// The coalitions that all members lead to.
-    #[tactic(auto, using(std::proofs::lemmas::Grind::common_steps, crate::proofs::HalfSums::places))]
-    fn all(&self, weights: &[u64], heads: usize) -> SizeCounts
-        requires few { length weights.now ≤ MEMBERS }
-        requires halves { AreHalves weights.now self.now }
-        requires some { 0 < self.now.quota }
-        requires heads { heads ≤ MEMBERS }
-        ensures { AreEndings weights.now heads self.now.quota result }
-    {
-        self.endings_without(weights, heads, weights.len())
-    }
-
-    /// The coalitions with the member of a place: those that the others do not lead to.
-    fn with(&self, weights: &[u64], heads: usize, place: usize, all: &SizeCounts) -> SizeCounts
-        requires few { length weights.now ≤ MEMBERS }
-        requires halves { AreHalves weights.now self.now }
-        requires some { 0 < self.now.quota }
-        requires heads { heads ≤ MEMBERS }
-        requires all { AreEndings weights.now heads self.now.quota all.now }
-        requires less { (s : ℕ) → s ≤ MEMBERS
-            → endings (left_out place weights.now) heads s self.now.quota 0
-            ≤ endings weights.now heads s self.now.quota 0 }
-        ensures { AreEndingsWith weights.now heads self.now.quota place result }
-    {
-        difference(all, &self.endings_without(weights, heads, place))
-    }
-
-    /// All coalitions that the members lead to, and by place those that contain it.
+    /// Counts all coalitions that the members lead to, and those with each member: the others do
+    /// not lead to these.
+    #[tactic(auto, using(crate::proofs::EndingLaws::fewer, crate::proofs::HalfSums::places))]
     fn counts(&self, weights: &[u64], heads: usize) -> EndingCounts
         requires few { length weights.now ≤ MEMBERS }
         requires halves { AreHalves weights.now self.now }
         requires some { 0 < self.now.quota }
         requires heads { heads ≤ MEMBERS }
-        requires less { (p s : ℕ) → p < length weights.now → s ≤ MEMBERS
-            → endings (left_out p weights.now) heads s self.now.quota 0 ≤ endings weights.now heads s self.now.quota 0 }
         ensures { AreAllEndings weights.now heads self.now.quota result }
     {
-        let all = self.all(weights, heads);
+        let all = self.endings_without(weights, heads, weights.len());
         let mut each = [all; limits::MEMBERS];
         for place in 0..weights.len() {
-            each[place] = self.with(weights, heads, place, &all);
+            each[place] = difference(&all, &self.endings_without(weights, heads, place));
         }
         EndingCounts { all, each }
     }
 }
 
-/// The coalitions that members lead to, by their halves.
+/// Counts the coalitions that members lead to, by their halves.
 pub(crate) fn by_halves(
     alloc: Global,
     weights: &[u64],
@@ -221,8 +198,6 @@ pub(crate) fn by_halves(
     requires light { sum weights.now ≤ TOTAL }
     requires some { 0 < quota }
     requires heads { heads ≤ MEMBERS }
-    requires less { (p s : ℕ) → p < length weights.now → s ≤ MEMBERS →
-        endings (left_out p weights.now) heads s quota 0 ≤ endings weights.now heads s quota 0 }
     ensures { IfOk result (AreAllEndings weights.now heads quota) }
 {
     let halves = Halves::new(alloc, weights, quota)?;

@@ -1,13 +1,15 @@
-//! How many coalitions members with some weights lead to, by size and by member: those that meet a quota, and lose it without
-//! their last member, and those that fill up a number of heads. No coalition is listed.
+//! Counts the coalitions that members with some weights lead to, by size and by member, without
+//! listing any: those that meet a quota and lose it without their last member, and those that fill
+//! up a number of heads.
 //!
 //! ```text
 //! let counts = count_endings(alloc, &[50, 49, 1], 51, 0)?;
 //! ```
 //!
-//! `row`, `rows` and `sums` go from member to member and put together what misses as much: they serve where few
-//! needs are open. `sets`, `fitting`, `table`, `groups` and `halves` count pairs of sets of the heavier and of the lighter
-//! half of the members, whatever their weights. `mwc_sums` says which games these are the counts of.
+//! `row`, `rows` and `sums` go from member to member, and merge prefixes that miss as much to the
+//! quota: this is fast if there are few such needs. `sets`, `fitting`, `table`, `groups` and
+//! `halves` count pairs of sets of the heavier and of the lighter half of the members, whatever
+//! their weights. `mwc_sums` says which games these are the counts of.
 #![tactic(auto)]
 
 mod choices;

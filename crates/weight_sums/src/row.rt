@@ -16,8 +16,10 @@ pub(crate) struct Prefixes {
     pub ways: u64,
 }
 
-/// How many prefixes at the front of a row stay open where all members that come weigh `rest` together: a row
-/// ascends by need, and those behind them can no more be completed.
+/// Returns how many prefixes at the front of a row stay open if later members weigh `rest`
+/// together.
+///
+/// A row ascends by need, and the prefixes behind those cannot be completed any more.
 pub(crate) fn still_open(row: &[Prefixes], rest: u64) -> usize
     ensures within { result ≤ length row.now }
     ensures same { (g : ℕ → ℕ → ℕ) → ((need size : ℕ) → rest < need → g need size ≡ 0)
@@ -30,8 +32,11 @@ pub(crate) fn still_open(row: &[Prefixes], rest: u64) -> usize
     end
 }
 
-/// Takes a member of this weight into a prefix. What meets the quota by it is counted by size: alone where it has more
-/// members than are asked for, and else with any of the others that fill it up. What does not is put down.
+/// Takes a member of this weight into a prefix.
+///
+/// If this meets the quota, the coalition is counted by size: alone if it has more members than are
+/// asked for, and else with any of the others that fill it up. If not, the prefix is put into
+/// `others`.
 fn take_in(
     prefix: &Prefixes,
     weight: u64,
@@ -86,13 +91,14 @@ pub(crate) fn with_member(
     Ok(())
 }
 
-/// Whether a prefix stands before another in a row, or at the same place.
+/// Returns whether a prefix comes before another in a row, or at the same place.
 fn is_first(a: &Prefixes, b: &Prefixes) -> bool {
     a.need < b.need || (a.need == b.need && a.size <= b.size)
 }
 
-/// The next prefix of two ascending rows from these places on, which move past it: prefixes with the same need
-/// and size go together.
+/// Returns the next prefix of two ascending rows, and moves past it.
+///
+/// Prefixes with the same need and size become one.
 fn next_open(a: &[Prefixes], b: &[Prefixes], i: &mut usize, j: &mut usize) -> Prefixes
     requires left { i.old < length a.now }
     requires right { j.old < length b.now }
@@ -124,7 +130,7 @@ fn next_open(a: &[Prefixes], b: &[Prefixes], i: &mut usize, j: &mut usize) -> Pr
     }
 }
 
-/// Merges two ascending rows into one: prefixes with the same need and size go together.
+/// Merges two ascending rows: prefixes with the same need and size become one.
 pub(crate) fn merge(a: &[Prefixes], b: &[Prefixes], row: &mut Vec<Prefixes>) -> Result<(), Memory>
     requires { prefixes a.now + prefixes b.now < 2 ^ 64 }
     ensures { IfOk result (λ _. AreMerged a.now b.now row.new.items) }

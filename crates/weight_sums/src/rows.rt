@@ -11,11 +11,13 @@ use coalitions::{Memory, SizeCounts, limits};
 use std::alloc::Global;
 use std::mem;
 
-/// All rows of one pass over the members together never have more entries.
+/// The most entries that all rows of one pass over the members have together.
 const ROOM: usize = 1 << 20;
 
-/// How many entries all rows of one pass over the members may have together: twice as many as a half of the
-/// members has sets, and `ROOM` at most. With more of them the sets of the halves are counted sooner.
+/// Returns how many entries all rows of one pass over the members may have together.
+///
+/// These are twice as many as a half of the members has sets, and at most `ROOM`. With more of
+/// them, counting the sets of the halves is faster.
 fn room_for(members: usize) -> usize
     requires { members ≤ MEMBERS }
     ensures { result ≤ 2 ^ 20 }
@@ -24,7 +26,7 @@ fn room_for(members: usize) -> usize
     (2 * half).min(ROOM)
 }
 
-/// The row of the prefixes of the members that are decided, and the coalitions that they have completed.
+/// The row of the prefixes of the decided members, and the coalitions that these have completed.
 #[derive(Drop)]
 pub(crate) struct Rows {
     pub row: Vec<Prefixes>,
@@ -68,15 +70,15 @@ impl Rows {
         Ok(())
     }
 
-    /// The coalitions that are counted by now, by size.
-    pub(crate) fn counted(&self) -> SizeCounts
+    /// Returns the coalitions that are counted so far, by size.
+    pub(crate) fn sizes(&self) -> SizeCounts
         ensures long { length result ≡ SIZES }
         ensures done { result ≡ self.now.done }
     {
         self.done
     }
 
-    /// Goes on where another pass is.
+    /// Goes on from where another pass is.
     pub(crate) fn copy(&mut self, other: &Rows) -> Result<(), Memory>
         ensures row { IfOk result (λ _. self.new.row.items ≡ other.now.row.items) }
         ensures done { IfOk result (λ _. self.new.done ≡ other.now.done) }
@@ -88,8 +90,9 @@ impl Rows {
         Ok(())
     }
 
-    /// Decides one member more, of this weight, where the `left` members after it weigh `rest` together: coalitions
-    /// that are complete by it are counted by size.
+    /// Decides one member more, of this weight, before `left` members that weigh `rest` together.
+    ///
+    /// Coalitions that it completes are counted by size.
     pub(crate) fn go_on(
         &mut self,
         weight: u64,
@@ -117,7 +120,7 @@ impl Rows {
         Ok(())
     }
 
-    /// Decides these members, which weigh `rest` together; false where there is no room.
+    /// Decides these members, which weigh `rest` together; false if there is no room.
     pub(crate) fn finish(
         &mut self,
         weights: &[u64],

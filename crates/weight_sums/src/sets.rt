@@ -34,7 +34,7 @@ const ALONE: Set = Set {
 
 impl Set {
     /// The same set, where one member more stands in front who is not in it.
-    fn left(&self) -> Set
+    fn without_member(&self) -> Set
         requires { self.now.members < 2 ^ 31 }
         ensures { result ≡ left self.now }
     {
@@ -46,7 +46,7 @@ impl Set {
     }
 
     /// The set with a member of this weight in front.
-    fn joined(&self, weight: u64) -> Set
+    fn with_member(&self, weight: u64) -> Set
         requires { HasRoom weight self.now }
         ensures { result ≡ joined weight self.now }
     {
@@ -69,7 +69,7 @@ fn begin(list: &mut Vec<Set>, set: Set, some: bool) -> Result<(), Memory>
     Ok(())
 }
 
-/// Whether there is a set at a place, and it weighs no more than this.
+/// Returns whether there is a set at a place that weighs no more than this.
 fn is_light(sets: &[Set], place: usize, weight: u64) -> bool
     ensures place { IsTrue result → place < length sets.now }
     ensures light { IsTrue result → (slice_index_or sets.now place nobody).weight ≤ weight }
@@ -78,8 +78,10 @@ fn is_light(sets: &[Set], place: usize, weight: u64) -> bool
     place < sets.len() && sets[place].weight <= weight
 }
 
-/// Puts down the sets with one member more in front, of this weight, by weight: each without and with this member, and that
-/// of it alone where they are shortened. Those with the member are never further than those without.
+/// Lists the sets with one member more in front, of this weight, by weight.
+///
+/// Each set comes without and with this member; if they are shortened, so does the member alone.
+/// Those with the member are never further than those without.
 #[tactic(auto, using(std::proofs::lemmas::Grind::common_steps, crate::proofs::SetLists::doubling))]
 fn with_first(sets: &[Set], weight: u64, short: bool, next: &mut Vec<Set>) -> Result<(), Memory>
     requires ascend { Ascend sets.now }
@@ -91,9 +93,9 @@ fn with_first(sets: &[Set], weight: u64, short: bool, next: &mut Vec<Set>) -> Re
     next.reserve(sets.len() * 2)?;
     let (mut i, mut j) = (0, 0);
     while j < sets.len() {
-        let with = sets[j].joined(weight);
+        let with = sets[j].with_member(weight);
         if is_light(sets, i, with.weight) {
-            next.push(sets[i].left())?;
+            next.push(sets[i].without_member())?;
             i += 1;
         } else {
             next.push(with)?;
@@ -103,8 +105,10 @@ fn with_first(sets: &[Set], weight: u64, short: bool, next: &mut Vec<Set>) -> Re
     Ok(())
 }
 
-/// Makes a list, by weight, of all sets of members with these weights, or where they are shortened, of all but the empty one,
-/// each by what it weighs without its last member. A second list is room to make it.
+/// Lists, by weight, all sets of members with these weights.
+///
+/// If they are shortened, the empty set is left out, and the weight of each is that without its
+/// last member. The second list is room to make the first.
 #[tactic(auto, using(std::proofs::lemmas::Grind::common_steps, crate::proofs::SetLists::filling))]
 pub(crate) fn fill(
     weights: &[u64],

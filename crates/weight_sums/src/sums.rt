@@ -1,6 +1,6 @@
 //! The coalitions that members lead to, member by member.
 ghost use Rattle.coalitions.specs.declared.limits.TheConstants.{MEMBERS, SIZES, TOTAL};
-ghost use Rattle.weight_sums.specs.Endings.{AreAllEndings, AreEndings, AreEndingsWith, endings, left_out};
+ghost use Rattle.weight_sums.specs.Endings.{AreAllEndings, left_out};
 ghost use Rattle.weight_sums.specs.Inner.Rows.{AreOfPrefixes, AreOfTheRest, come_to};
 ghost use Rattle.std.specs.Prelude.{◌≡◌, ℕ, ◌+◌, ◌-◌, ◌<◌, ◌≤◌, [], true, IfOk, IfSome, length, sum, slice_index, slice_index_or};
 
@@ -10,7 +10,7 @@ use crate::rows::Rows;
 use coalitions::{Memory, SizeCounts, limits};
 use std::alloc::Global;
 
-/// How many more than a part all are, by size.
+/// Returns how many more than a part all are, by size.
 pub(crate) fn difference(all: &SizeCounts, part: &SizeCounts) -> SizeCounts
     requires { (s : ℕ) → s ≤ MEMBERS → slice_index part.now s ≤ slice_index all.now s }
     ensures long { length result ≡ SIZES }
@@ -24,9 +24,10 @@ pub(crate) fn difference(all: &SizeCounts, part: &SizeCounts) -> SizeCounts
     sizes
 }
 
-/// Fills `each[place..]` with the coalitions that contain each of these members: of all, those that a row does
-/// not come to without it. The row is that of one member less, so that one less is left to fill a coalition up. False where
-/// there is no room.
+/// Fills `each[place..]` with the coalitions that contain each of these members.
+///
+/// They are those of all that a row does not lead to without the member. The row is that of one
+/// member less, so one less is left to fill a coalition up. It returns false if there is no room.
 fn fill_from(
     rows: &mut Rows,
     others: &mut Rows,
@@ -66,7 +67,8 @@ fn fill_from(
     Ok(full)
 }
 
-/// The coalitions that members lead to, with room for the rows; none where there is too little.
+/// Counts the coalitions that members lead to; none if there is no room for the rows.
+#[tactic(auto, using(crate::proofs::EndingLaws::fewer))]
 fn count(
     rows: &mut Rows,
     others: &mut Rows,
@@ -77,15 +79,13 @@ fn count(
 ) -> Result<Option<EndingCounts>, Memory>
     requires few { length weights.now ≤ MEMBERS }
     requires total { total ≡ sum weights.now }
-    requires less { (p s : ℕ) → p < length weights.now → s ≤ MEMBERS →
-        endings (left_out p weights.now) heads.now.asked s quota 0 ≤ endings weights.now heads.now.asked s quota 0 }
     ensures { IfOk result (λ counts. IfSome counts (AreAllEndings weights.now heads.now.asked quota)) }
 {
     rows.begin(quota, weights.len())?;
     if !rows.finish(weights, total, heads)? {
         return Ok(None);
     }
-    let all = rows.counted();
+    let all = rows.sizes();
     let mut each = [all; limits::MEMBERS];
     rows.begin(quota, weights.len())?;
     if !fill_from(rows, others, weights, total, heads, &all, 0, &mut each)? {
@@ -94,7 +94,7 @@ fn count(
     Ok(Some(EndingCounts { all, each }))
 }
 
-/// The coalitions that members lead to; none where there is no room for the rows.
+/// Counts the coalitions that members lead to; none if there is no room for the rows.
 pub(crate) fn by_sums(
     alloc: Global,
     weights: &[u64],
@@ -104,8 +104,6 @@ pub(crate) fn by_sums(
     requires few { length weights.now ≤ MEMBERS }
     requires light { sum weights.now ≤ TOTAL }
     requires heads { heads ≤ MEMBERS }
-    requires less { (p s : ℕ) → p < length weights.now → s ≤ MEMBERS →
-        endings (left_out p weights.now) heads s quota 0 ≤ endings weights.now heads s quota 0 }
     ensures { IfOk result (λ counts. IfSome counts (AreAllEndings weights.now heads quota)) }
 {
     let asked = Heads::new(alloc, heads)?;

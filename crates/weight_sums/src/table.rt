@@ -10,14 +10,15 @@ use crate::fitting::Fitting;
 use coalitions::{Memory, SizeCounts, add_counts, limits};
 use std::alloc::Global;
 
-/// A row of numbers by size for each choice of some members, whose key has the digit p 1 where the member of place p is in.
+/// Rows of numbers by size, one for each choice of some members: digit p of a row's key is 1 if the
+/// member of place p is chosen.
 #[derive(Drop)]
 pub(crate) struct Table {
     rows: Vec<SizeCounts>,
 }
 
 impl Table {
-    /// A row for each choice, in which nothing is counted.
+    /// Makes a row of zeros for each choice.
     pub(crate) fn new(alloc: Global, choices: usize) -> Result<Table, Memory>
         ensures long { IfOk result (λ table. length table.rows.items ≡ choices) }
         ensures none { IfOk result (λ table. (key : Set → ℕ) (f : ℕ → Set → ℕ)
@@ -28,7 +29,7 @@ impl Table {
         Ok(Table { rows })
     }
 
-    /// Counts in the row of a key those that fit, by size, where `size` members are in front of them.
+    /// Counts in the row of a key the sets that fit, by size, behind `size` members.
     #[tactic(auto, using(std::proofs::lemmas::Bool::Decides::nat_tests, std::proofs::lemmas::List::get_or_default))]
     pub(crate) fn add(&mut self, key: usize, size: usize, fitting: &Fitting)
         requires key { key < length self.old.rows.items }
@@ -42,7 +43,7 @@ impl Table {
         fitting.add(size, &mut self.rows[key]);
     }
 
-    /// Adds the row of a key, unless the member of a place is in its choice.
+    /// Adds the row of a key, unless its choice has the member of a place.
     fn add_to(&self, key: usize, place: usize, sum: &mut SizeCounts)
         requires key { key < length self.now.rows.items }
         requires place { place ≤ 20 }
@@ -57,7 +58,7 @@ impl Table {
         }
     }
 
-    /// The rows of all choices without the member of a place, added.
+    /// Adds up the rows of all choices without the member of a place.
     #[tactic(auto, using(std::proofs::lemmas::Grind::common_steps, crate::proofs::TableSums::adding))]
     pub(crate) fn without(&self, place: usize) -> SizeCounts
         requires rows { HasRows self.now.rows.items }

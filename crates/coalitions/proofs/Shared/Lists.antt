@@ -1,4 +1,5 @@
--- Lists: sums over them, in either order; one test after another, and one that all pass; one place changed; zeros.
+-- Lists: sums over them, in either order; one test after another, and one that all pass; one place
+-- changed; zeros.
 use Rattle.std.proofs.Common.{◌≡◌, ℕ, zero, suc, ◌+◌, ◌*◌, ◌<◌, Bool, true, ◌&&◌, ◌==◌, cond, List, [], ◌∷◌, length, get_or, set, replicate}
 use Rattle.std.proofs.Common.{filter, sum_by, sym, ap, refl, ◌∙◌, arith, get_or-set_same, get_or-set_other}
 use Rattle.std.proofs.lemmas.{Bool.Decides.nat_tests, List.Sums.sum_by-cons}

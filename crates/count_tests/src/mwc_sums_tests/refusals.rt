@@ -1,12 +1,11 @@
-//! The calls that take memory, by sums, by halves, by chambers and in part, and their counts, which are those of all subsets.
-//! `tests/refusals.sh` refuses the allocations between the line `call` and the line of the answer.
-ghost use Rattle.council_game.specs.Game.{votes_of};
-ghost use Rattle.council_game.specs.Votes.{minimal_coalitions};
-ghost use Rattle.power_index.specs.Tables.{AreCounts};
+//! The calls that take memory, by sums, by halves, by chambers and in part, and their counts, which
+//! are those of all subsets. `tests/refusals.sh` refuses the allocations between the line `call`
+//! and the line of the answer.
+ghost use Rattle.power_index.specs.Tables.{AreCountsOfGame};
 
 use crate::helpers::{game_of_rules, same, say};
 use council_game::{Game, Memory, plain_list};
-use mwc_sums::{count_by_sums, part_by_sums};
+use mwc_sums::{Coverage, count_by_sums};
 use power_index::Counts;
 use power_index::laws::minimal_coalitions_can_be_counted;
 use std::alloc::Global;
@@ -31,7 +30,7 @@ fn same_counts(rt: &impl Abort, found: &Counts, wanted: &Counts) {
 
 /// The counts of the minimal ones of all subsets, of a game of at most 20 members.
 fn by_subsets(rt: &impl Abort, alloc: Global, game: &Game) -> Counts
-    ensures { AreCounts game.now (minimal_coalitions (votes_of game.now)) result }
+    ensures { AreCountsOfGame game.now result }
 {
     assert!(rt; game.members() <= 20);
     let list = plain_list(alloc, game).expect(rt, "the list");
@@ -39,24 +38,36 @@ fn by_subsets(rt: &impl Abort, alloc: Global, game: &Game) -> Counts
     Counts::of(game, &list)
 }
 
-/// Says what came of a call.
-fn answer<R: Abort + Print>(rt: &R, found: Result<Option<Counts>, Memory>, wanted: &Counts) {
-    match found {
-        Ok(Some(counts)) => {
-            say(rt, "worked");
-            same_counts(rt, &counts, wanted);
+/// The counts of a game by sums, and by all subsets of a part that these leave; none if they count
+/// nothing.
+fn by_sums(rt: &impl Abort, alloc: Global, game: &Game) -> Result<Option<Box<Counts>>, Memory> {
+    match count_by_sums(alloc, game)? {
+        Coverage::All(counts) => Ok(Some(counts)),
+        Coverage::Part(parts) => {
+            assert!(rt; parts.left.members() <= 20);
+            let list = plain_list(alloc, &parts.left)?;
+            minimal_coalitions_can_be_counted();
+            let left = Box::new(alloc, Counts::of(&parts.left, &list))?;
+            Ok(Some(parts.join(game, left)))
         }
-        Ok(None) => say(rt, "not taken"),
-        Err(_) => say(rt, "out of memory"),
+        Coverage::Nothing => Ok(None),
     }
 }
 
-/// Calls it for the game of rules that have these quotas and weights, at most 20 members.
+/// Calls it for the game of rules that have these quotas and weights, at most 20 members, and says
+/// what came of it.
 fn counts<R: Abort + Print>(rt: &R, alloc: Global, rules: &[(u64, &[u64])]) {
     let game = game_of_rules(rt, alloc, rules);
     let wanted = by_subsets(rt, alloc, &game);
     say(rt, "call");
-    answer(rt, count_by_sums(alloc, &game), &wanted);
+    match by_sums(rt, alloc, &game) {
+        Ok(Some(counts)) => {
+            say(rt, "worked");
+            same_counts(rt, &counts, &wanted);
+        }
+        Ok(None) => say(rt, "not taken"),
+        Err(_) => say(rt, "out of memory"),
+    }
 }
 
 /// Ten members, of whom some weigh alike, and five heads, three for each.
@@ -95,28 +106,11 @@ fn counts_by_chambers(rt: HostRuntime) {
     counts(&rt, rt.alloc(), &[(5, &first), (3, &second), (2, &third)]);
 }
 
-/// The counts of a game of which sums count a part, by all subsets of the part that is left.
-fn in_part(rt: &impl Abort, alloc: Global, game: &Game) -> Result<Option<Counts>, Memory> {
-    assert!(rt; game.members() <= 20);
-    let Some(parts) = part_by_sums(alloc, game)? else {
-        return Ok(None);
-    };
-    let list = plain_list(alloc, &parts.left)?;
-    minimal_coalitions_can_be_counted();
-    let left = Counts::of(&parts.left, &list);
-    Ok(Some(parts.joined(alloc, game, left)?))
-}
-
 /// A house of five by two rules of weights, one of three, and a member without weight.
 #[test]
 fn counts_in_part(rt: HostRuntime) {
-    let alloc = rt.alloc();
     let first = [3, 1, 2, 5, 4, 0, 0, 0, 0];
     let second = [1, 2, 2, 1, 3, 0, 0, 0, 0];
     let third = [0, 0, 0, 0, 0, 3, 1, 2, 0];
-    let game = game_of_rules(&rt, alloc, &[(8, &first), (5, &second), (4, &third)]);
-    let wanted = by_subsets(&rt, alloc, &game);
-    say(&rt, "call");
-    let found = in_part(&rt, alloc, &game);
-    answer(&rt, found, &wanted);
+    counts(&rt, rt.alloc(), &[(8, &first), (5, &second), (4, &third)]);
 }

@@ -9,14 +9,13 @@ use mwc_tally::TallyFault;
 fn tallies(rt: HostRuntime) {
     let game = five(&rt, rt.alloc());
     say(&rt, "call");
-    match tally(&rt, rt.alloc(), &game, 2, 3, &NoWatch) {
+    match tally(&rt, rt.alloc(), &game, 2, 3, &NoGate) {
         Ok(counts) => {
             say(&rt, "worked");
             assert_of_five(&rt, &counts);
         }
         Err(TallyFault::Memory) => say(&rt, "out of memory"),
         Err(TallyFault::Start) => say(&rt, "not started"),
-        Err(TallyFault::Stopped) => say(&rt, "stopped"),
     }
 }
 
@@ -43,6 +42,5 @@ fn tallies_pieces(rt: HostRuntime) {
         }
         Err(TallyFault::Memory) => say(&rt, "out of memory"),
         Err(TallyFault::Start) => say(&rt, "not started"),
-        Err(TallyFault::Stopped) => say(&rt, "stopped"),
     }
 }

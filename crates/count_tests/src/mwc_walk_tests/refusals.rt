@@ -1,5 +1,5 @@
-//! The calls that take memory, and those that take none. `tests/refusals.sh` refuses the allocations
-//! between the line `call` and the line of the answer.
+//! The calls that take memory, and those that take none. `tests/refusals.sh` refuses the
+//! allocations between the line `call` and the line of the answer.
 use super::*;
 use crate::helpers::say;
 use council_game::Memory;

@@ -1,8 +1,8 @@
 //! Random statutes against every subset, and coalitions that are sought within a number of visits.
 use super::*;
 
-/// A rule over members of whom the last three are large: heads, a group, some of the large, or shares of which the
-/// large have most. Many weights are alike and many are 0.
+/// A rule over members of whom the last three are large: heads, a group, some of the large, or
+/// shares of which the large have most. Many weights are alike and many are 0.
 fn statute_rule(rt: &impl Abort, alloc: Global, x: &mut u64, members: usize) -> Rule {
     *x = after(*x);
     let kind = *x % 4;
@@ -55,8 +55,9 @@ fn random_statutes_by_every_subset(rt: HostRuntime) {
     }
 }
 
-/// Of 16 members the last alone is the one minimal winning coalition, which takes 16 visits. Sought by five visits at a time it is not
-/// met three times. Of a game of one rule each coalition is met, however few visits are asked for.
+/// Of 16 members the last alone is the one minimal winning coalition, which takes 16 visits. Sought
+/// by five visits at a time it is not met three times. Of a game of one rule each coalition is met,
+/// however few visits are asked for.
 #[test]
 fn seeks_within_so_many_visits(rt: HostRuntime) {
     let late = game_by_groups(&rt, rt.alloc(), &[0, 1, 2], &LATE);

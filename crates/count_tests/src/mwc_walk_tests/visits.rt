@@ -1,11 +1,11 @@
-//! Counts of visits. Those of a game of several rules were found by plain programs beside this one, which
-//! look at the prefixes of rank places one by one: a visit is a prefix that does not win yet, can still meet each
-//! quota, and holds no member whom each rule can spare, by what is there and what vetoers bring, or, past 512 steps
-//! without a coalition, by what can still come.
+//! Counts of visits. Those of a game of several rules were found by plain programs beside this one,
+//! which look at the prefixes of rank places one by one: a visit is a prefix that does not win yet,
+//! can still meet each quota, and holds no member whom each rule can spare, by what is there and
+//! what vetoers bring, or, past 512 steps without a coalition, by what can still come.
 use super::*;
 
-/// The walk gives these coalitions, each by its number of visits in all, then none twice, with no visit more
-/// than these.
+/// The walk gives these coalitions, each by its number of visits in all, then none twice, with no
+/// visit more than these.
 fn gives(rt: &impl Abort, walk: &mut Walk<'_>, coalitions: &[(u64, u64)], visits: u64) {
     for (mask, visits) in coalitions {
         let given = walk.next().map(Coalition::mask);
@@ -21,9 +21,10 @@ fn gives(rt: &impl Abort, walk: &mut Walk<'_>, coalitions: &[(u64, u64)], visits
     same(rt, walk.visits(), visits, "visits up to the end");
 }
 
-/// The visits, counted by hand: of the worked game, two fixed places, and five decisions in the second slice;
-/// under two rules, of which the last member is a vetoer, two decisions for the first two, of whom one can be spared with
-/// what the last brings, one for the first and the last, and two for the second and the last.
+/// The visits, counted by hand: of the worked game, two fixed places, and five decisions in the
+/// second slice; under two rules, of which the last member is a vetoer, two decisions for the first
+/// two, of whom one can be spared with what the last brings, one for the first and the last, and
+/// two for the second and the last.
 #[test]
 fn a_walk_makes_few_visits(rt: HostRuntime) {
     let five = worked(&rt, rt.alloc());
@@ -54,8 +55,8 @@ fn counts(rt: &impl Abort, game: &Game, coalitions: u64, visits: u64) {
     same(rt, found, (coalitions, visits), "coalitions and visits");
 }
 
-/// A statute, how many coalitions it has, and by how many visits a walk gives them where its rules stand in each of
-/// these orders.
+/// A statute, how many coalitions it has, and by how many visits a walk gives them where its rules
+/// stand in each of these orders.
 type Row = (Statute, u64, &'static [(&'static [usize], u64)]);
 
 /// The walks are as the rows say.
@@ -73,8 +74,9 @@ const AS_IS: &[usize] = &[0, 1];
 
 const TURNED: &[usize] = &[1, 0];
 
-/// Three and four groups of which one member each is needed; a chair who must agree, by the second rule or
-/// by the first; two houses; a president, a senate of seven and a house of eleven; one coalition of the last member alone, who is a vetoer.
+/// Three and four groups of which one member each is needed; a chair who must agree, by the second
+/// rule or by the first; two houses; a president, a senate of seven and a house of eleven; one
+/// coalition of the last member alone, who is a vetoer.
 #[test]
 fn visits_under_several_rules(rt: HostRuntime) {
     let rows: [Row; 8] = [
@@ -171,10 +173,11 @@ fn visits_of_slices_under_several_rules(rt: HostRuntime) {
     }
 }
 
-/// Statutes of 40 members, each in two orders of its rules: two signatures, or four, and half of the shares, of
-/// which an owner has most; two of three large owners; two classes of shares; vetoers behind many members; joint
-/// owners; three heads and 90 percent of the people, of whom two states have most. In each order of three rules: two chambers and a
-/// budget, and a member who alone has what the rules ask for.
+/// Statutes of 40 members, each in two orders of its rules: two signatures, or four, and half of
+/// the shares, of which an owner has most; two of three large owners; two classes of shares;
+/// vetoers behind many members; joint owners; three heads and 90 percent of the people, of whom two
+/// states have most. In each order of three rules: two chambers and a budget, and a member who
+/// alone has what the rules ask for.
 #[test]
 fn visits_of_natural_statutes(rt: HostRuntime) {
     let rows: [Row; 9] = [
@@ -244,8 +247,9 @@ fn visits_of_natural_statutes(rt: HostRuntime) {
     check(&rt, rt.alloc(), &rows);
 }
 
-/// Statutes of many coalitions: six signatures and half of the shares, of which an owner has most; 8 vetoers behind 32
-/// other members, with 14 heads. (Without a proof, by `rt try`, this test does not end in time.)
+/// Statutes of many coalitions: six signatures and half of the shares, of which an owner has most;
+/// 8 vetoers behind 32 other members, with 14 heads. (Without a proof, by `rt try`, this test does
+/// not end in time.)
 #[test]
 fn visits_of_statutes_of_many_coalitions(rt: HostRuntime) {
     let rows: [Row; 2] = [

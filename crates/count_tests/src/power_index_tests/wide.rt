@@ -1,5 +1,5 @@
-//! Counts by the wide readers: one coalition more, a row more, two lists together, and the counts of
-//! more coalitions than 32 bits hold.
+//! Counts by the wide readers: one coalition more, a row more, two lists together, and the counts
+//! of more coalitions than 32 bits hold.
 ghost use Rattle.std.specs.Prelude.{◌≤◌, length};
 ghost use Rattle.council_game.specs.Game.{AreNonemptyCoalitions};
 

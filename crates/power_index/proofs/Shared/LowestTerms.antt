@@ -1,4 +1,5 @@
--- The greatest common divisor by search is the one that Euclid's algorithm finds, and what it gives is in lowest terms.
+-- The greatest common divisor by search is the one that Euclid's algorithm finds, and what it gives
+-- is in lowest terms.
 use Rattle.power_index.proofs.Imports.{◌≡◌, ℕ, zero, suc, ◌/◌, ◌%◌, ◌<◌, ◌≤◌, true, sym, ap, subst, arith, IsGcd, ◌∣◌, IsGcd-from_zero}
 use Rattle.power_index.proofs.Imports.{IsGcd-from_mod, le_of_dvd, mod-lt, nat_tests, lowest_terms, IsLowestOf}
 use Rattle.std.proofs.lemmas.{Bool.cond_both, Nat.Gcd.le_from_IsGcd, Nat.Gcd.dvd_of_mod-eq-zero, Nat.Gcd.mod-eq-zero_of_dvd}

@@ -1,4 +1,5 @@
--- Tables of counts, and when they hold the counts of a list of coalitions: what only proofs and private functions need.
+-- Tables of counts, and when they hold the counts of a list of coalitions: what only proofs and
+-- private functions need.
 use Rattle.std.specs.Prelude.{ℕ, ◌+◌, ◌^◌, ◌≤◌, ◌<◌, List, [], length, slice_index, slice_index_or, slice_set}
 use Rattle.coalitions.specs.declared.limits.TheConstants.{MEMBERS}
 use Rattle.council_game.specs.Game.{GameView, AreNonemptyCoalitions}

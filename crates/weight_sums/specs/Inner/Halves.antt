@@ -11,7 +11,8 @@ pub record ArePairs (quota : ℕ) (xs ys : List Set) (p : Pairs) : Type 0 where
   pub first : AreGroups quota xs ys p.first
   pub second : AreGroups quota ys xs p.second
 
--- which sets of the members meet the quota, and which do so without their last member: one of the second half, or of the first
+-- which sets of the members meet the quota, and which do so without their last member: one of the
+-- second half, or of the first
 pub record AreHalves (ws : List ℕ) (h : Halves) : Type 0 where
   pub first : List Set
   pub second : List Set
@@ -25,8 +26,8 @@ pub record AreHalves (ws : List ℕ) (h : Halves) : Type 0 where
   pub shortened : ArePairs h.quota first second_shortened h.shortened
   pub own : AreGroups h.quota first_shortened (nobody ∷ []) h.own
 
--- of the coalitions of size s that meet a quota n are left but for those that do so without their last member: of fewer than heads
--- none, of as many all, of more the others
+-- of the coalitions of size s that meet a quota n are left but for those that do so without their
+-- last member: of fewer than heads none, of as many all, of more the others
 pub record IsLeft (heads s won shortened own n : ℕ) : Type 0 where
   pub fewer : s < heads → n ≡ 0
   pub just : s ≡ heads → n ≡ won

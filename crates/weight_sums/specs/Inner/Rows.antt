@@ -13,7 +13,8 @@ weigh g row = sum_by (λ o. o.ways * g o.need o.size) row
 abbrev pub prefixes : List Prefixes → ℕ
 prefixes row = sum_by (λ o. o.ways) row
 
--- how many coalitions of size s are counted, or come of a row with members of these weights behind it
+-- how many coalitions of size s are counted, or come of a row with members of these weights behind
+-- it
 abbrev pub come_to : ℕ → ℕ → List ℕ → List ℕ → List Prefixes → ℕ
 come_to heads s ws done row = slice_index done s + weigh (endings ws heads s) row
 
@@ -32,7 +33,8 @@ pub record AreMerged (a b row : List Prefixes) : Type 0 where
   pub all : (g : ℕ → ℕ → ℕ) → weigh g row ≡ weigh g a + weigh g b
   pub sizes : (p : ℕ) → All (λ o. o.size ≤ p) a → All (λ o. o.size ≤ p) b → All (λ o. o.size ≤ p) row
 
--- a row with one member more decided, of weight w, where `left` members are left, which weigh at most `rest`
+-- a row with one member more decided, of weight w, where `left` members are left, which weigh at
+-- most `rest`
 pub record GoesOn (w rest left heads : ℕ) (before done : List ℕ) (row next : List Prefixes) : Type 0 where
   pub counted : (ws : List ℕ) (s : ℕ) → sum ws ≤ rest → length ws ≡ left → s ≤ MEMBERS
       → come_to heads s ws done next ≡ come_to heads s (w ∷ ws) before row

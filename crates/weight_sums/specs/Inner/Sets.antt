@@ -21,8 +21,8 @@ left x = record { weight = x.weight; members = 2 * x.members; size = x.size }
 abbrev pub joined : ℕ → Set → Set
 joined w x = record { weight = x.weight + w; members = 2 * x.members + 1; size = x.size + 1 }
 
--- a number of each set of members with these weights, added; where they are shortened, of each but the empty one, by what it weighs
--- without its last member
+-- a number of each set of members with these weights, added; where they are shortened, of each but
+-- the empty one, by what it weighs without its last member
 unfoldable pub over : Bool → List ℕ → (Set → ℕ) → ℕ
 over short [] g = if short then 0 else g nobody
 over short (w ∷ ws) g = (if short then g alone else 0) + (over short ws (λ x. g (left x)) + over short ws (λ x. g (joined w x)))

@@ -22,12 +22,15 @@ game-requires-clause-few c = grind (arith, sides-few)
 
 pub returns : goal.returns
 returns c =
-    let fair = c.in_ok-statute.ensures.fair in (grind (arith, counted-is, left-is), record {
-      chambers =
-          parts-are _ _ fair _ (counted-closed _ _ fair) c.args.game.now c.in_ok-counted-2.field-0.game
-          c.in_ok-game.field-0 c.in_ok-statute.ensures.game c.in_ok-counted-2.ensures.names c.in_ok-game.ensures.names
-          (c.in_ok-counted-2.ensures.rules ∙ c.in_ok-counted.ensures.rules) (c.in_ok-game.ensures.rules ∙ c.in_ok-left.ensures.rules);
-      left_rules = grind (arith, left-is);
-      names = c.in_ok-game.ensures.names;
-      title = c.in_ok-game.ensures.title;
-    })
+    let fair = c.in_ok-statute.ensures.fair in (
+      grind (arith, counted-is, left-is),
+      record {
+        chambers =
+            parts-are _ _ fair _ (counted-closed _ _ fair) c.args.game.now c.in_ok-counted-2.field-0.game
+            c.in_ok-game.field-0 c.in_ok-statute.ensures.game c.in_ok-counted-2.ensures.names c.in_ok-game.ensures.names
+            (c.in_ok-counted-2.ensures.rules ∙ c.in_ok-counted.ensures.rules) (c.in_ok-game.ensures.rules ∙ c.in_ok-left.ensures.rules);
+        left_rules = grind (arith, left-is);
+        names = c.in_ok-game.ensures.names;
+        title = c.in_ok-game.ensures.title;
+      },
+    )

@@ -9,7 +9,7 @@ add-requires-clause-room g c =
     let part = is-stretch c.args.thread.promise c.args.game.now _ c.args.skip c.args.stretch c.requires.given _ c.join-own.ensures in
     let own = total-is c.args.game.now _ c.join-own.result part in
     let before = total-is c.args.game.now _ c.args.counts.now c.requires.before in
-    let both = take-add c.args.skip c.args.stretch (joined c.args.pieces.now) in grind (arith, common_steps)
+    grind (arith, common_steps)
 
 pub returns : goal.returns
 returns g c =

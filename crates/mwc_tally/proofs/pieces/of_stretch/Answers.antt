@@ -14,8 +14,7 @@ pub count_row-requires-clause-room : goal.count_row-requires-clause-room
 count_row-requires-clause-room c =
     let room = row-room (λ p. p.now) c.args.pieces.now c.loop-piece.piece-index c.args.skip c.args.most c.loop-piece-test.true
     c.piece-item.is
-    c.loop-piece.invariant.skip c.loop-piece.invariant.left c.min.ensures c.min-in-loop-piece.ensures in
-    omega (arith, total-is c.args.game.now _ c.loop-piece.counts c.loop-piece.invariant.counted, room, c.requires.list.few)
+    c.loop-piece.invariant.skip c.loop-piece.invariant.left c.min.ensures c.min-in-loop-piece.ensures in grind (arith, total-is)
 
 pub loop-piece-preserved : goal.loop-piece-preserved
 loop-piece-preserved c =
