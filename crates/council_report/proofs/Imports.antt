@@ -1,4 +1,4 @@
--- The words of other libraries and of the definitions that two or more files of these proofs take; `tools/imports.py` writes them.
+-- The words of other libraries and of the definitions that two or more files of these proofs take.
 pub use Rattle.coalitions.specs.declared.report_lines.ReportLines.{ReportLines}
 pub use Rattle.council_game.proofs.Shared.{Games.votes-are, Weights.weight-le}
 pub use Rattle.council_game.specs.{Game.GameView, Game.IsGame, Game.votes_of, Votes.IsRule, Votes.rule_at, Votes.weight}

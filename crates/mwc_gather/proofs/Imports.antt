@@ -1,4 +1,4 @@
--- The words of other libraries and of the definitions that two or more files of these proofs take; `tools/imports.py` writes them.
+-- The words of other libraries and of the definitions that two or more files of these proofs take.
 pub use Rattle.council_game.specs.Game.{GameView, votes_of}
 pub use Rattle.mwc_gather.specs.Inner.Dealing.{DealsInTurn, DealsOneEach, DeskView, IsFresh, IsWell, TakesTurn, given_slices}
 pub use Rattle.mwc_gather.specs.Inner.Deals.{AreDealt, share_from, share_of, shares_by, times_in}
