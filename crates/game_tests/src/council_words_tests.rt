@@ -4,9 +4,19 @@ use std::alloc::Global;
 use std::process::Abort;
 
 /// Fails with the label where the numbers and the flags are not these: list, sizes, notation, tally, explain.
-fn asks_for(rt: &impl Abort, found: &Arguments<'_>, numbers: [u32; 3], flags: [bool; 5], label: &str) {
+fn asks_for(
+    rt: &impl Abort,
+    found: &Arguments<'_>,
+    numbers: [u32; 3],
+    flags: [bool; 5],
+    label: &str,
+) {
     let options = &found.options;
-    let found_numbers = [u32::from(options.workers), u32::from(options.bits), options.most];
+    let found_numbers = [
+        u32::from(options.workers),
+        u32::from(options.bits),
+        options.most,
+    ];
     let found_flags = [
         options.list,
         options.sizes,
