@@ -83,6 +83,7 @@ impl Deal {
     }
 
     /// Deals one slice to each worker.
+    #[tactic(auto, using(std::proofs::lemmas::Grind::common_steps))]
     fn deal_first<R: Wait, G>(
         &mut self,
         rt: &R,
@@ -101,6 +102,7 @@ impl Deal {
 
     /// Deals the slices and reads the rings in turn, until each worker has sent its End. It waits if
     /// no word is there.
+    #[tactic(auto, using(std::proofs::lemmas::Grind::common_steps))]
     pub fn read_all<R: Wait, G>(
         &mut self,
         rt: &R,

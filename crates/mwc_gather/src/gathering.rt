@@ -75,6 +75,7 @@ pub fn gather<R: Threads + Wait + Sync, G: Gate + Sync>(
 }
 
 /// Starts the workers, gives them slices while they run, and joins them.
+#[tactic(auto, using(std::proofs::lemmas::Grind::common_steps))]
 fn run<'s, E, R: Threads + Wait + Sync, G: SliceObserver + Sync>(
     scope: &Scope<'s, E>,
     rt: &'s R,
@@ -114,6 +115,7 @@ fn all_of<G>(job: &Job<'_, G>, workers: u8, parts: Vec<Part>) -> Result<Gathered
 
 /// Starts the workers, until one cannot be started, and returns their desks and why that was. Room
 /// for the desks is made first.
+#[tactic(auto, using(std::proofs::lemmas::Grind::common_steps))]
 fn open_all<'s, E, R: Threads + Wait + Sync, G: SliceObserver + Sync>(
     scope: &Scope<'s, E>,
     rt: &'s R,

@@ -19,6 +19,7 @@ use std::sync::Wait;
 
 /// Puts the words in, waits while the pipe is full, and returns false if the pipe refuses one for
 /// good. It rings the other bell for what it has put in, and sleeps at its own.
+#[tactic(auto, using(std::proofs::lemmas::Grind::common_steps))]
 pub(crate) fn send<W: PutsRows<P>, R: Wait, P: PipeIn<Word>>(
     rt: &R,
     words: &[Word],

@@ -104,6 +104,7 @@ pub fn work<R: Wait, G: Gate>(
 }
 
 /// As `work`. It rings the other bell for what it has put in or taken, and sleeps at its own.
+#[tactic(auto, using(std::proofs::lemmas::Grind::common_steps))]
 pub(crate) fn work_beside<R: Wait, G: SliceObserver>(
     rt: &R,
     job: &Job<'_, G>,
