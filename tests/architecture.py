@@ -1,11 +1,13 @@
 #!/usr/bin/env python3
-"""The pictures of docs/ARCHITECTURE.md, against crates.txt.
+"""Compares the pictures of docs/ARCHITECTURE.md with crates.txt and with the sources.
 
     tests/architecture.py
 
-Each crate stands once among the layers, just above the highest of those that it uses; the way of the data names crates, and
-libraries of the kit that they use, and no others; and all that the program stands on is in it. tests/pages.sh runs it.
+In the picture of who calls whom, each crate uses the crates and the kit's libraries below it, by crates.txt and by the
+`use` lines of its sources, and everything that the program stands on is there. In the picture of the layers, each crate
+is just above the highest of those that it uses. tests/pages.sh runs it.
 """
+import glob
 import os
 import re
 
@@ -26,7 +28,6 @@ for line in read("crates.txt").split("\n"):
     if line.strip() and not line.startswith("#"):
         name, others = line.split(":")
         uses[name.split()[0]] = others.split()
-kit = {it for others in uses.values() for it in others if it not in uses}
 
 
 def layer(name):
@@ -37,7 +38,25 @@ def below(name):
     return {name}.union(*(below(it) for it in uses[name] if it in uses))
 
 
-way, layers = re.findall(r"```text\n(.*?)```", read("docs/ARCHITECTURE.md"), re.S)[:2]
+def calls(name, other):
+    """Whether a crate uses another one, by crates.txt and by the `use` lines of its code."""
+    files = glob.glob(f"{TOP}/crates/{name}/src/**/*.rt", recursive=True)
+    return other in uses.get(name, ()) and any(re.search(rf"\b{other}::", read(os.path.relpath(it, TOP))) for it in files)
+
+
+tree, layers = re.findall(r"```text\n(.*?)```", read("docs/ARCHITECTURE.md"), re.S)[:2]
+above, shown, wrong = [], set(), []
+for line in filter(None, tree.split("\n")):
+    indent, name, kit = re.match(r"( *)(\w+)(?: \(([\w ]+)\))?", line).groups()
+    above = [*above[: len(indent) // 2], name]
+    shown.add(name)
+    wrong += [f"{name} does not call {it}" for it in (kit or "").split() if not calls(name, it)]
+    if len(above) > 1 and not calls(above[-2], name):
+        wrong.append(f"{above[-2]} does not call {name}")
+report(not wrong, "docs/ARCHITECTURE.md: who calls whom", "; ".join(wrong))
+# every crate uses this one
+missing = below("council") - shown - {"coalitions"}
+report(not missing, "docs/ARCHITECTURE.md: the picture has all that the program stands on", sorted(missing))
 found = {}
 for line in layers.split("\n"):
     number = re.match(r"\s*(\d+)\s", line)
@@ -45,8 +64,4 @@ for line in layers.split("\n"):
         found.setdefault(name, []).append(int(number[1]))
 wanted = {it: [layer(it)] for it in uses}
 wrong = sorted(it for it in {*wanted, *found} if wanted.get(it) != found.get(it))
-report(not wrong, "docs/ARCHITECTURE.md: the layers are those of crates.txt", f"{wrong}: {[wanted.get(it) for it in wrong]} in place of {[found.get(it) for it in wrong]}")
-named = set(re.findall(r"[a-z]+(?:_[a-z]+)+|\b(?:" + "|".join([*kit, *uses]) + r")\b", way))
-report(named <= {*uses, *kit}, "docs/ARCHITECTURE.md: the way of the data names crates", sorted(named - {*uses, *kit}))
-missing = below("council") - named
-report(not missing, "docs/ARCHITECTURE.md: the way of the data has all that the program stands on", sorted(missing))
+report(not wrong, "docs/ARCHITECTURE.md: the layers are those of crates.txt", f"{wrong}: {[wanted.get(it) for it in wrong]} instead of {[found.get(it) for it in wrong]}")

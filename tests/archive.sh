@@ -27,6 +27,19 @@ if cmp -s "$archive" "$temp/two/$(basename "$archive")"; then
 else
     failed "two archives are the same bytes" "they differ"
 fi
+mkdir -p "$temp/elsewhere/here"
+(cd "$temp" && CDPATH=$temp/elsewhere "$top/tools/release.sh" --draft --to here "$program") >"$temp/out" 2>&1
+name="an archive in a folder of the folder at hand, with CDPATH"
+if [ "$(cat "$temp/out")" = "$temp/here/${archive##*/}" ] && cmp -s "$temp/one/SHA256SUMS" "$temp/here/SHA256SUMS"; then
+    ok "$name"
+else
+    failed "$name" "$(tail -n 1 "$temp/out")"
+fi
+for command in cut find python3; do
+    without "$command" "$top/tools/release.sh" --draft --to "$temp/none" "$program"
+    sed -i 's/^tools.release.sh:/council:/' "$temp/err"
+    refused "no archive without $command" 1 "the command $command was not found"
+done
 if (cd "$temp/one" && sha256sum -c SHA256SUMS >/dev/null 2>&1); then ok "SHA256SUMS"; else failed "SHA256SUMS" "$(cat "$temp/one/SHA256SUMS")"; fi
 if tar tvzf "$archive" | grep -vqE '^(drwxr-xr-x|-rwxr-xr-x|-rw-r--r--) 0/0 '; then
     failed "owners and modes in the archive" "$(tar tvzf "$archive" | grep -vE '^(drwxr-xr-x|-rwxr-xr-x|-rw-r--r--) 0/0 ' | head -n 1)"
@@ -60,7 +73,7 @@ elif command -v setpriv >/dev/null; then
     chown 65534:65534 "$temp/home"
     as_user() { setpriv --reuid=65534 --regid=65534 --clear-groups env -i PATH=/usr/bin:/bin HOME="$temp/home" LC_ALL=C.UTF-8 "$@"; }
 else
-    skipped "the archive, used by another user" "the command setpriv was not found, and the tests run as root"
+    skipped "the archive, used by another user" "this machine has no setpriv, and the tests run as root"
     exit
 fi
 if ! as_user test -r "$here/README.md"; then
@@ -93,7 +106,7 @@ if command -v man >/dev/null; then
     (cd "$here" && as_user man -P cat docs/council.1) >"$temp/out" 2>"$temp/err" </dev/null
     if grep -q 'power indices of a weighted voting game' "$temp/out"; then ok "$name"; else failed "$name" "$(head -n 1 "$temp/err")"; fi
 else
-    skipped "in the archive, the manual page" "the command man was not found"
+    skipped "in the archive, the manual page" "this machine has no man"
 fi
 name="in the archive, the library for other languages"
 if [ ! -f "$here/lib/libcouncil.a" ]; then
@@ -140,36 +153,98 @@ installs() {
 installs "installed and taken out" "$temp/home/.local" ""
 installs "installed below another place" "$temp/home/a place" "" "$temp/home/a place"
 installs "installed below DESTDIR" "$temp/home/root/usr" "$temp/home/root" /usr
-name="a file of another stays"
-as_user sh -c 'mkdir -p "$HOME/.local/bin" && echo other >"$HOME/.local/bin/other" && "$1/install.sh" && "$1/install.sh" && "$1/install.sh" --uninstall' sh "$here" >"$temp/out" 2>"$temp/err"
-status=$?
-if [ "$status" -eq 0 ] && [ "$(find "$temp/home/.local" -type f)" = "$temp/home/.local/bin/other" ]; then
-    ok "$name"
-else
-    failed "$name" "status $status: $(head -n 1 "$temp/err") $(find "$temp/home/.local" -type f | head -n 2 | tr '\n' ' ')"
-fi
-name="what an earlier version has put there goes"
-as_user sh -c '"$1/install.sh" && cd "$HOME/.local" && echo old >share/doc/council/OLD && echo share/doc/council/OLD >list && cat share/doc/council/FILES >>list &&
-    mv list share/doc/council/FILES && "$1/install.sh" && [ ! -e share/doc/council/OLD ] && "$1/install.sh" --uninstall' sh "$here" >"$temp/out" 2>"$temp/err"
-status=$?
-if [ "$status" -eq 0 ] && [ "$(find "$temp/home/.local" -type f)" = "$temp/home/.local/bin/other" ]; then
-    ok "$name"
-else
-    failed "$name" "status $status: $(head -n 1 "$temp/err") $(find "$temp/home/.local" -type f | head -n 2 | tr '\n' ' ')"
-fi
-name="an install that fails half-way is taken out"
-as_user sh -c 'mkdir -p "$HOME/half/share/man" && echo other >"$HOME/half/share/man/man1" && ! "$1/install.sh" "$HOME/half" && [ -e "$HOME/half/bin/council" ] &&
-    "$1/install.sh" --uninstall "$HOME/half"' sh "$here" >"$temp/out" 2>"$temp/err"
-status=$?
-if [ "$status" -eq 0 ] && [ "$(find "$temp/home/half" -type f)" = "$temp/home/half/share/man/man1" ]; then
-    ok "$name"
-else
-    failed "$name" "status $status: $(head -n 1 "$temp/err") $(find "$temp/home/half" -type f | head -n 2 | tr '\n' ' ')"
-fi
-name="what is installed is for all users"
-as_user sh -c 'umask 077 && "$1/install.sh" "$HOME/all"' sh "$here" >"$temp/out" 2>"$temp/err"
-closed=$(find "$temp/home/all" ! -perm -044 -o -type d ! -perm -055)
-if [ -z "$closed" ] && [ -x "$temp/home/all/bin/council" ]; then ok "$name"; else failed "$name" "$(echo "$closed" | head -n 2 | tr '\n' ' ')"; fi
+# an archive with fewer files is installed sooner
+small=$temp/small
+cp -r "$here" "$small"
+chmod -R u+w "$small"
+find "$small/reference" "$small/examples" -type f ! -name 'board*' -delete
+# holds NAME <<SCRIPT: whether each command of a script succeeds. The other user runs it in its
+# home; in it `install` is install.sh.
+holds() {
+    local name=$1
+    cat "$temp/shared.sh" - >"$temp/script.sh"
+    chmod 644 "$temp/script.sh"
+    (cd "$temp/home" && as_user bash -eu "$temp/script.sh" "$small/install.sh") >"$temp/out" 2>"$temp/err" </dev/null
+    status=$?
+    if [ "$status" -eq 0 ]; then ok "$name"; else failed "$name" "status $status: $(tail -qn 2 "$temp/out" "$temp/err" | tr '\n' '/')"; fi
+}
+cat >"$temp/shared.sh" <<'END'
+install=$1
+install() { "$install" "$@"; }
+# has FOLDER LINE..: whether a folder holds these files and folders, and no others.
+has() { diff <(cd "$1" && find . -mindepth 1 | sort) <(printf './%s\n' "${@:2}" | grep -v '^./$' | sort); }
+# fails TEXT COMMAND..: whether a command fails, and says this.
+fails() { if "${@:2}" 2>err; then false; else grep -qF -e "$1" err; fi; }
+# full KIB: an install in e where no file can have more bytes, as on a full disk.
+full() { if (trap '' XFSZ; ulimit -f "$1"; install e); then false; fi; }
+END
+holds "a file of another stays" <<'END'
+mkdir -p a/bin; echo other >a/bin/other
+install a; install a; install --uninstall a
+has a bin bin/other
+END
+holds "folders of another stay" <<'END'
+mkdir -p b/bin b/share/man
+install b; install b; install --uninstall b
+has b bin share share/man
+END
+holds "what an earlier version installed goes" <<'END'
+install c
+doc=c/share/doc/council
+mkdir $doc/older; echo old >$doc/OLD; echo old >$doc/older/it
+{ echo share/doc/council/OLD; echo share/doc/council/older/it; grep -v '/$' $doc/FILES; } >list; mv list $doc/FILES
+install c; [ ! -e $doc/OLD ]; [ ! -e $doc/older ]
+install --uninstall c; [ ! -e $doc ]; [ -z "$(find c -type f)" ]
+END
+holds "an install that fails half-way is taken out" <<'END'
+mkdir -p d/share/man; echo other >d/share/man/man1
+fails man1 install d; [ -e d/bin/council ]
+install --uninstall d; has d share share/man share/man/man1
+END
+for size in 0 8; do
+    holds "a disk that is full after $size KiB" <<END
+full $size; install e; install --uninstall e; has e
+full $size; [ ! -e e/share/doc/council/FILES ] || install --uninstall e; [ -z "\$(find e -type f)" ]
+rm -r e; install e; full $size; install e; install --uninstall e; has e
+END
+done
+holds "lines of FILES that are not its own are ignored" <<'END'
+install f; mkdir g; echo >g/it; echo >f/bin/other
+files=f/share/doc/council/FILES
+{ printf '%s\n' '' / ../ ../g/it "$HOME/g/it" bin/../../g/it bin/other .; cat $files; } >list; mv list $files
+install f; install --uninstall f; has f bin bin/other; has g it
+install f; : >$files; install f; install --uninstall f; [ ! -e f/bin/council ]
+END
+holds "a folder in place of a file stays" <<'END'
+mkdir -p h/bin/council
+fails "h/bin/council is a folder: nothing is installed" install h; has h bin bin/council
+rmdir h/bin/council; install h; rm h/share/man/man1/council.1; mkdir h/share/man/man1/council.1
+install --uninstall h 2>err; grep -q 'council.1 is a folder, and stays' err
+has h share share/man share/man/man1 share/man/man1/council.1 bin
+END
+holds "a DESTDIR that does not begin with /" <<'END'
+DESTDIR=i install /usr; [ -x i/usr/bin/council ]; [ -s i/usr/share/doc/council/docs/USING.md ]
+DESTDIR=i/ install --uninstall /usr/; has i usr
+END
+holds "no PREFIX and no HOME" <<'END'
+export -n HOME
+fails 'name a PREFIX' install ''; fails 'name a PREFIX' install
+fails 'name a PREFIX' install --uninstall
+END
+holds "a PREFIX with / at the end" <<'END'
+[ "$(PATH=$HOME/j/bin:$PATH install "$HOME/j//")" = "council is installed: $HOME/j/bin/council" ]
+install j | grep -qF "$HOME/j/bin is not on the PATH"
+END
+holds "a PREFIX that could move a terminal" <<'END'
+install $'k\033[2J\302\233m' >out
+grep -qF "council is installed: $HOME/k [2J m/bin/council" out; [ "$(wc -l <out)" -eq 2 ]
+END
+holds "what is installed is for all users" <<'END'
+umask 077; install l; [ -x l/bin/council ]; [ -z "$(find l ! -perm -044 -o -type d ! -perm -055)" ]
+END
+holds "what is not installed is not taken out" <<'END'
+fails 'nothing is installed' install --uninstall nowhere
+END
 name="words that install.sh does not know"
 wrong=
 for words in "/usr --uninstall" "--help" "--uninstall -x" "one two" "--uninstall one two"; do
@@ -179,7 +254,3 @@ for words in "/usr --uninstall" "--help" "--uninstall -x" "one two" "--uninstall
     [ "$status" -eq 2 ] && grep -q '^usage: ' "$temp/err" || wrong="$wrong; $words: status $status"
 done
 if [ -z "$wrong" ] && [ ! -e "$temp/home/none" ] && [ ! -e "$temp/home/one" ]; then ok "$name"; else failed "$name" "${wrong#; }"; fi
-name="what is not installed is not taken out"
-as_user "$here/install.sh" --uninstall "$temp/home/nowhere" >"$temp/out" 2>"$temp/err"
-status=$?
-if [ "$status" -eq 1 ] && grep -q 'nothing is installed' "$temp/err"; then ok "$name"; else failed "$name" "status $status"; fi

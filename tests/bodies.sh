@@ -27,7 +27,7 @@ case ${1:-} in
 esac
 for command in python3 rt; do
     command -v "$command" >/dev/null || {
-        echo "skipped bodies.sh: the command $command was not found"
+        echo "skipped bodies.sh: this machine has no $command"
         exit 0
     }
 done

@@ -16,7 +16,7 @@ trap 'rm -rf "$temp"' EXIT
 # What all scripts use; where one is missing, nothing of a script can be run.
 for command in awk cmp cp cut date diff env grep head mktemp sed sort tail timeout tr uniq wc; do
     if ! command -v "$command" >/dev/null; then
-        echo "skipped $(basename "$0"): the command $command was not found"
+        echo "skipped $(basename "$0"): this machine has no $command"
         exit 0
     fi
 done
@@ -52,7 +52,7 @@ needs() {
     local command=$1 name
     command -v "$command" >/dev/null && return 0
     for name in "${@:2}"; do
-        skipped "$name" "the command $command was not found"
+        skipped "$name" "this machine has no $command"
     done
     return 1
 }
@@ -61,6 +61,18 @@ needs() {
 # standard output and its standard error.
 run() {
     timeout "$limit" "$program" "$@" >"$temp/out" 2>"$temp/err"
+    status=$?
+}
+
+# without COMMAND WORD..: runs the words on a system that lacks this command, and keeps what `run`
+# keeps.
+without() {
+    rm -rf "$temp/few"
+    mkdir "$temp/few"
+    ln -s /usr/bin/* "$temp/few/"
+    ln -sf /bin/* "$temp/few/"
+    rm -f "$temp/few/$1"
+    PATH=$temp/few:${kit:-} timeout "$seconds" "${@:2}" >"$temp/out" 2>"$temp/err" </dev/null
     status=$?
 }
 
@@ -85,12 +97,6 @@ printed() {
             failed "$1" "the report differs: $(diff "$temp/out" "$2" | head -n 4 | tr '\n' ';')"
         fi
     fi
-}
-
-# Whether the last run printed the standard input of this call, in which " | " stands for a TAB.
-printed_lines() {
-    sed "s/ | /$(printf '\t')/g" >"$temp/wanted"
-    printed "$1" "$temp/wanted"
 }
 
 # Whether the last run ended with the status $2, printed nothing, and wrote to standard error the

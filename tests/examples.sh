@@ -1,5 +1,6 @@
 #!/usr/bin/env bash
-# Each game of examples/ gives the report that stands beside it, as a FILE and on standard input.
+# Each game of examples/ gives the report beside it, as a FILE and on standard input. Each game of
+# docs/using/statutes gives the report of tests/oracle.py, and a document names it.
 . "$(dirname "$0")/common.sh"
 
 for game in "$top"/examples/*.toml "$top"/examples/*.txt; do
@@ -12,4 +13,15 @@ for game in "$top"/examples/*.toml "$top"/examples/*.txt; do
     printed "example $name" "$report"
     run "${words[@]}" <"$game"
     printed "example $name on standard input" "$report"
+done
+
+for game in "$top"/docs/using/statutes/*; do
+    name=docs/using/statutes/$(basename "$game")
+    if ! grep -qF "$(basename "$game")" "$top/docs/STATUTES.md" "$top/docs/USING.md"; then
+        failed "$name" "no document names it"
+    elif needs python3 "$name"; then
+        python3 "$top/tests/oracle.py" "$game" >"$temp/oracle"
+        run "$game"
+        printed "$name" "$temp/oracle"
+    fi
 done

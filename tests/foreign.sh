@@ -29,7 +29,7 @@ if needs cc "from C" "from threads of C" "from C++"; then
     fi
     name="the header is C++ too"
     if ! command -v c++ >/dev/null; then
-        skipped "$name" "the command c++ was not found"
+        skipped "$name" "this machine has no c++"
     elif echo '#include "council.h"' | c++ -x c++ -Wall -Wextra -Werror -pedantic -I"$top/include" -fsyntax-only - 2>"$temp/cc"; then
         ok "$name"
     else

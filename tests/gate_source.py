@@ -3,10 +3,10 @@
 
     gate_source.py [CRATES]
 
-goes through the src/ of all crates, but for their tests, and looks for each `::pass`, `::announce` and `::behind`, and
-each call of these names but those of one argument, which are no calls of a gate. There are to be four: a `Told`
-passes its gate; `Guarded::behind` tells it and gives the game, and the one function that sends a slice calls that;
-`Guarded::pass` passes the gate for callers.
+goes through the src/ of all crates, but for their tests, and looks for each `::pass`, `::announce` and `::admit`, and
+each call of these names but those of one argument, which are no calls of a gate. There are to be four: a gate is passed
+only where it is announced a slice; `Guarded::admit` announces it and gives the game; and `admit` is called by the one
+function that sends a slice, and by `Guarded::pass`, for callers.
 No contract can count these calls, but whatever goes through that function passes once for each slice that it sends.
 
 Prints `ok gate_source` or `FAILED gate_source: why`.
@@ -17,10 +17,10 @@ import re
 import sys
 
 WANTED = {
-    ("mwc_gather/src/told.rt", "self.gate.pass(worker, slice)"),
+    ("mwc_gather/src/observer.rt", "self.pass(worker, slice)"),
     ("mwc_gather/src/guarded.rt", "self.gate.announce(worker, slice);"),
-    ("mwc_gather/src/guarded.rt", "self.gate.pass(worker, slice);"),
-    ("mwc_gather/src/send.rt", "let walk = Walk::new(guarded.behind(worker, slice), bits, slice);"),
+    ("mwc_gather/src/guarded.rt", "self.admit(worker, slice)"),
+    ("mwc_gather/src/send.rt", "let mut walk = Walk::new(guarded.admit(worker, slice), bits, slice);"),
 }
 
 
@@ -35,7 +35,7 @@ def main(words):
         with open(path, encoding="utf-8") as it:
             for line in it:
                 code = line.split("//")[0]
-                found += [(name, code.strip())] * len(re.findall(r"::(?:pass|announce|behind)\b|\.(?:pass|announce|behind)\((?!\w+\))", code))
+                found += [(name, code.strip())] * len(re.findall(r"::(?:pass|announce|admit)\b|\.(?:pass|announce|admit)\((?!\w+\))", code))
     faults = [f"a gate is passed in {name}: {code}" for name, code in found if (name, code) not in WANTED]
     faults += [f"{name} has this {found.count((name, code))} times, and not once: {code}" for name, code in sorted(WANTED) if found.count((name, code)) != 1]
     for fault in faults:

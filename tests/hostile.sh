@@ -3,8 +3,8 @@
 # refusal is met. Each time the program says that it is out of memory, or that a worker could not be
 # started, with status 5, that one line on standard error and nothing on standard output; or, where the
 # refused allocation belongs to the reading of its command line, it does exactly what it does with ample memory. At a
-# fault of the command line it may also tell less of the fault, on standard error and with status 2. The library
-# that refuses is hostile/refuse.c.
+# fault of the command line it may also tell less of the fault, on standard error and with status 2,
+# and with --explain it may lack lines after the first. The library that refuses is hostile/refuse.c.
 . "$(dirname "$0")/common.sh"
 
 compile_refuse
@@ -36,9 +36,11 @@ hostile() {
     status=$?
 }
 
-# Whether standard error holds a text that is shorter than with ample memory.
+# Whether standard error holds a text that is shorter than with ample memory. For a fault of the
+# game it has the first lines of that.
 is_shorter() {
-    [ -s "$temp/err" ] && [ "$(wc -c <"$temp/err")" -lt "$(wc -c <"$temp/ample.err")" ]
+    [ -s "$temp/err" ] && [ "$(wc -c <"$temp/err")" -lt "$(wc -c <"$temp/ample.err")" ] &&
+        { [ "$ample" -eq 2 ] || head -n "$(wc -l <"$temp/err")" "$temp/ample.err" | cmp -s - "$temp/err"; }
 }
 
 # How many allocations the program makes before it opens its game: with the same words, and a file that is
@@ -80,7 +82,7 @@ sweep() {
                 [ -s "$temp/said" ] || break
                 same=$((same + 1))
                 [ "$number" -le "$first" ] || late=$((late + 1))
-            elif [ "$status" -eq 2 ] && [ "$ample" -eq 2 ] && [ ! -s "$temp/out" ] && [ -s "$temp/said" ] && is_shorter; then
+            elif [ "$status" -eq "$ample" ] && [[ $ample == [23] ]] && [ ! -s "$temp/out" ] && [ -s "$temp/said" ] && is_shorter; then
                 shorter=$((shorter + 1))
             else
                 why="$how=$number: status $status, $(wc -c <"$temp/out") bytes of output, $(head -n 1 "$temp/err")"
@@ -121,6 +123,8 @@ for game in "$temp"/fault*; do
     run "$game"
     sweep "a fault of the game, $(sed 's/^council: //' "$temp/err")" "$game"
 done
+game=$temp/fault-3.toml
+sweep "a fault that is explained" "$game" --explain
 game=
 sweep "--help" --help
 sweep "a fault of the command line" --workers 0

@@ -93,6 +93,30 @@ said "and how a table is had sooner" 'tools/look FILE'
 use
 asked_for "a second use asks nothing" ""
 
+# ---- a first use whose standard error is closed or takes nothing
+for error in '&-' /dev/full; do
+    [ "$error" = '&-' ] || [ -e "$error" ] || continue
+    rm -rf "$copy"/crates/*/out
+    : >"$temp/asked"
+    : >"$temp/err"
+    PATH=$kit:$PATH timeout "$seconds" bash -c "\"\$1\" >\"\$2\" 2>$error" bash "$copy/council" "$temp/out" </dev/null
+    status=$?
+    asked_for "a first use with standard error to $error" "lib:low lib:high run version "
+done
+
+# ---- where a command is missing
+for command in cut find python3; do
+    name="a first use without $command"
+    rm -rf "$copy"/crates/*/out
+    without "$command" "$copy/council"
+    if [ "$status" -eq 1 ] && [ "$(wc -l <"$temp/err")" -eq 1 ] && grep -q "the command $command.* was not found" "$temp/err"; then
+        ok "$name"
+    else
+        failed "$name" "status $status: $(tr '\n' '/' <"$temp/err")"
+    fi
+done
+use
+
 # ---- by contents, and not by times
 touch -d '1 hour' "$copy/crates/council/src/main.rt"
 use
@@ -217,7 +241,7 @@ if as_another test -x "$copy/council" 2>/dev/null; then
     chmod -R u+w "$copy"
     use
 else
-    skipped "a program in a folder that can't be written to" "the command setpriv was not found, and the tests run as root"
+    skipped "a program in a folder that can't be written to" "this machine has no setpriv, and the tests run as root"
 fi
 
 # ---- what stops it

@@ -1,5 +1,5 @@
 #!/usr/bin/env python3
-"""Each piece of code in docs/LIBRARY.md stands in the sources of a crate, and the small project that it begins with is whole.
+"""Each piece of code in docs/LIBRARY.md is in the sources of a crate, and the example that it begins with is whole.
 
     tests/library.py
 
@@ -31,10 +31,5 @@ sources = [packed(read(os.path.relpath(path, TOP))) for path in sorted(glob.glob
 for block in re.findall(r"```rust\n(.*?)```", page, re.S):
     first = next(line.strip() for line in block.split("\n") if line.strip())
     report(any(packed(block) in source for source in sources), f"docs/LIBRARY.md: {first}", "no crate has this code")
-for path in ("crates/member_indices/src/lib.rt", "crates/print_indices/src/main.rt"):
-    block = re.search(rf"`{re.escape(path)}`.*?```rust\n(.*?)```", page, re.S)
-    report(block and block.group(1) == read(path), f"docs/LIBRARY.md has {path} whole", "it has not")
-crates = read("crates.txt").split("\n")
-for name in ("member_indices", "print_indices"):
-    line = next((it for it in crates if it.startswith(f"{name}:")), "no line")
-    report(f"\n{line}\n" in page, f"docs/LIBRARY.md has the line of {name}", "it has not")
+example = read("crates/examples/src/all_indices.rt")
+report(example in page, "docs/LIBRARY.md has crates/examples/src/all_indices.rt whole", "it has not")

@@ -6,7 +6,7 @@ mkdir "$temp/kit" "$temp/elsewhere"
 cat >"$temp/kit/rt" <<END
 #!/bin/sh
 printf '%s ' "\$@" | sed "s:=[^ ]*/game:=GAME:" >"$temp/asked"
-cp "\${3#game.toml=}" "$temp/game"
+if [ "\$2" = --data ]; then cp "\${3#game.toml=}" "$temp/game"; else : >"$temp/game"; fi
 cat >"$temp/input"
 echo report
 echo "council: a fault" >&2
@@ -20,9 +20,10 @@ cd "$temp/elsewhere" || exit 1
 echo "a game" >"a game.toml"
 echo "a game by its name" >--list
 
-# look NAME WORDS GAME INPUT WORD..: whether the toolchain is then asked for these words, and given this game and this input.
+# look NAME WORDS GAME INPUT WORD..: whether the toolchain is then asked for these words, and given
+# this game, if it is not empty, and this input.
 look() {
-    local name="tools/look $1" words="try --data game.toml=GAME -- $2" game=$3 input=$4
+    local name="tools/look $1" words="try ${3:+--data game.toml=GAME }-- $2" game=$3 input=$4
     shift 4
     echo "the input" | PATH=$temp/kit:$PATH timeout "$((seconds * 10))" "$top/tools/look" "$@" >"$temp/out" 2>"$temp/err"
     status=$?
@@ -43,6 +44,7 @@ look "FILE behind --" "--bits=2 -- game.toml " "a game by its name" "" --bits=2 
 look "on standard input" "--most 5 " "" "the input" --most 5
 look "on a folder" ".. " "" "" ..
 look "on a FILE that is not there" "none.toml " "" "" none.toml
+look "on a game.toml that is not there" "game.toml " "" "" game.toml
 
 name="tools/look leaves no file"
 mkdir "$temp/tmp"

@@ -28,7 +28,7 @@ GROWTH = r"[\w.]*\.(?:push|push_back|reserve|extend_from_slice)\((?:[^|&]|&(?!&)
 ASKS = re.compile(rf"(?:if |let \w+ = ){GROWTH}\.is_err\(\)(?: \{{|;)$|if let Err\(\w+\) = {GROWTH} \{{$|let Ok\(\w+\) = [\w.]*\bspawn_with\([^|&]*\) else \{{$")
 PROVED = re.compile(r"prove!\(matches!\(\w+, (?:[A-Z]\w*::)?Memory\)\);$")
 # a loss that is told, a call that is asked whether it failed, and a growth by a great number that the code makes up
-LOSS = re.compile(r"\.lose\(\)|\blost\s*\|?=(?!=)(?! false;)|\.is_(?:err|ok)\(\)|(?:reserve\w*|with_capacity|resize)\(.*(?:\d{4}|\d_\d|<<|(?<!limits::)\b[A-Z]{2})")
+LOSS = re.compile(r"\.lose\(\)|\blost\s*\|?=(?![=>])(?! false;)|\.is_(?:err|ok)\(\)|(?:reserve\w*|with_capacity|resize)\(.*(?:\d{4}|\d_\d|<<|(?<!limits::)\b[A-Z]{2})")
 
 
 def code_lines(path):

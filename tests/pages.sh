@@ -60,7 +60,7 @@ else
 fi
 case $said in
 '') ok "docs/council.1 has no warnings" ;;
-skipped) skipped "docs/council.1 has no warnings" "neither mandoc nor man with groff was found" ;;
+skipped) skipped "docs/council.1 has no warnings" "this machine has neither mandoc nor man with groff" ;;
 *) failed "docs/council.1 has no warnings" "$(head -n 2 <<<"$said" | tr '\n' ' ')" ;;
 esac
 
@@ -116,7 +116,7 @@ fi
 sed -n 's/.*GameFault::.* => .*"\(.*\)".*/\1/p' "$top"/crates/council_game/src/fault.rt >"$temp/texts"
 [ "$(wc -l <"$temp/texts")" = "$(grep -cE '^            GameFault::.* => [0-9]+,$' "$top"/crates/council_game/src/fault.rt)" ] ||
     failed "each fault of a game has a text" "they were not found in crates/council_game/src/fault.rt"
-sed -n 's/.*#\[error("\(.*\)")\].*/\1/p' "$top"/crates/mwc_parts/src/fault.rt "$top"/crates/council_run/src/fault.rt \
+sed -n 's/.*#\[error("\(.*\)")\].*/\1/p' "$top"/crates/mwc_gather/src/fault.rt "$top"/crates/council_run/src/fault.rt \
     "$top"/crates/mwc_tally/src/*.rt | grep -v '^{0}$' >>"$temp/texts"
 sed -n 's/.*eprintln!(rt; "council: \([^{"]*\)".*/\1/p' "$top"/crates/council/src/*.rt >>"$temp/texts"
 sort -u "$temp/texts" >"$temp/each"

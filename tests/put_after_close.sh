@@ -5,7 +5,7 @@
 set -u
 top=$(cd "$(dirname "$0")/.." && pwd)
 command -v rt >/dev/null || {
-    echo "skipped put_after_close.sh: the command rt was not found"
+    echo "skipped put_after_close.sh: this machine has no rt"
     echo "0 passed, 0 failed, 1 skipped"
     exit 0
 }
@@ -13,8 +13,8 @@ room=$(mktemp -d)
 trap 'rm -rf "$room"' EXIT
 mkdir "$room/crates"
 cp "$top/HANDLES" "$room/"
-grep -E '^(coalitions|mwc_ring)[ :]' "$top/crates.txt" > "$room/crates.txt"
-for name in coalitions mwc_ring; do
+grep -E '^(coalitions|mwc_pipe)[ :]' "$top/crates.txt" > "$room/crates.txt"
+for name in coalitions mwc_pipe; do
     mkdir "$room/crates/$name"
     for part in src specs proofs out; do
         if [ -d "$top/crates/$name/$part" ]; then
@@ -22,7 +22,7 @@ for name in coalitions mwc_ring; do
         fi
     done
 done
-cat >> "$room/crates/mwc_ring/src/ring_in.rt" <<'END'
+cat >> "$room/crates/mwc_pipe/src/ring_in.rt" <<'END'
 
 pub fn puts_after_close(to: RingIn) {
     let mut to = to;
@@ -30,7 +30,7 @@ pub fn puts_after_close(to: RingIn) {
     let _put = to.put(Word::Open(0));
 }
 END
-said=$(cd "$room/crates/mwc_ring" && rt check 2>&1)
+said=$(cd "$room/crates/mwc_pipe" && rt check 2>&1)
 errors=$(printf '%s\n' "$said" | grep -c ': error\[')
 moved=$(printf '%s\n' "$said" | grep -c 'ring_in.rt:.*error\[borrow-e0382\].*`to`')
 if [ "$errors" = 1 ] && [ "$moved" = 1 ]; then

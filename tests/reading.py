@@ -27,18 +27,16 @@ HEADLINE = [
     ("mwc_pipe", "laws", None, "nothing_enters_after_close"),
     ("mwc_pipe", "laws", None, "each_reply_is_counted"),
     ("mwc_gather", "gathering", None, "gather"),
-    ("mwc_gather", "gathering", None, "gather_with_lookout"),
-    ("mwc_parts", "gathered", "Gathered", "in_order"),
+    ("mwc_gather", "gathered", "Gathered", "in_order"),
     ("council_run", "runs", None, "run"),
-    ("council_run", "runs", None, "run_with_lookout"),
 ]
 # in reading order: the first pattern that fits a module
 PARTS = [
-    ("The mathematics", r"coalitions\.|council_game\.(Votes|Ranks|Members)|mwc_walk\.Slices|power_index\."),
-    ("The pipe", r"mwc_pipe\.|mwc_ring\."),
-    ("The gathering", r"mwc_parts\.|mwc_gather\."),
-    ("The game file", r"council_game\.|council_file\.(Bracket|File)"),
-    ("The report", r"council_report\.|council_text\."),
+    ("The mathematics", r"coalitions\.(?!Options)|council_game\.(Votes|Ranks|Members)|mwc_walk\.Slices|power_index\."),
+    ("The pipe", r"mwc_pipe\."),
+    ("The gathering", r"mwc_gather\."),
+    ("The game file", r"council_game\.(?!Joined|Notation)|council_file\.(Bracket|File)"),
+    ("The report", r"council_report\.|council_game\.(Joined|Notation)"),
     ("The run", r"."),
 ]
 TOP = os.path.join(os.path.dirname(os.path.abspath(__file__)), "..")
@@ -110,7 +108,7 @@ def load_source(path, crate, module):
     names = imports(text)
     owner, lines = None, text.split("\n")
     for i, line in enumerate(lines):
-        m = re.match(r"impl(?:<.*?>)? (?:.* for )?([A-Z]\w*).*\{$", line)
+        m = re.match(r"(?:impl(?:<.*?>)? (?:.* for )?|pub trait )([A-Z]\w*).*\{$", line)
         owner = m.group(1) if m else None if line == "}" else owner
         m = re.match(r"(\s*)(pub(?:\(\w+\))? )?(?:extern \S+ )?fn (\w+)", line)
         if m:
@@ -165,9 +163,9 @@ def roots_of(wanted):
     for key, (text, names, _) in functions.items():
         if any(all(w is None and n == 3 or w == key[n] for n, w in enumerate(want)) for want in wanted):
             found |= mentioned(text, *names)
-            if key[3] in ("gather", "gather_with_lookout", "in_order"):
+            if key[3] in ("gather", "in_order"):
                 for name in ("Gathered", "Part"):
-                    found |= mentioned(types[("mwc_parts", name)][0], *types[("mwc_parts", name)][1])
+                    found |= mentioned(types[("mwc_gather", name)][0], *types[("mwc_gather", name)][1])
     return found
 
 

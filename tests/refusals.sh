@@ -41,10 +41,10 @@ are_built() {
 }
 
 command -v find >/dev/null || {
-    skipped "$(basename "$0")" "the command find was not found"
+    skipped "$(basename "$0")" "this machine has no find"
     exit 0
 }
-for name in council_game council_file mwc_walk mwc_ring mwc_pipe power_index mwc_tally mwc_sums mwc_gather council_report council_run; do
+for name in council_game council_file mwc_walk mwc_pipe power_index mwc_tally mwc_sums mwc_gather council_report council_run; do
     are_built "$name" || exit 1
 done
 
@@ -182,8 +182,8 @@ takes_none mwc_walk walks_under_four_rules_without_memory
 takes_memory mwc_pipe puts_into_a_pipe
 takes_memory mwc_pipe puts_into_a_batch
 takes_memory mwc_pipe replays
-takes_memory mwc_ring makes_a_ring
-takes_none mwc_ring moves_words_without_memory
+takes_memory mwc_pipe makes_a_ring
+takes_none mwc_pipe moves_words_without_memory
 takes_none power_index counts_without_memory
 takes_memory power_index gives_all_indices
 asks_for_little power_index gives_all_indices

@@ -63,10 +63,10 @@ if [ ! -x "$program" ]; then
     failed=1
 else
     # the longest first, as many at once as there are processors
-    scripts="look refusals hostile sizes tally too_many small_machine output worked_reports using launcher examples faults explain mistakes words workers prefixes pages"
+    scripts="look refusals hostile sizes tally too_many small_machine output using launcher examples workers prefixes pages"
     # these want the library
     callers="foreign archive"
-    programs="random_games reading rooms memory_source gate_source"
+    programs="random_games cases reading rooms memory_source gate_source"
     command -v python3 >/dev/null || programs=
     # what one run may take is measured once, before anything else runs
     SECONDS_EACH=$(bash -c '. tests/common.sh; echo "$seconds"' common.sh "$program")
@@ -91,6 +91,7 @@ else
             ;;
         bodies_fit) keep bodies_fit bash tests/bodies.sh --fit & ;;
         random_games) keep $name python3 tests/random_games.py "$program" 150 1 & ;;
+        cases) keep cases python3 tests/cases.py "$program" & ;;
         reading | rooms | memory_source | gate_source) keep $name python3 tests/$name.py & ;;
         *) keep "$name" bash "tests/$name.sh" "$program" & ;;
         esac
@@ -102,8 +103,8 @@ else
         count "$name"
     done
     if [ -z "$programs" ]; then
-        for test in memory_source gate_source reading rooms noise random_games; do
-            echo "skipped $test: the command python3 was not found"
+        for test in cases memory_source gate_source reading rooms noise random_games; do
+            echo "skipped $test: this machine has no python3"
             skipped=$((skipped + 1))
         done
     fi

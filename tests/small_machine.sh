@@ -15,7 +15,7 @@ if [ -n "$first" ] && taskset -c "$first" true 2>/dev/null; then
     status=$?
     refused "$name, refused" 4 "too many minimal winning coalitions"
 else
-    skipped "$name" "the command taskset was not found, or no processor can be chosen"
+    skipped "$name" "this machine has no taskset, or no processor can be chosen"
 fi
 
 # ---- the stack that a run takes does not grow with its workers

@@ -189,31 +189,31 @@ assert run.first > 1, f"told of after {run.first} seconds"
 with open(sys.argv[3], "rb") as out:
     report = out.read()
 assert report.startswith(b"members\t40\n") and b"minimal\t76904685\n" in report, report[:80]
-lines = re.findall(rb"\rcouncil: ([0-9]+) of 1024 slices, ([0-9]+) coalitions are counted", run.told)
+lines = re.findall(rb"\rcouncil: ([0-9,]+) coalitions found, ([0-9]+) of 1024 slices done", run.told)
 assert lines, run.told[:200]
 for column in (0, 1):
-    numbers = [int(it[column]) for it in lines]
+    numbers = [int(it[column].replace(b",", b"")) for it in lines]
     assert numbers == sorted(numbers) and numbers[0] < numbers[-1], numbers
-slices = [int(it[0]) for it in lines]
+slices = [int(it[1]) for it in lines]
 assert all(there - here in (0, 1) for here, there in zip(slices, slices[1:])), slices
-# the last slice is told of once all its coalitions are counted, and then all is wiped, once
-assert lines[-1] == (b"1023", b"76904685"), lines[-1]
+# all coalitions of the last slice are shown, and then the line is wiped, once
+assert lines[-1] == (b"76,904,685", b"1023"), lines[-1]
 assert b"\n" not in run.told, run.told[-80:]
-assert re.search(rb" coalitions are counted, [0-9]+ prefixes are looked at\r\x1b\[K$", run.told), run.told[-80:]
+assert re.search(rb" of 1024 slices done\r\x1b\[K$", run.told), run.told[-80:]
 assert run.told.count(b"\r\x1b[K") == 1, run.told.count(b"\r\x1b[K")
 END
     then ok "a long tally on a terminal"; else failed "a long tally on a terminal" "$(tail -n 1 "$temp/told")"; fi
-    # a first slice of 225,792,840 coalitions: it is told of while none is done
+    # a first slice of 225,792,840 coalitions: they are shown before it is done
     sed 's/8, 8, 8/20, 20, 20/' "$temp/three.toml" >"$temp/half.toml"
     if timeout "$seconds" python3 - "$program" "$temp/half.toml" >"$temp/told" 2>&1 <<'END'
 import re, sys
 from terminal import Run
-line = re.compile(rb"\rcouncil: 0 of 256 slices, ([0-9]+) coalitions are counted")
+line = re.compile(rb"\rcouncil: ([0-9,]+) coalitions found, 0 of 256 slices done")
 run = Run([sys.argv[1], "--tally", "--workers", "1", sys.argv[2]])
 run.read_until(lambda told: len(set(line.findall(told))) >= 2)
 run.kill()
-numbers = [int(it) for it in line.findall(run.told)]
-assert 0 < numbers[0] and numbers == sorted(numbers), numbers
+numbers = [int(it.replace(b",", b"")) for it in line.findall(run.told)]
+assert 0 < numbers[-1] and numbers == sorted(numbers), numbers
 END
     then ok "the first slice on a terminal"; else failed "the first slice on a terminal" "$(tail -n 1 "$temp/told")"; fi
     # a fault at the end: the line is wiped before it
@@ -227,7 +227,7 @@ with open("/dev/full", "wb") as full:
     run = Run([sys.argv[1], "--tally", "--workers", "1", "--bits", "10", sys.argv[2]], full)
 status = run.read_all()
 assert status == 5, status
-assert b"are counted" in run.told, run.told[:60]
+assert b"coalitions found" in run.told, run.told[:60]
 assert run.told.endswith(b"\r\x1b[Kcouncil: output failed\r\n"), run.told[-80:]
 END
     then ok "$name"; else failed "$name" "$(tail -n 1 "$temp/told")"; fi

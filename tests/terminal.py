@@ -1,13 +1,14 @@
 """A program on a terminal, for the scripts of this folder: they run python3 with PYTHONPATH on it.
 
     run = Run([program, "--tally", game])
-    run.read_until(lambda told: b"are counted" in told)
+    run.read_until(lambda told: b"slices done" in told)
     run.kill()
 """
 import os
 import pty
 import signal
 import subprocess
+import sys
 import time
 
 
@@ -61,12 +62,12 @@ class Run:
 
 def run_slowly(words, lines, both=False):
     """Runs a program that takes some tenths of a second so that more than a second goes by until it ends: it is stopped now and
-    then, on a busier machine later, until a run has told a number of slices that are begun. That run, and its status."""
+    then, on a busier machine later, until it has shown its progress so often. That run, and its status."""
     for piece in (0.005, 0.02, 0.08, 0.32):
         run = Run(words, both=both)
         run.slow_down(piece)
         status = run.read_all()
-        if run.told.count(b"is begun") >= lines:
+        if run.told.count(b"slices done") >= lines:
             break
     return run, status
 
@@ -80,3 +81,11 @@ def type_in(words, typed):
     os.write(leader, typed)
     out, err = made.communicate(timeout=60)
     return made.returncode, out, err
+
+
+if __name__ == "__main__":
+    # runs the words with a terminal as standard error, and passes on what it shows
+    run = Run(sys.argv[1:], stdout=None)
+    status = run.read_all()
+    os.write(2, run.told)
+    sys.exit(status)

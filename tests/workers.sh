@@ -41,8 +41,11 @@ import re, sys
 from terminal import run_slowly
 run, status = run_slowly([sys.argv[1], "--bits", "10", "--most", "4000000", sys.argv[2]], 2)
 assert status == 0, status
-numbers = [int(it) for it in re.findall(rb"\rcouncil: slice ([0-9]+) is begun", run.told)]
-assert len(numbers) >= 2 and numbers == sorted(set(numbers)) and numbers[0] > 4, run.told
+lines = re.findall(rb"\rcouncil: ([0-9,]+) coalitions found, ([0-9]+) of 1024 slices done", run.told)
+assert len(lines) >= 2, run.told
+for column in (0, 1):
+    numbers = [int(it[column].replace(b",", b"")) for it in lines]
+    assert numbers == sorted(numbers) and numbers[-1] > 0, numbers
 END
     then ok "a long run on a terminal"; else failed "a long run on a terminal" "$(tail -n 1 "$temp/told")"; fi
     # a game that takes hours: by heads small members come first, and the twelve large ones behind them differ, so that nearly
@@ -60,15 +63,15 @@ END
 import re, sys
 from terminal import Run
 for words, line in [
-    (["--bits", "0"], rb"\rcouncil: slice 1 is begun, 0 coalitions are found, ([0-9]+) prefixes are looked at"),
-    (["--tally"], rb"\rcouncil: 0 of 256 slices, 0 coalitions are counted, ([0-9]+) prefixes are looked at"),
+    (["--bits", "0"], rb"\rcouncil: 0 coalitions found, 0 of 1 slices done, ([0-9,]+) prefixes examined"),
+    (["--tally"], rb"\rcouncil: 0 coalitions found, 0 of 256 slices done, ([0-9,]+) prefixes examined"),
 ]:
     run = Run([sys.argv[1], "--workers", "1", *words, sys.argv[2]])
     run.read_until(lambda told: len(set(re.findall(line, told))) >= 2)
     run.kill()
     assert run.first > 1, f"told of after {run.first} seconds"
     # each 1,048,576 of the one thread are told of
-    numbers = sorted({int(it) for it in re.findall(line + rb"(?=\r)", run.told)})
+    numbers = sorted({int(it.replace(b",", b"")) for it in re.findall(line + rb"(?=\r)", run.told)})
     assert numbers and all(it % 2**20 == 0 for it in numbers), numbers
     assert all(there - here == 2**20 for here, there in zip(numbers, numbers[1:])), numbers
 END
@@ -79,11 +82,11 @@ import sys
 from terminal import run_slowly
 run, status = run_slowly([sys.argv[1], "--workers", "1", "--bits", "10", "--most", "3838379", sys.argv[2]], 1)
 assert status == 4, status
-assert b"is begun" in run.told, run.told[:60]
+assert b"slices done" in run.told, run.told[:60]
 assert run.told.endswith(b"\r\x1b[Kcouncil: too many minimal winning coalitions\r\n  --tally counts any number of them\r\n"), run.told[-120:]
 END
     then ok "a late fault on a terminal"; else failed "a late fault on a terminal" "$(tail -n 1 "$temp/told")"; fi
-    # the same game where all are wanted: once it is told of, each slice is, one after the other; the line is wiped
+    # the same game where all are wanted: once they are shown, each slice is, one after the other; the line is wiped
     # once, before the first byte of the report, which is on the same terminal, and nothing is written between and after
     run --workers 1 --most 4000000 "$temp/long.toml"
     sed 's/$/\r/' "$temp/out" >"$temp/report"
@@ -97,9 +100,11 @@ with open(sys.argv[3], "rb") as it:
 assert b"minimal\t3838380\r\n" in report, report[:80]
 line, wiped, shown = run.told.partition(b"\r\x1b[K")
 assert shown == report, run.told[-200:]
-numbers = [int(it) for it in re.findall(rb"\rcouncil: slice ([0-9]+) is begun", line)]
-assert len(numbers) > 1 and numbers == list(range(numbers[0], 1025)), numbers
-assert line == b"".join(b"\rcouncil: slice %d is begun" % it for it in numbers), line[:80]
+told = re.findall(rb"\rcouncil: ([0-9,]+) coalitions found, ([0-9]+) of 1024 slices done", line)
+numbers = [int(it[1]) for it in told]
+assert len(numbers) > 1 and numbers[-1] == 1023, numbers
+assert all(there - here in (0, 1) for here, there in zip(numbers, numbers[1:])), numbers
+assert line == b"".join(b"\rcouncil: %s coalitions found, %s of 1024 slices done" % it for it in told), line[:80]
 END
     then ok "a late report on a terminal"; else failed "a late report on a terminal" "$(tail -n 1 "$temp/told")"; fi
     if timeout "$seconds" python3 - "$program" >"$temp/told" 2>&1 <<'END'

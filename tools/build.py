@@ -51,7 +51,7 @@ LOG = f"{OUT}/build.log"
 # what a proof may take
 MEMORY = 3_000_000_000
 # how far a proof gives way to the first one: any other, and one that fills the time at the end
-NICE, NICE_LAST = 10, 19
+NICE, NICE_LAST = 0, 5
 # what only the program waits for fills the time at the end if it takes at most this many seconds
 FILLS = 100
 # what fills the time at the end may use this many lanes beside those that there are processors for
@@ -73,7 +73,13 @@ PROOFS, STOPPED = [], []
 
 
 def say(text):
-    print(f"council: {text}", file=sys.stderr, flush=True)
+    """Says a line on standard error, if that is open and takes it."""
+    try:
+        if sys.stderr:
+            print(f"council: {text}", file=sys.stderr, flush=True)
+    except OSError:
+        # (what is still to be written, as at the end, goes nowhere)
+        os.dup2(os.open(os.devnull, os.O_WRONLY), sys.stderr.fileno())
 
 
 def lines_of_crates():
@@ -558,6 +564,6 @@ def main():
 
 try:
     sys.exit(main())
-except OSError as error:
+except (OSError, subprocess.CalledProcessError) as error:
     say(error)
     sys.exit(1)

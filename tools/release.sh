@@ -31,6 +31,13 @@ stop() {
     echo "tools/release.sh: $1" >&2
     exit 1
 }
+case $to in
+/*) ;;
+*) to=$PWD/$to ;;
+esac
+for command in cut find git gzip python3 sed sha256sum tar; do
+    command -v "$command" >/dev/null || stop "the command $command was not found"
+done
 [ -x "$program" ] || stop "there is no program $program: ./council builds it"
 commit=$(git -C "$top" rev-parse HEAD) || stop "this is no clone"
 time=$(git -C "$top" log -1 --format=%ct)
@@ -92,5 +99,5 @@ chmod 755 "$folder/council" "$folder/install.sh"
 tar -C "$temp" --format=ustar --sort=name --owner=0 --group=0 --numeric-owner --mtime="@$time" -cf "$temp/it.tar" "$name"
 gzip -n -9 "$temp/it.tar"
 mv "$temp/it.tar.gz" "$to/$name.tar.gz"
-(cd "$to" && sha256sum "$name.tar.gz" >SHA256SUMS)
+(CDPATH='' cd -- "$to" && sha256sum "$name.tar.gz" >SHA256SUMS)
 echo "$to/$name.tar.gz"

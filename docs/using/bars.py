@@ -7,7 +7,7 @@ import sys
 
 from command import Words, run
 from drawing import picture, text, width, wrapped
-from report import Report, rounded
+from report import Report, ignore, rounded
 
 BAR, GAP, LONGEST, SMALL = 9, 9, 460, 9
 SHARES = ["#bbbbbb", "#8f8f8f", "#d9cfa8", "#a9c1b4"]
@@ -31,7 +31,7 @@ def drawn(report, places):
     longest = max(max(values) for _, values in rows)
     left = max(60.0, *(width(name, 12) for name, _ in rows)) + 16
     wide = left + LONGEST + 20 + width("0." + "0" * places, SMALL)
-    title = report.title or "A game"
+    title = report.heading()
     parts, y = [], 22
     for it in wrapped(title.split(" "), wide - 16, 14):
         parts.append(text(8, y, it, 14, more=' font-weight="bold"'))
@@ -56,7 +56,7 @@ def main(words):
     reader = Words(__doc__)
     reader.add_argument("--decimals", metavar="N", type=int, choices=range(1, 13), default=4, help="decimals beside the bars, rounded; else four")
     words = reader.parse_args(words)
-    for line in drawn(Report(sys.stdin), words.decimals):
+    for line in drawn(Report(sys.stdin, ignore), words.decimals):
         print(line)
 
 

@@ -5,7 +5,7 @@ import shutil
 import subprocess
 import sys
 
-from report import Fault, Report
+from report import Fault, Report, ignore
 
 
 def shown(text):
@@ -29,6 +29,7 @@ def run(main):
     try:
         sys.stdin = sys.stdin or open(os.devnull, encoding="utf-8")
         sys.stdout = sys.stdout or open(os.devnull, "r+", encoding="utf-8")
+        sys.stderr = sys.stderr or open(os.devnull, "r+", encoding="utf-8")
         sys.stdin.reconfigure(encoding="utf-8-sig")
         sys.stdout.reconfigure(encoding="utf-8", newline="\n")
         sys.stderr.reconfigure(errors="backslashreplace")
@@ -44,8 +45,7 @@ def run(main):
         if it.filename:
             status = tell(f"{it.filename}: {it.strerror}", 1)
         else:
-            # what is still to be written, as when the program ends, goes nowhere
-            os.dup2(os.open(os.devnull, os.O_WRONLY), sys.stdout.fileno())
+            drop(sys.stdout)
             status = tell("output failed", 1)
     except KeyboardInterrupt:
         status = 130
@@ -53,8 +53,17 @@ def run(main):
 
 
 def tell(text, status):
-    print(f"{os.path.basename(sys.argv[0])}: {shown(text)}", file=sys.stderr, flush=True)
+    """Says a line on standard error, if that takes it; returns the status."""
+    try:
+        print(f"{os.path.basename(sys.argv[0])}: {shown(text)}", file=sys.stderr, flush=True)
+    except OSError:
+        drop(sys.stderr)
     return status
+
+
+def drop(file):
+    """Discards what is written to a file from now on, and what it still has to write."""
+    os.dup2(os.open(os.devnull, os.O_WRONLY), file.fileno())
 
 
 def note(text):
@@ -62,13 +71,13 @@ def note(text):
     tell(text, 0)
 
 
-def report_of(path):
-    """The report in a file; - is standard input."""
+def report_of(path, take=ignore):
+    """The report in a file; - is standard input. `take` gets its coalitions."""
     if path == "-":
-        return Report(sys.stdin)
+        return Report(sys.stdin, take)
     with open(path, encoding="utf-8-sig") as it:
         try:
-            return Report(it)
+            return Report(it, take)
         except Fault as fault:
             raise Fault(f"{path}: {fault}") from None
         except UnicodeDecodeError:

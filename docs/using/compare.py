@@ -6,10 +6,11 @@ first. A member that a game has not stands with a dash there. Members are matche
 that one game has and another has not, and that look like one, are told on standard error: --same makes them one.
 """
 import difflib
+import functools
 import unicodedata
 
 from command import Words, note, report_of, run, shown
-from game import quoted
+from game import in_shell, quoted
 from report import Fault, rounded
 
 
@@ -20,10 +21,17 @@ def signed(value):
     return sign + digits
 
 
+@functools.cache
 def folded(name):
     """A name without accents, capitals and signs, as words."""
     letters = unicodedata.normalize("NFKD", name.casefold())
     return "".join(it if it.isalnum() else " " for it in letters if not unicodedata.combining(it)).split()
+
+
+@functools.cache
+def matcher_of(text):
+    """What compares other texts with this one; it keeps what it counts of this one."""
+    return difflib.SequenceMatcher(None, "", text)
 
 
 def is_near(one, other):
@@ -35,7 +43,12 @@ def is_near(one, other):
     first, grown = sorted((one[0], other[0]), key=len)
     begins = len(short) >= 4 and long.startswith(short)
     grows = 5 <= len(first) < len(grown) and grown.startswith(first)
-    return begins or grows or difflib.SequenceMatcher(None, short, long).ratio() >= 0.8
+    if begins or grows:
+        return True
+    matcher = matcher_of(long)
+    matcher.set_seq1(short)
+    # (the bounds take less time)
+    return matcher.real_quick_ratio() >= 0.8 and matcher.quick_ratio() >= 0.8 and matcher.ratio() >= 0.8
 
 
 def warn(games):
@@ -47,7 +60,7 @@ def warn(games):
                 for it in other:
                     if name not in other and it not in one and (name, it) not in told and is_near(name, it):
                         told.add((name, it))
-                        note(f"{quoted(name)} of report {at} and {quoted(it)} of report {number} may be one member: --same {quoted(name)} {quoted(it)} makes them one")
+                        note(f"{quoted(name)} of report {at} and {quoted(it)} of report {number} may be one member: --same {in_shell(name)} {in_shell(it)} makes them one")
 
 
 def members_of(report, same):
@@ -56,7 +69,7 @@ def members_of(report, same):
     for it in report.members:
         name = next((first for first, other in same if it.name == other), it.name)
         if name in members:
-            raise Fault(f"--same {quoted(name)} {quoted(it.name)}: one report has both", 2)
+            raise Fault(f"--same {in_shell(name)} {in_shell(it.name)}: one report has both", 2)
         members[name] = it
     return members
 
@@ -110,9 +123,9 @@ def main(words):
     games = [members_of(it, words.same) for it in reports]
     for first, other in words.same:
         if not any(it.name in (first, other) for report in reports for it in report.members):
-            raise Fault(f"--same {quoted(first)} {quoted(other)}: no report has one of them", 2)
+            raise Fault(f"--same {in_shell(first)} {in_shell(other)}: no report has one of them", 2)
     for at, it in enumerate(reports, 1):
-        print(f"{at}  {shown(it.title) or 'a game'}: {it.quota} of {it.total}, minimal winning coalitions: {it.minimal}")
+        print(f"{at}  {shown(it.heading())}: {it.quota} of {it.total}, minimal winning coalitions: {it.minimal}")
     print()
     for line in table(games):
         print(line)

@@ -13,14 +13,17 @@ The columns of a table are name, weight, share (of the votes), coalitions, dp an
 the public good index as decimals), deegan_packel and public_good (the same as fractions). With several rules there
 is a weight and a share for each.
 """
+import itertools
 import json
 import re
+import shutil
 import sys
+import tempfile
 import unicodedata
 
 from command import Words, run
 from game import quoted
-from report import Fault, Report, rounded
+from report import Fault, Report, ignore, rounded
 
 FORMATS = ["csv", "json", "latex", "markdown"]
 HEADINGS = {
@@ -140,12 +143,12 @@ def pair(value):
 
 
 def whole(report, places):
-    """The whole report as one value."""
+    """The whole report but for its coalitions, as one value."""
 
     def index(value, decimals):
         return {"fraction": pair(value), "decimals": float(decimals if places is None else rounded(value, places))}
 
-    value = {
+    return {
         "title": report.title or None,
         "quotas": report.quotas,
         "totals": report.totals,
@@ -161,9 +164,29 @@ def whole(report, places):
             for it in report.members
         ],
     }
-    if report.coalitions:
-        value["coalitions"] = [{"members": it.names, "weights": it.weights} for it in report.coalitions]
-    return value
+
+
+def write_json(lines, places):
+    """Writes a report as JSON. Its coalitions, which may be millions and come before the members,
+    wait in a temporary file."""
+
+    def text(value):
+        return json.dumps(value, indent=1, ensure_ascii=False)
+
+    between = itertools.chain(["\n  "], itertools.repeat(",\n  "))
+    with tempfile.TemporaryFile("w+", encoding="utf-8", newline="\n") as coalitions:
+
+        def take(it):
+            coalitions.write(next(between) + text({"members": it.names, "weights": it.weights}).replace("\n", "\n  "))
+
+        report = Report(lines, take)
+        head = text(whole(report, places))
+        if report.listed:
+            sys.stdout.write(head[: -len("\n}")] + ',\n "coalitions": [')
+            coalitions.seek(0)
+            shutil.copyfileobj(coalitions, sys.stdout)
+            head = "\n ]\n}"
+        print(head)
 
 
 def main(words):
@@ -181,10 +204,10 @@ def main(words):
     for it in kinds:
         if it not in HEADINGS:
             raise Fault(f"{quoted(it)} is no column: {', '.join(HEADINGS)}", 2)
-    report = Report(sys.stdin)
     if words.format == "json":
-        print(json.dumps(whole(report, words.decimals), indent=1, ensure_ascii=False))
+        write_json(sys.stdin, words.decimals)
         return
+    report = Report(sys.stdin, ignore)
     columns = list(columns_of(report, kinds))
     if words.format == "csv":
         lines = csv(report, columns, words.decimals)

@@ -22,6 +22,17 @@ def quoted(text):
     return '"' + "".join(letters) + '"'
 
 
+def in_shell(text):
+    """A text as one word for bash or zsh, which do nothing else with it than take it."""
+    if text.isprintable():
+        return "'" + text.replace("'", "'\\''") + "'"
+    parts = []
+    for it in text:
+        plain = it.isprintable() and it not in "'!\\"
+        parts.append(it if plain else "".join(f"\\{byte:03o}" for byte in it.encode("utf-8", "surrogateescape")))
+    return "$'" + "".join(parts) + "'"
+
+
 def game_file(names, quotas, weights, title="", comments=()):
     """A game file: the names, a quota for each rule, and for each member a weight under each rule. The comments
     stand in front, one a line."""

@@ -132,19 +132,19 @@ def bars(report):
 
 
 def coalitions(report):
-    if not report.coalitions:
+    has = report.listed
+    if not has:
         return
-    has = len(report.coalitions)
     some = f", the first {MOST} of {has}" if has > MOST else ""
     yield f"<h2>Minimal winning coalitions{some}</h2>"
     yield f"<details{' open' if has <= 100 else ''}><summary>{min(has, MOST)} coalitions, with their weights</summary><ol class=\"coalitions\">"
-    for it in report.coalitions[:MOST]:
+    for it in report.coalitions:
         yield f"<li>{', '.join(map(name, it.names))} <small>({' / '.join(map(str, it.weights))})</small></li>"
     yield "</ol></details>"
 
 
 def section(report, at, level):
-    title = xml(report.title) if report.title else "A game"
+    title = xml(report.heading())
     yield f'<section id="game{at}"><h{level}>{title}</h{level}>'
     wins = " and ".join(f"{quota} of {total}" + (f" under rule {rule}" if len(report.quotas) > 1 else "") for rule, (quota, total) in enumerate(zip(report.quotas, report.totals), 1))
     yield f"<p>A coalition wins with a weight of at least {wins}. Members: {len(report.members)}. Minimal winning coalitions: {report.minimal}.</p>"
@@ -176,7 +176,7 @@ def version_of(named):
 
 
 def page(reports, version):
-    titles = [it.title or "A game" for it in reports]
+    titles = [it.heading() for it in reports]
     title = titles[0] if len(reports) == 1 else f"{len(reports)} games"
     hashed = base64.b64encode(hashlib.sha256(SCRIPT.encode()).digest()).decode()
     yield '<!DOCTYPE html>\n<html lang="en"><head><meta charset="utf-8"><meta name="viewport" content="width=device-width, initial-scale=1">'
@@ -199,12 +199,20 @@ def page(reports, version):
     yield f"</ul></footer></main><script>{SCRIPT}</script></body></html>"
 
 
+def read(path):
+    """The report in a file, with as many of its coalitions as the page shows."""
+    first = []
+    report = report_of(path, lambda it: first.append(it) if len(first) < MOST else None)
+    report.coalitions = first
+    return report
+
+
 def main(words):
     reader = Words(__doc__)
     reader.add_argument("reports", metavar="REPORT", nargs="+", help="a report of council; - is standard input")
     reader.add_argument("--program", metavar="PROGRAM", help="the program whose version the page names; else the one of this clone or archive, or the one on the PATH")
     words = reader.parse_args(words)
-    reports = [report_of(it) for it in words.reports]
+    reports = [read(it) for it in words.reports]
     for line in page(reports, version_of(words.program)):
         print(line)
 

@@ -53,13 +53,21 @@ class Coalition:
             raise ValueError(size)
 
 
+def ignore(_):
+    """Keeps nothing of a coalition."""
+
+
 class Report:
     """A report, from its lines. They have different numbers of fields, and a name may hold quotes: so the fields
-    are split at TABs and nothing else. What is no report is a Fault."""
+    are split at TABs and nothing else. What is no report is a Fault.
 
-    def __init__(self, lines):
+    A report can list millions of coalitions. If you pass `take`, it is called with one after the
+    other, and the report keeps none; else it keeps them in `coalitions`. `listed` is their number."""
+
+    def __init__(self, lines, take=None):
         self.title = ""
-        self.members, self.coalitions = [], []
+        self.members, self.coalitions, self.listed = [], [], 0
+        take = take or self.coalitions.append
         one = {}
         for at, line in enumerate(lines, 1):
             kind, *fields = line.rstrip("\r\n").split("\t")
@@ -67,7 +75,8 @@ class Report:
                 if kind == "member":
                     self.members.append(Member(*fields))
                 elif kind == "coalition":
-                    self.coalitions.append(Coalition(*fields))
+                    take(Coalition(*fields))
+                    self.listed += 1
                 elif kind in ("title", "members", "quota", "total", "minimal"):
                     (one[kind],) = fields
                 elif kind not in ("notation", "size"):
@@ -81,13 +90,17 @@ class Report:
             self.quota, self.total = one["quota"], one["total"]
             self.quotas, self.totals = numbers(self.quota), numbers(self.total)
             self.minimal = number(one["minimal"])
-            whole = number(one["members"]) == len(self.members) and self.coalitions[self.minimal :] == []
+            whole = number(one["members"]) == len(self.members) and self.listed <= self.minimal
         except (KeyError, ValueError):
             whole = False
         if not (whole and self.is_sound()):
             raise Fault("the report is not whole, or its numbers are not those of council")
         # the share of the votes under the first rule
         self.shares = [self.share(it) for it in self.members]
+
+    def heading(self):
+        """What stands over a table or a picture: the title, if it has a letter."""
+        return self.title if self.title.strip() else "A game"
 
     def is_sound(self):
         """Whether the weights of each rule add up to its total, and each index adds up to 1."""

@@ -9,7 +9,7 @@ the total of the rule. --picture draws a line for each member; members whose lin
 """
 import sys
 
-from command import Words, computed, program_at_hand, ready, run
+from command import Words, computed, program_at_hand, ready, run, shown
 from drawing import COLORS, DASHES, picture, text, width, wrapped
 from game import game_file
 from report import Fault
@@ -42,7 +42,7 @@ def drawn(start, rule, reports, kind):
     top = max(map(max, lines))
     left, wide, high = 60, 560, 360
     first, last = reports[0][0], reports[-1][0]
-    head = wrapped((start.title or "A game").split(), left + wide + 200, 14)
+    head = wrapped(start.heading().split(), left + wide + 200, 14)
     up = 30 + 18 * len(head)
 
     def place(quota, it):
@@ -73,7 +73,7 @@ def drawn(start, rule, reports, kind):
             right = max(right, left + wide + 58 + width(it, 12))
             y += 15
         y += 4
-    return picture(max(right, *(width(it, 14) for it in head)) + 16, max(up + high + 30, y + 10), parts, start.title or "A game")
+    return picture(max(right, *(width(it, 14) for it in head)) + 16, max(up + high + 30, y + 10), parts, start.heading())
 
 
 def main(words):
@@ -101,16 +101,20 @@ def main(words):
     if words.step < 1 or first > last:
         raise Fault(f"there is no quota from {first} to {last} in steps of {words.step}", 2)
     quotas = range(first, last + 1, words.step)
-    if len(quotas) > MOST:
-        raise Fault(f"from {first} to {last} there are {len(quotas)} quotas, and {MOST} are the most: --from, --to and --step choose some", 2)
+    # (Python has no length of a range of twenty digits)
+    number = (last - first) // words.step + 1
+    if number > MOST:
+        raise Fault(f"from {first} to {last} there are {number} quotas, and {MOST} are the most: --from, --to and --step choose some", 2)
     reports = sweep(program, start, words.rule - 1, quotas)
     if words.picture:
         with open(words.picture, "w", encoding="utf-8", newline="\n") as it:
             it.writelines(line + "\n" for line in drawn(start, words.rule - 1, reports, words.index))
     print("quota", "member", "deegan_packel", "dp", "public_good", "pg", sep="\t")
+    # a file gets each name as it is, and a terminal none that moves it
+    name_of = shown if sys.stdout.isatty() else str
     for quota, report in reports:
         for it in report.members:
-            print(quota, it.name, it.dp_fraction, it.dp_decimals, it.pg_fraction, it.pg_decimals, sep="\t")
+            print(quota, name_of(it.name), it.dp_fraction, it.dp_decimals, it.pg_fraction, it.pg_decimals, sep="\t")
 
 
 if __name__ == "__main__":

@@ -80,7 +80,7 @@ def needs(command, *names):
     if shutil.which(command):
         return True
     for name in names:
-        skipped(name, f"the command {command} was not found")
+        skipped(name, f"this machine has no {command}")
     return False
 
 

@@ -3,7 +3,13 @@
 
     tests/using/compare.py PROGRAM
 """
-from cases import HOSTILE, TEMP, TOP, Run, case, done, fault, hostile_game, report, same
+import difflib
+import os
+import random
+import subprocess
+import sys
+
+from cases import HOSTILE, TEMP, TOOLS, TOP, Run, case, done, fault, hostile_game, report, same
 
 TOOL = "compare.py"
 
@@ -47,6 +53,15 @@ case("compare.py: --same makes them one", run.err == "" and row[1:] == ["1", "0.
 for one, other in [("United Kingdom", "United States"), ("Slovakia", "Slovenia"), ("North Macedonia", "North Korea"), ("Alberta", "Belgium"), ("A", "B")]:
     run = Run(TOOL, game("one", one), game("other", other))
     case(f"compare.py: {one} and {other} are told apart", run.err == "", run.err)
+
+# ---- many long names that differ: nearly no two are compared letter by letter
+random.seed(1)
+many = [game(f"many{at}", *("".join(random.choices("abcdefghijklmnopqrstuvwxyz", k=64)) for _ in range(40))) for at in range(3)]
+ratio, compared = difflib.SequenceMatcher.ratio, []
+difflib.SequenceMatcher.ratio = lambda it: compared.append(it) or ratio(it)
+run = Run(TOOL, *many)
+difflib.SequenceMatcher.ratio = ratio
+case("compare.py: 120 long names", run.status == 0 and run.err == "" and len(compared) < 3 * 1600 / 10, (run.err, len(compared)))
 run = Run(TOOL, stored("eu-27-nice"), stored("eu-36-lisbon"))
 case("compare.py: the examples name each country in one way", run.err == "", run.err)
 
@@ -56,12 +71,22 @@ run = Run(TOOL, hard, put("several", report(hostile_game(3))))
 case("compare.py: hostile names", run.status == 0 and all(it in run.out for it in HOSTILE if it.isprintable()), run.err)
 case("compare.py: no letter that moves a terminal", all(it.isprintable() or it == "\n" for it in run.out))
 
+# ---- what is told can be pasted into a shell, which then runs nothing and sees the names
+names = [*HOSTILE[:-6], "'; touch x'", "$(touch x)", "`touch x`", "Land\u009bA", "Land!1", "a\\'b\u0085 c"]
+ONE = "members\t1\nquota\t1\ntotal\t1\nminimal\t1\nmember\tNAME\t1\t1\t1/1\t1.000000\t1/1\t1.000000\n"
+for name in (it for it in names if len(it.encode()) <= 60 and sum(map(str.isalnum, it)) >= 4):
+    run = Run(TOOL, put("one", ONE.replace("NAME", name)), put("two", ONE.replace("NAME", f"{name} 2")))
+    option = run.err.split("may be one member: ")[-1].split(" makes them one")[0]
+    found = subprocess.run(["bash", "-c", f"printf '%s\\0' {option}"], cwd=TEMP, capture_output=True, check=False)
+    same(f"compare.py: {name!r} in a shell", found.stdout.decode().split("\0")[:-1], ["--same", name, f"{name} 2"])
+case("compare.py: a shell runs none of it", not os.path.exists(f"{TEMP}/x"))
+
 # ---- what is refused
 for name, words, text in [
     ("one report", [hard], "name two reports or more"),
     ("standard input twice", ["-", "-"], "name two reports or more"),
-    ("two names of one report as one", [old, new, "--same", "Iceland", "Türkiye"], '--same "Iceland" "Türkiye": one report has both'),
-    ("names that nobody has", [old, new, "--same", "a\nb", "c"], '--same "a\\u000Ab" "c": no report has one of them'),
+    ("two names of one report as one", [old, new, "--same", "Iceland", "Türkiye"], "--same 'Iceland' 'Türkiye': one report has both"),
+    ("names that nobody has", [old, new, "--same", "a\nb", "c"], "--same $'a\\012b' 'c': no report has one of them"),
     ("no report", [], "the following arguments are required: REPORT (--help says more)"),
 ]:
     fault(f"compare.py refuses {name}", Run(TOOL, *words), 2, text)
@@ -77,4 +102,11 @@ with open(path, "wb") as it:
     it.write(b"title\t\xff\n")
 fault("compare.py refuses bytes that are no text", Run(TOOL, path, hard), 1, f"{path}: it is not UTF-8")
 fault("compare.py refuses a file that is not there", Run(TOOL, hard, f"{TEMP}/none.tsv"), 1, f"{TEMP}/none.tsv: No such file or directory")
+
+# ---- a standard error that is closed, or that takes nothing
+wanted = Run(TOOL, old, new).out
+for error in ["&-"] + ["/dev/full"] * os.path.exists("/dev/full"):
+    words = ["bash", "-c", f'exec "$@" 2>{error}', "bash", sys.executable, f"{TOOLS}/{TOOL}", old, new]
+    ran = subprocess.run(words, capture_output=True, check=False)
+    same(f"compare.py: standard error to {error}", (ran.returncode, ran.stdout.decode()), (0, wanted))
 done()

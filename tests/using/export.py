@@ -11,7 +11,7 @@ import re
 import subprocess
 from fractions import Fraction
 
-from cases import HOSTILE, TEMP, TOP, Run, case, done, fault, hostile_game, needs, report, same
+from cases import HOSTILE, TEMP, TOP, Run, case, done, fault, hostile_game, needs, report, same, skipped
 
 TOOL = "export.py"
 
@@ -76,8 +76,9 @@ if needs("pdflatex", *names):
         words = ["pdflatex", "-interaction=nonstopmode", "-halt-on-error", f"{at}.tex"]
         ran = subprocess.run(words, cwd=TEMP, capture_output=True, timeout=120, env={**os.environ, "TEXINPUTS": ""})
         told = [it for it in ran.stdout.decode("utf-8", "replace").split("\n") if it.startswith("!") or "Missing character" in it]
-        if any("File `" in it for it in told):
-            print(f"skipped {name}: a package was not found")
+        missing = re.search("File `([^']*)' not found", "".join(told))
+        if missing:
+            skipped(name, f"the TeX of this machine has no {missing[1]}")
         else:
             case(name, ran.returncode == 0 and not told, told or ran.returncode)
 

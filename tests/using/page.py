@@ -90,13 +90,15 @@ window.onload = () => {
 </script>"""
 
 
+CHROMIUM = shutil.which("chromium") or shutil.which("chromium-browser") or shutil.which("google-chrome")
+
+
 def seen(page):
-    """What a browser sees of a page; None where there is none that runs."""
+    """What a browser sees of a page; None if none runs here."""
     path = put("look.html", LOOK.replace("PAGE", html.escape(page)))
-    command = shutil.which("chromium") or shutil.which("chromium-browser") or shutil.which("google-chrome")
-    if not command:
+    if not CHROMIUM:
         return None
-    words = [command, "--headless", "--no-sandbox", "--disable-gpu", f"--user-data-dir={TEMP}/browser", "--window-size=1000,900", "--dump-dom", f"file://{path}"]
+    words = [CHROMIUM, "--headless", "--no-sandbox", "--disable-gpu", f"--user-data-dir={TEMP}/browser", "--window-size=1000,900", "--dump-dom", f"file://{path}"]
     try:
         ran = subprocess.run(words, capture_output=True, timeout=120, env={**os.environ, "HOME": TEMP})
     except subprocess.TimeoutExpired:
@@ -109,7 +111,7 @@ CASES = ["page.py: no wider than a phone", "page.py: fractions are drawn", "page
 first, second = seen(one.out), seen(Run(TOOL, "--program", PROGRAM, hard).out)
 if first is None or second is None:
     for it in CASES:
-        skipped(it, "no Chromium was found that runs here")
+        skipped(it, "Chromium shows no page here" if CHROMIUM else "this machine has no Chromium")
 else:
     order = ["Germany", "France", "Italy", "Belgium", "Netherlands", "Luxembourg"]
     case(CASES[0], first["wide"] <= 360 and second["wide"] <= 360, (first["wide"], second["wide"]))

@@ -3,10 +3,14 @@
 
     tests/using/sweep.py PROGRAM
 """
+import os
+import pty
 import re
+import subprocess
+import sys
 from xml.etree import ElementTree
 
-from cases import HOSTILE, PROGRAM, TEMP, TOP, Run, case, done, fault, hostile_game, same
+from cases import HOSTILE, PROGRAM, TEMP, TOOLS, TOP, Run, case, done, fault, hostile_game, same
 
 TOOL = "sweep.py"
 
@@ -61,6 +65,19 @@ case("sweep.py: no letter that SVG refuses", not re.search("[\ufffe\uffff\u202e]
 wide = float(drawn.get("width"))
 case("sweep.py: 64 letters W fit", wide >= float([it for it in drawn.findall("{*}text") if "W" * 64 in it.text][0].get("x")) + 64 * 11.4, wide)
 
+# ---- a title of blanks
+blank = put("blank.toml", 'title = "  "\nquota = 1\nmember = [{name = "A", weight = 1}]\n')
+run = sweep(blank, "--picture", f"{TEMP}/blank.svg")
+drawn = ElementTree.parse(f"{TEMP}/blank.svg").getroot()
+same("sweep.py: a title of blanks", (run.status, [it[0] for it in rows(run)], drawn.find("{*}title").text), (0, ["1"], "A game"))
+
+# ---- on a terminal no name moves it; a file gets the name as it is
+moves = put("moves.toml", 'quota = 1\nmember = [{name = "A\\u009b2JB", weight = 1}]\n')
+same("sweep.py: a name that could move a terminal, to a file", rows(sweep(moves))[0][1], "A\x9b2JB")
+leader, follower = pty.openpty()
+subprocess.run([sys.executable, f"{TOOLS}/{TOOL}", "--program", PROGRAM, moves], stdout=follower, check=True)
+same("sweep.py: a name that could move a terminal, on one", os.read(leader, 4096).decode().split("\t")[-5], "A 2JB")
+
 # ---- what is refused
 for name, words, status, text in [
     ("a quota above the total", [COUNCIL, "--to", "18"], 3, "quota 18: council: quota out of range"),
@@ -69,6 +86,7 @@ for name, words, status, text in [
     ("a range of none", [COUNCIL, "--from", "5", "--to", "4"], 2, "there is no quota from 5 to 4 in steps of 1"),
     ("a step of 0", [COUNCIL, "--step", "0"], 2, "there is no quota from 1 to 17 in steps of 0"),
     ("a range without end", [COUNCIL, "--to", "99999999"], 2, "from 1 to 99999999 there are 99999999 quotas, and 20000 are the most: --from, --to and --step choose some"),
+    ("a range of twenty digits", [COUNCIL, "--to", "9" * 20], 2, f"from 1 to {'9' * 20} there are {'9' * 20} quotas, and 20000 are the most: --from, --to and --step choose some"),
     ("a file that is not there", [f"{TEMP}/none.toml"], 1, f"{TEMP}/none.toml: No such file or directory"),
     ("a refused game", [put("bad.toml", "quota = 9\nmember = [{name = 'A', weight = 1}]\n")], 3, "council: quota out of range"),
     ("a program that is not there", [COUNCIL, "--program", "no-such"], 1, "no-such: no program of that name was found"),

@@ -1,17 +1,45 @@
 #!/bin/sh
-# Puts what this archive has in place, or takes it out again:
+# Installs the files of this archive, or takes them out again:
 #
 #     ./install.sh [PREFIX]
 #     ./install.sh --uninstall [PREFIX]
 #
-# PREFIX is ~/.local where none is named. With DESTDIR all goes below that folder, for whoever makes a package. The program goes to
-# bin, the library for other languages to lib and include, the manual page and the completions to share, the documents and
-# examples to share/doc/council, where a list of all files stands, FILES; --uninstall takes these out, and the folders that are
-# then empty. What an earlier install has put there is taken out first, and where one is stopped half-way, FILES has what was put by then.
+# PREFIX is ~/.local by default. If DESTDIR is set, everything goes below that folder, as packages
+# need it. The program goes to bin, the library for other languages to lib and include, the manual
+# page and the completions to share, the documents and examples to share/doc/council.
+#
+# The list share/doc/council/FILES names every file that was installed and, with a / at the end,
+# every folder that was made, the last first. It is written before each step, so --uninstall also
+# takes out an install that stopped half-way. An install takes out an earlier one first. A folder
+# where a file should be is reported, and stays.
 set -eu
 # what is installed is for all users
 umask 022
 here=$(CDPATH='' cd -P -- "$(dirname -- "$0")" >/dev/null && pwd -P)
+doc=share/doc/council
+newline='
+'
+
+# Prints a line in which a blank replaces each letter that could move a terminal.
+say() {
+    c1="$(printf '\302')[$(printf '\200')-$(printf '\237')]"
+    printf '%s\n' "$(printf '%s' "$1" | LC_ALL=C tr '\001-\037\177' ' ' | LC_ALL=C sed "s/$c1/ /g")"
+}
+
+stop() {
+    say "install.sh: $1" >&2
+    exit 1
+}
+
+# Sets $path to a path from the root, without a / at the end.
+set_path() {
+    case $1 in
+    /*) path=$1 ;;
+    *) path=$PWD/$1 ;;
+    esac
+    while [ "$path" != "${path%/}" ]; do path=${path%/}; done
+}
+
 uninstall=
 if [ "${1-}" = --uninstall ]; then
     uninstall=1
@@ -23,88 +51,148 @@ case $#${1-} in
     exit 2
     ;;
 esac
-[ $# -gt 0 ] || [ -n "${HOME-}" ] || {
-    echo "install.sh: name a PREFIX, since HOME is not set" >&2
-    exit 1
-}
-prefix=${1:-${HOME-}/.local}
-case $prefix in
-/*) ;;
-*) prefix=$PWD/$prefix ;;
-esac
-root=${DESTDIR-}$prefix
-doc=share/doc/council
+[ -n "${1-}${HOME-}" ] || stop "name a PREFIX, since HOME is not set"
+set_path "${1:-${HOME-}/.local}"
+prefix=$path
+root=$prefix
+if [ -n "${DESTDIR-}" ]; then
+    set_path "$DESTDIR"
+    root=$path$prefix
+fi
 
-# Takes out what FILES names, itself the last.
-take_out() {
-    old=$(cat "$root/$doc/FILES")
-    while IFS= read -r file; do
-        rm -f "$root/$file"
-        folder=${file%/*}
-        # folders that have nothing left go too
-        while rmdir "$root/$folder" 2>/dev/null; do
-            case $folder in
-            */*) folder=${folder%/*} ;;
-            *) break ;;
-            esac
-        done
+is_folder() {
+    [ -d "$1" ] && ! [ -L "$1" ]
+}
+
+# Whether a line of FILES can be of this script.
+is_own() {
+    case /$1/ in
+    */../* | */./*) return 1 ;;
+    esac
+    case $1 in
+    bin/ | bin/council | lib/ | lib/libcouncil.a | include/ | include/council.h | share/ | share/*/ | share/*council*) ;;
+    *) return 1 ;;
+    esac
+}
+
+# Removes those of these folders that are empty; $listed then has the others.
+remove_folders() {
+    listed=
+    while IFS= read -r line; do
+        if [ -n "$line" ] && ! rmdir "$root/$line" 2>/dev/null && is_folder "$root/$line"; then
+            listed=$listed$line$newline
+        fi
     done <<END
-$old
+$1
 END
 }
 
+# Takes out what FILES names, itself the last of the files, and then the folders.
+take_out() {
+    old=$(cat "$root/$doc/FILES")
+    folders=
+    while IFS= read -r line; do
+        if ! is_own "$line" || [ "$line" = "$doc/FILES" ]; then
+            continue
+        fi
+        case $line in
+        */) folders=$folders$line$newline ;;
+        *)
+            if is_folder "$root/$line"; then
+                say "install.sh: $root/$line is a folder, and stays" >&2
+            else
+                rm -f "$root/$line"
+            fi
+            ;;
+        esac
+    done <<END
+$old
+END
+    rm -f "$root/$doc/FILES"
+    # (an earlier version listed no folders)
+    find "$root/$doc" -depth -type d -exec rmdir {} \; 2>/dev/null || :
+    remove_folders "$folders"
+}
+
+listed=
 if [ -n "$uninstall" ]; then
-    if ! [ -f "$root/$doc/FILES" ]; then
-        echo "install.sh: nothing is installed in $root" >&2
-        exit 1
-    fi
+    [ -f "$root/$doc/FILES" ] || stop "nothing is installed in $root"
     take_out
-    echo "council was taken out of $root"
+    say "council was taken out of $root"
     exit
 fi
 
-if ! [ -x "$here/council" ]; then
-    echo "install.sh: there is no program beside it" >&2
-    exit 1
-fi
+[ -x "$here/council" ] || stop "there is no program beside it"
+cd "$here"
+# FILE PLACE MODE, a line for each file of the archive; no name has a blank
+files=$(
+    echo "council bin/council 755"
+    echo "docs/council.1 share/man/man1/council.1 644"
+    echo "completions/council.bash share/bash-completion/completions/council 644"
+    echo "completions/_council share/zsh/site-functions/_council 644"
+    echo "completions/council.fish share/fish/vendor_completions.d/council.fish 644"
+    echo "install.sh $doc/install.sh 755"
+    if [ -f lib/libcouncil.a ]; then
+        echo "lib/libcouncil.a lib/libcouncil.a 644"
+        echo "include/council.h include/council.h 644"
+    fi
+    for file in README.md LICENSE CITATION.cff CHANGELOG.md PROVED \
+        $(find docs examples reference -type f ! -name council.1 | LC_ALL=C sort); do
+        echo "$file $doc/$file 644"
+    done
+)
+while read -r _ place _; do
+    ! is_folder "$root/$place" || stop "$root/$place is a folder: nothing is installed"
+done <<END
+$files
+$doc/FILES $doc/FILES 644
+END
 if [ -f "$root/$doc/FILES" ]; then take_out; fi
-mkdir -p "$root/$doc"
-files=
-# (also where it is stopped half-way)
-trap 'printf "%s%s\n" "$files" "$doc/FILES" >"$root/$doc/FILES"' EXIT
+
+# Adds a line at the top of FILES, in one step.
+note() {
+    listed=$1$newline$listed
+    if [ -d "$root/$doc" ]; then
+        printf '%s' "$listed" >"$root/$doc/FILES.new"
+        mv -f "$root/$doc/FILES.new" "$root/$doc/FILES"
+    fi
+}
+
+# Makes a folder below $root, and those above it.
+make_folder() {
+    [ ! -d "$root/$1" ] || return 0
+    case $1 in
+    */*) make_folder "${1%/*}" ;;
+    esac
+    mkdir "$root/$1"
+    note "$1/"
+}
+
+# Leaves no folder if not even FILES could be written.
+end() {
+    rm -f "$root/$doc/FILES.new"
+    [ -f "$root/$doc/FILES" ] || remove_folders "$listed"
+}
+
+trap end EXIT
 trap 'exit 130' INT
 trap 'exit 143' TERM
 trap 'exit 129' HUP
-# put FILE PLACE MODE: puts a file of the archive in its place
-put() {
-    files="$files$2
-"
-    mkdir -p "$root/${2%/*}"
+mkdir -p "$root"
+make_folder "$doc"
+note "$doc/FILES"
+while read -r file place mode; do
+    make_folder "${place%/*}"
+    note "$place"
     # (a program that runs can't be written to)
-    rm -f "$root/$2"
-    cp "$here/$1" "$root/$2"
-    chmod "$3" "$root/$2"
-}
-put council bin/council 755
-put docs/council.1 share/man/man1/council.1 644
-put completions/council.bash share/bash-completion/completions/council 644
-put completions/_council share/zsh/site-functions/_council 644
-put completions/council.fish share/fish/vendor_completions.d/council.fish 644
-put install.sh $doc/install.sh 755
-if [ -f "$here/lib/libcouncil.a" ]; then
-    put lib/libcouncil.a lib/libcouncil.a 644
-    put include/council.h include/council.h 644
-fi
-for file in README.md LICENSE CITATION.cff CHANGELOG.md PROVED; do
-    put "$file" "$doc/$file" 644
-done
-cd "$here"
-# (the names have no blanks and no line ends)
-for file in $(find docs examples reference -type f ! -name council.1 | LC_ALL=C sort); do
-    put "$file" "$doc/$file" 644
-done
-echo "council is installed: $root/bin/council"
+    rm -f "$root/$place"
+    cp "$file" "$root/$place"
+    chmod "$mode" "$root/$place"
+done <<END
+$files
+END
+say "council is installed: $root/bin/council"
 case :$PATH: in
 *:"$prefix/bin":*) ;;
-*) echo "$prefix/bin is not on the PATH: add it to run it as council" ;;
+*) say "$prefix/bin is not on the PATH: add it to run it as council" ;;
 esac

@@ -1,3 +1,4 @@
 pub mod Coalitions
 pub mod Lists
+pub mod Options
 pub mod SizeCounts

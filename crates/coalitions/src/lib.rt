@@ -1,5 +1,5 @@
-//! Coalitions, and what all crates share: counts by size, lists, the observer of workers, `Memory`,
-//! the limits, and which lines a report shows.
+//! What all crates share: coalitions, counts by size, lists by place, `Memory`, the limits, the options of a run, the
+//! observer of its workers, readers and writers seen call by call, and text that is safe to show.
 #![tactic(auto)]
 
 mod coalition;
@@ -7,12 +7,20 @@ mod gate;
 pub mod limits;
 mod lists;
 mod memory;
-mod shown;
+mod options;
+mod report_lines;
+mod sanitized;
+mod sink;
 mod size_counts;
+mod source;
 
 pub use coalition::Coalition;
 pub use gate::{Gate, NoGate};
 pub use lists::listed;
 pub use memory::Memory;
-pub use shown::Shown;
+pub use options::Options;
+pub use report_lines::ReportLines;
+pub use sanitized::{Sanitized, sanitize};
+pub use sink::Sink;
 pub use size_counts::{SizeCounts, add_counts};
+pub use source::Source;

@@ -2,22 +2,18 @@
 //! indices that rest on them.
 #![tactic(auto)]
 
-ghost use Rattle.std.specs.Prelude.{◌≡◌, IfOk, IfErr, true};
 ghost use Rattle.council_report.specs.Report.{report};
-ghost use Rattle.council_run.specs.Run.{Reports, Stops};
-ghost use Rattle.council_run.specs.Shows.{shown_of};
-ghost use Rattle.council_run.specs.declared.fault.Cause.TheVariants as cause;
-ghost use Rattle.council.specs.Inner.Wants.{IsTaken, lines_wanted};
+ghost use Rattle.council_run.specs.Run.{IsOutcome, Reads};
+ghost use Rattle.council.specs.Inner.Wants.{limit_wanted, lines_wanted};
 
-use council_explain::{explain, remark};
+use coalitions::{Gate, sanitize};
+use council_explain::{Kept, explain, remark};
 use council_game::GameFault;
-use council_progress::{Line, Progress};
-use council_run::{
-    Cause, Options, RunFault, Watch, number_by_sums, run_with_lookout, status, tally,
-};
-use council_streams::{Kept, Wiping, shown};
-use council_words::{Wanted, command_line, wanted};
-use mwc_gather::{Gate, GatherFault, Lookout};
+use council_progress::{Line, Progress, Wiping};
+use council_run::{Cause, LEAST_BITS, RunFault, number_by_sums, run, status, tally};
+use council_words::{Arguments, collect_words, parse_arguments};
+use mwc_gather::GatherFault;
+use mwc_walk::slice_count;
 use std::io::IsTerminal;
 use std::process::ExitCode;
 use std::rt::Files;
@@ -26,8 +22,8 @@ use std::thread::Threads;
 use std::time::Clock;
 use std::{fs, io};
 
-/// Says on standard error why the program stops, and with which status.
-fn stop(rt: &impl Eprint, fault: RunFault) -> ExitCode {
+/// Prints on standard error why the program stops, and returns the status.
+fn print_fault(rt: &impl Eprint, fault: RunFault) -> ExitCode {
     let cause = fault.cause;
     let _ = eprintln!(rt; "council: {cause}");
     ExitCode::from(status(&fault))
@@ -49,7 +45,7 @@ fn say_more(rt: &(impl Eprint + AllocGlobal), cause: Cause, bytes: &[u8]) {
                 "  --tally counts any number of them, and --most takes up to 4000000"
             );
         }
-        Cause::Gather(_) | Cause::Write | Cause::Memory | Cause::Stopped => {}
+        Cause::Gather(_) | Cause::Write | Cause::Memory => {}
     }
 }
 
@@ -59,7 +55,7 @@ fn hint(rt: &impl Eprint, cause: Cause) {
         Cause::Game(GameFault::Memory) => return,
         Cause::Game(_) => "--explain says where, and what is allowed",
         Cause::Gather(GatherFault::TooMany) => "--tally counts any number of them",
-        Cause::Gather(_) | Cause::Write | Cause::Memory | Cause::Stopped => return,
+        Cause::Gather(_) | Cause::Write | Cause::Memory => return,
     };
     let _ = eprintln!(rt; "  {line}");
 }
@@ -68,73 +64,51 @@ fn hint(rt: &impl Eprint, cause: Cause) {
 const LONGEST_PATH: usize = 4096;
 
 /// Says why the file could not be opened.
-fn not_opened(rt: &impl Eprint, wanted: &Wanted<'_>, path: &str, error: &io::Error) -> ExitCode {
+fn not_opened(rt: &impl Eprint, arguments: &Arguments<'_>, path: &str, error: &io::Error) -> ExitCode {
     let _ = eprintln!(rt; "council: the game file cannot be opened");
-    if wanted.explain {
-        let path = shown(path, LONGEST_PATH);
+    if arguments.explain {
+        let path = sanitize(path, LONGEST_PATH);
         let _ = eprintln!(rt; "  {path}: {error}");
     }
     ExitCode::from(1)
 }
 
-/// What a run is to do, as the words say it.
-fn options_of(wanted: &Wanted<'_>) -> Options
-    ensures workers { result.workers ≡ wanted.now.workers }
-    ensures bits { result.bits ≡ wanted.now.bits }
-    ensures most { result.most ≡ wanted.now.most }
-    ensures shown { shown_of result ≡ wanted.now.shown }
-{
-    Options {
-        workers: wanted.workers,
-        bits: wanted.bits,
-        most: wanted.most,
-        list: wanted.shown.list,
-        sizes: wanted.shown.sizes,
-        notation: wanted.shown.notation,
-    }
-}
-
-/// Does what the words ask for: a run or a tally, under their options.
-fn answer<
+/// Executes what the arguments ask for: a run or a tally.
+fn execute<
     R: AllocGlobal + Threads + Wait + Sync,
     I: io::Read,
-    P: Gate + Lookout + Watch + Sync,
+    G: Gate + Sync,
     W: io::Write,
 >(
     rt: &R,
-    wanted: &Wanted<'_>,
+    arguments: &Arguments<'_>,
     reader: &mut I,
-    progress: &P,
+    gate: &G,
     writer: &mut W,
 ) -> Result<u64, RunFault>
-    ensures ok { IfOk result (λ len. Reports (report (lines_wanted wanted.now)) (IsTaken wanted.now)
-        (I.remaining reader.old) (I.remaining reader.new)
-        (W.contents writer.old) (W.contents writer.new) len) }
-    ensures err { IfErr result (λ fault. Stops (report (lines_wanted wanted.now)) (IsTaken wanted.now)
-        (I.remaining reader.old) (I.remaining reader.new)
-        (W.contents writer.old) (W.contents writer.new) fault.cause fault.written) }
-    ensures stopped { IfErr result (λ fault. fault.cause ≡ cause.Stopped
-        → (wanted.now.tally ≡ true) × P.may_stop) }
+    ensures { IsOutcome (report (lines_wanted arguments.now)) (limit_wanted arguments.now)
+        (Reads (I.remaining reader.old) (I.remaining reader.new))
+        (W.contents writer.old) (W.contents writer.new) result }
 {
     let alloc = rt.alloc();
-    let options = options_of(wanted);
-    if wanted.tally {
-        tally(rt, alloc, reader, &options, progress, writer)
+    let options = &arguments.options;
+    if arguments.tally {
+        tally(rt, alloc, reader, options, gate, writer)
     } else {
-        run_with_lookout(rt, alloc, reader, &options, progress, progress, writer)
+        run(rt, alloc, reader, options, gate, writer)
     }
 }
 
-/// Says what there is to say of what was answered, and of the bytes that were read, where they were kept; the status that
-/// the program ends with.
-fn ended(
+/// Reports the outcome on standard error, with what there is to say of the bytes that were read, if
+/// they were kept, and returns the status.
+fn report_outcome(
     rt: &(impl Eprint + AllocGlobal),
-    wanted: &Wanted<'_>,
+    arguments: &Arguments<'_>,
     terminal: bool,
-    answered: Result<u64, RunFault>,
+    outcome: Result<u64, RunFault>,
     bytes: Option<&[u8]>,
 ) -> ExitCode {
-    match answered {
+    match outcome {
         Ok(_) => {
             if terminal && let Some(remark) = bytes.and_then(remark) {
                 let _ = eprintln!(rt; "council: {remark}");
@@ -142,8 +116,8 @@ fn ended(
             ExitCode::SUCCESS
         }
         Err(fault) => {
-            let code = stop(rt, fault);
-            if !wanted.explain && terminal {
+            let code = print_fault(rt, fault);
+            if !arguments.explain && terminal {
                 hint(rt, fault.cause);
             } else if let Some(bytes) = bytes {
                 say_more(rt, fault.cause, bytes);
@@ -153,38 +127,45 @@ fn ended(
     }
 }
 
+/// Returns how many slices there are, unless the game has very few members.
+fn slices_of(arguments: &Arguments<'_>) -> u16 {
+    let bits = arguments.options.bits;
+    if arguments.tally { slice_count(bits.max(LEAST_BITS)) } else { slice_count(bits) }
+}
+
 /// Runs on what is read, and writes to standard output; `terminal` tells whether standard error is a
 /// terminal.
 fn run_on<R: AllocGlobal + Print + Eprint + Clock + Threads + Wait + Sync, I: io::Read>(
     rt: &R,
-    wanted: &Wanted<'_>,
+    arguments: &Arguments<'_>,
     terminal: bool,
     reader: &mut I,
 ) -> ExitCode {
     let alloc = rt.alloc();
-    let mut reader = Kept::new(alloc, reader, wanted.explain || terminal);
-    let progress = Progress::new(rt, terminal);
+    let mut reader = Kept::new(alloc, reader, arguments.explain || terminal);
+    let slices = slices_of(arguments);
+    let progress = Progress::new(rt, terminal, slices);
     let mut writer = Wiping {
         line: Line(&progress),
         writer: io::writer(rt),
     };
-    let answered = answer(rt, wanted, &mut reader, &progress, &mut writer);
+    let outcome = execute(rt, arguments, &mut reader, &progress, &mut writer);
     progress.wipe();
-    ended(rt, wanted, terminal, answered, reader.bytes())
+    report_outcome(rt, arguments, terminal, outcome, reader.bytes())
 }
 
 /// Runs on the file, or on standard input where none is named.
 fn run_on_file<R: AllocGlobal + Files + Input + Print + Eprint + Clock + Threads + Wait + Sync>(
     rt: &R,
-    wanted: &Wanted<'_>,
+    arguments: &Arguments<'_>,
     terminal: bool,
 ) -> ExitCode {
-    match wanted.file {
+    match arguments.file {
         Some(path) => match fs::open(rt, path) {
-            Ok(mut file) => run_on(rt, wanted, terminal, &mut file),
-            Err(error) => not_opened(rt, wanted, path, &error),
+            Ok(mut file) => run_on(rt, arguments, terminal, &mut file),
+            Err(error) => not_opened(rt, arguments, path, &error),
         },
-        None => run_on(rt, wanted, terminal, &mut rt.reader()),
+        None => run_on(rt, arguments, terminal, &mut rt.reader()),
     }
 }
 
@@ -195,12 +176,12 @@ fn main(rt: HostRuntime) -> ExitCode {
     };
     match wanted(&rt, words.as_slice()) {
         Ok(wanted) => {
-            if wanted.file.is_none() && rt.stdin().is_terminal() {
+            if arguments.file.is_none() && rt.stdin().is_terminal() {
                 let _ = eprintln!(&rt;
                     "council: a game is read from standard input, up to its end"
                 );
             }
-            run_on_file(&rt, &wanted, rt.stderr().is_terminal())
+            run_on_file(&rt, &arguments, rt.stderr().is_terminal())
         }
         Err(status) => status,
     }

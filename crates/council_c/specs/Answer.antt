@@ -1,46 +1,51 @@
 -- What a call answers.
-use Rattle.std.specs.Prelude.{◌≡◌, ℕ, List, ◌++◌, length, take, drop, ◌⊎◌, true, Ok, Err}
+use Rattle.std.specs.Prelude.{◌≡◌, ℕ, List, ◌++◌, length, take, drop, ◌⊎◌, true, Ok, Option, None}
 use Rattle.council_game.specs.declared.fault.GameFault.TheVariants as game
 use Rattle.council_game.specs.Game.{GameView}
-use Rattle.council_file.specs.File.{game_of}
 use Rattle.council_report.specs.Report.{report}
+use Rattle.council_run.specs.Run.{Holds, IsWithin, Stops}
+use Rattle.council_run.specs.Status.{status_of}
+use Rattle.council_run.specs.declared.fault.Cause.{Cause}
+use Rattle.council_run.specs.declared.fault.Cause.TheVariants as cause
 use Rattle.council_c.specs.declared.fault.Fault.{Fault}
 use Rattle.council_c.specs.declared.fault.Fault.TheVariants as fault
 use Rattle.council_c.specs.declared.options.CouncilOptions.{CouncilOptions}
-use Rattle.council_c.specs.Asked.{are_wrong, shown_of, IsTaken}
+use Rattle.council_c.specs.Asked.{are_wrong, lines_of_call, limit_of}
 
 -- a buffer has a text at its front, as much of it as fits, and behind it what was there before
 unfoldable pub Shows : List ℕ → List ℕ → List ℕ → Type 0
 Shows text before after = after ≡ take (length before) text ++ drop (length text) before
 
--- A report: it is that of the game that the bytes hold, its length is told, and the buffer shows it.
-abbrev pub Reports : CouncilOptions → List ℕ → List ℕ → List ℕ → ℕ → Type 0
-Reports o bytes before after len =
-    (g : GameView) × (game_of bytes ≡ Ok g) × IsTaken o g
-    × (len ≡ length (report (shown_of o) g)) × Shows (report (shown_of o) g) before after
+-- The text is that of the game that the bytes hold, its length is told, and the buffer shows it.
+abbrev pub FillsBy : (GameView → List ℕ) → Option ℕ → List ℕ → List ℕ → List ℕ → ℕ → Type 0
+FillsBy text limit bytes before after len =
+    (g : GameView) × Holds bytes (Ok g) × IsWithin limit g × (len ≡ length (text g)) × Shows (text g) before after
 
--- Why there is none: the fault of a game is that of the bytes. Want of memory says nothing of the game.
-abbrev pub Stops : CouncilOptions → List ℕ → Fault → Type 0
-Stops o bytes fault.Options = are_wrong o ≡ true
-Stops o bytes (fault.Game game.Memory) = Unit {0}
-Stops o bytes (fault.Game why) = game_of bytes ≡ Err why
-Stops o bytes fault.TooMany = (g : GameView) × (game_of bytes ≡ Ok g) × (IsTaken o g → ⊥)
-Stops o bytes fault.Memory = Unit {0}
+-- a report of the game that the bytes hold
+abbrev pub Reports : CouncilOptions → List ℕ → List ℕ → List ℕ → ℕ → Type 0
+Reports o bytes before after len = FillsBy (report (lines_of_call o)) (limit_of o) bytes before after len
+
+-- a run on these bytes stops so, before anything was written; a read that fails is no cause
+abbrev pub StopsOn : (GameView → List ℕ) → Option ℕ → List ℕ → Cause → Type 0
+StopsOn text limit bytes (cause.Game game.Read) = ⊥
+StopsOn text limit bytes why = Stops text limit (Holds bytes) None None why 0
+
+-- Why there is none: the options are wrong, or a run on these bytes stops so.
+abbrev pub StopsCall : CouncilOptions → List ℕ → Fault → Type 0
+StopsCall o bytes fault.Options = are_wrong o ≡ true
+StopsCall o bytes (fault.Run why) = StopsOn (report (lines_of_call o)) (limit_of o) bytes why
 
 -- the buffer shows some words, and their length is told
 abbrev pub Tells : List ℕ → List ℕ → ℕ → Type 0
 Tells before after len = (words : List ℕ) × (len ≡ length words) × Shows words before after
 
 -- the status, as the program ends with it
-abbrev pub status_of : Fault → ℕ
-status_of fault.Options = 2
-status_of (fault.Game game.Memory) = 5
-status_of (fault.Game why) = 3
-status_of fault.TooMany = 4
-status_of fault.Memory = 5
+abbrev pub status_of_call : Fault → ℕ
+status_of_call fault.Options = 2
+status_of_call (fault.Run why) = status_of why
 
 -- A call that gives status 0 reports, and one that gives another was stopped by a fault of that status.
 abbrev pub Answers : CouncilOptions → List ℕ → List ℕ → List ℕ → ℕ → ℕ → Type 0
 Answers o bytes before after len status =
     ((status ≡ 0) × Reports o bytes before after len)
-    ⊎ ((why : Fault) × Stops o bytes why × (status ≡ status_of why) × Tells before after len)
+    ⊎ ((why : Fault) × StopsCall o bytes why × (status ≡ status_of_call why) × Tells before after len)

@@ -1,9 +1,7 @@
 -- What a call is asked for.
-use Rattle.std.specs.Prelude.{ℕ, ◌≡◌, ◌≤◌, ◌==◌, ◌&&◌, ◌||◌, nat_lt, Bool, false, if◌then◌else◌, length}
+use Rattle.std.specs.Prelude.{ℕ, ◌==◌, ◌&&◌, ◌||◌, nat_lt, Bool, Option, None, Some, if◌then◌else◌}
 use Rattle.coalitions.specs.declared.limits.TheConstants.{COALITIONS}
-use Rattle.coalitions.specs.declared.shown.Shown.{Shown}
-use Rattle.council_game.specs.Game.{GameView, votes_of}
-use Rattle.council_game.specs.Votes.{minimal_coalitions}
+use Rattle.coalitions.specs.declared.report_lines.ReportLines.{ReportLines}
 use Rattle.council_c.specs.declared.options.CouncilOptions.{CouncilOptions}
 
 -- no call takes them: they ask for more than can be kept, or a tally, which keeps none, to list or to keep some
@@ -14,10 +12,14 @@ are_wrong o = nat_lt COALITIONS o.most || o.tally && (o.list || nat_lt 0 o.most)
 abbrev pub most_of : CouncilOptions → ℕ
 most_of o = if o.most == 0 then 1000000 else o.most
 
--- the lines that the report shows
-abbrev pub shown_of : CouncilOptions → Shown
-shown_of o = record { list = o.list; sizes = o.sizes; notation = o.notation }
+-- a tally takes any number of them, and a list at most so many
+abbrev pub limit : Bool → ℕ → Option ℕ
+limit tally most = if tally then None else Some most
 
--- a tally takes any number of minimal winning coalitions
-abbrev pub IsTaken : CouncilOptions → GameView → Type 0
-IsTaken o g = o.tally ≡ false → length (minimal_coalitions (votes_of g)) ≤ most_of o
+-- the limit that these options set
+abbrev pub limit_of : CouncilOptions → Option ℕ
+limit_of o = limit o.tally (most_of o)
+
+-- the optional lines of the report
+abbrev pub lines_of_call : CouncilOptions → ReportLines
+lines_of_call o = record { list = o.list; sizes = o.sizes; notation = o.notation }

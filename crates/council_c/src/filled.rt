@@ -1,74 +1,100 @@
 //! A report in a buffer.
-ghost use Rattle.std.specs.Prelude.{◌≡◌, IfErr, IfOk, OnErr, OnOk, length};
+ghost use Rattle.std.specs.Prelude.{◌≡◌, IfErr, IfOk, OnErr, OnOk, false, length, true};
+ghost use Rattle.coalitions.specs.Options.{lines_of};
 ghost use Rattle.council_report.specs.Report.{report};
-ghost use Rattle.council_c.specs.Answer.{Reports, Shows, Stops};
-ghost use Rattle.council_c.specs.Inner.Found.{AreAllOf};
-ghost use Rattle.council_c.specs.declared.fault.Fault.TheVariants as fault;
+ghost use Rattle.council_run.specs.Found.{IsFound};
+ghost use Rattle.council_c.specs.Answer.{FillsBy, Reports, Shows, StopsCall, StopsOn};
+ghost use Rattle.council_c.specs.Asked.{limit};
 
 use crate::fault::Fault;
-use crate::found::{Found, count};
 use crate::options::CouncilOptions;
 use crate::page::Page;
 use crate::put::put;
+use coalitions::{Memory, Options, ReportLines};
 use council_file::parse_game;
 use council_game::Game;
-use council_report::{ReportFault, Shown};
-use mwc_walk::list_all;
+use council_report::ReportFault;
+use council_run::{Found, RunFault, count_by_walk, list_by_walk};
 use std::alloc::Global;
 use std::io;
 
-/// Puts the report of a game into a buffer, as much of it as fits. How long the report is.
-fn fill_with(
+/// Puts the report of a game into a buffer, as much of it as fits, and returns how long it is.
+fn put_report(
     alloc: Global,
     game: &Game,
-    found: Found<'_>,
-    shown: Shown,
+    found: &Found,
+    lines: ReportLines,
     room: &mut [u8],
-) -> Result<u64, Fault>
-    requires { AreAllOf game.now shown found }
-    ensures length { IfOk result (λ len. len ≡ length (report shown game.now)) }
-    ensures text { OnOk result (Shows (report shown game.now) room.old room.new) }
+) -> Result<u64, Memory>
+    requires { IsFound game.now lines found.now }
+    ensures length { IfOk result (λ len. len ≡ length (report lines game.now)) }
+    ensures text { OnOk result (Shows (report lines game.now) room.old room.new) }
     ensures kept { OnErr result (room.new ≡ room.old) }
-    ensures fault { IfErr result (λ why. why ≡ fault.Memory) }
 {
     let mut page = Page::new(alloc, room.len());
-    let length = match found.write(alloc, game, shown, &mut page) {
+    let length = match found.write(alloc, game, lines, &mut page) {
         Ok(length) => length,
         Err(ReportFault::Write { .. }) if page.bytes().len() == room.len() => {
-            found.write(alloc, game, shown, &mut io::sink())?
+            match found.write(alloc, game, lines, &mut io::sink()) {
+                Ok(length) => length,
+                // memory: a sink takes every write, so a report into one stops for nothing else
+                Err(_) => return Err(Memory),
+            }
         }
         // memory: a page with room left fails where it cannot grow
-        Err(_) => return Err(Fault::Memory),
+        Err(_) => return Err(Memory),
     };
     put(page.bytes(), room);
     Ok(length)
 }
 
-/// Reads the bytes of a game and puts its report into a buffer, as much of it as fits. How long the report is.
+/// Reads a game, finds its coalitions, and puts its report into a buffer. It returns how long the
+/// report is.
+fn report_bytes(
+    alloc: Global,
+    bytes: &[u8],
+    options: &Options,
+    tally: bool,
+    room: &mut [u8],
+) -> Result<u64, RunFault>
+    requires { tally ≡ true → options.now.list ≡ false }
+    ensures ok { IfOk result (FillsBy (report (lines_of options.now)) (limit tally options.now.most)
+        bytes.now room.old room.new) }
+    ensures err { IfErr result (λ fault. StopsOn (report (lines_of options.now))
+        (limit tally options.now.most) bytes.now fault.cause) }
+    ensures kept { OnErr result (room.new ≡ room.old) }
+{
+    let game = parse_game(alloc, bytes)?;
+    let found = if tally {
+        count_by_walk(alloc, &game)?
+    } else {
+        list_by_walk(alloc, &game, options.most)?
+    };
+    Ok(put_report(alloc, &game, &found, options.lines(), room)?)
+}
+
+/// Puts the report of the game in some bytes into a buffer, as much of it as fits. It returns how long
+/// the report is.
 ///
 /// # Errors
 ///
-/// The first of these: the options are wrong; the first fault of the game; too many coalitions; want of memory.
+/// The first of these: the options are wrong; the first fault of the game; too many coalitions; out
+/// of memory.
 pub(crate) fn fill(
     alloc: Global,
     bytes: &[u8],
-    options: &CouncilOptions,
+    call: &CouncilOptions,
     room: &mut [u8],
 ) -> Result<u64, Fault>
-    ensures ok { IfOk result (λ len. Reports options.now bytes.now room.old room.new len) }
-    ensures err { IfErr result (Stops options.now bytes.now) }
+    ensures ok { IfOk result (λ len. Reports call.now bytes.now room.old room.new len) }
+    ensures err { IfErr result (StopsCall call.now bytes.now) }
     ensures kept { OnErr result (room.new ≡ room.old) }
 {
-    if options.are_wrong() {
+    let Some(options) = call.options() else {
         return Err(Fault::Options);
-    }
-    let game = parse_game(alloc, bytes)?;
-    if options.tally {
-        let counts = count(alloc, &game)?;
-        return fill_with(alloc, &game, Found::Counts(&counts), options.shown(), room);
-    }
-    let Some(list) = list_all(alloc, &game, options.most())? else {
-        return Err(Fault::TooMany);
     };
-    fill_with(alloc, &game, Found::List(&list), options.shown(), room)
+    match report_bytes(alloc, bytes, &options, call.tally, room) {
+        Ok(length) => Ok(length),
+        Err(fault) => Err(Fault::Run(fault.cause)),
+    }
 }

@@ -1,14 +1,14 @@
-//! What a call is asked for.
-ghost use Rattle.std.specs.Prelude.{◌≡◌, true};
-ghost use Rattle.council_c.specs.Asked.{are_wrong, most_of, shown_of};
+//! The options of a call.
+ghost use Rattle.std.specs.Prelude.{◌≡◌, MatchOption, true};
+ghost use Rattle.coalitions.specs.Options.{lines_of};
+ghost use Rattle.council_c.specs.Asked.{are_wrong, lines_of_call, most_of};
 
-use council_game::limits;
-use council_report::Shown;
+use coalitions::{Options, limits};
 
-/// How many coalitions a call keeps where it is not told.
+/// How many coalitions a call keeps if it is not told.
 const USUAL: u32 = 1_000_000;
 
-/// What a call is asked for. With each field 0 it is a plain report.
+/// The options of a call. With each field 0 it writes a plain report.
 #[repr(C)]
 #[derive(Clone, Copy)]
 pub struct CouncilOptions {
@@ -16,37 +16,30 @@ pub struct CouncilOptions {
     pub most: u32,
     /// Count the coalitions, any number, and keep none; not with `list` or `most`.
     pub tally: bool,
-    /// A line for each minimal winning coalition.
+    /// Write a line for each minimal winning coalition.
     pub list: bool,
-    /// A line for each size that a minimal winning coalition has.
+    /// Write a line for each size that a minimal winning coalition has.
     pub sizes: bool,
-    /// A line with the notation of each rule.
+    /// Write a line with the notation of each rule.
     pub notation: bool,
 }
 
 impl CouncilOptions {
-    /// Whether no call takes them.
-    pub(crate) fn are_wrong(&self) -> bool
-        ensures { result ≡ are_wrong self.now }
+    /// Returns the options of a run in one thread; none if no call takes them.
+    pub(crate) fn options(&self) -> Option<Options>
+        ensures { MatchOption result (are_wrong self.now ≡ true)
+            (λ o. (o.most ≡ most_of self.now) × (lines_of o ≡ lines_of_call self.now)) }
     {
-        self.most > limits::COALITIONS || self.tally && (self.list || self.most > 0)
-    }
-
-    /// The greatest number of coalitions that are kept.
-    pub(crate) fn most(&self) -> u32
-        ensures { result ≡ most_of self.now }
-    {
-        if self.most == 0 { USUAL } else { self.most }
-    }
-
-    /// The lines that the report shows.
-    pub(crate) fn shown(&self) -> Shown
-        ensures { result ≡ shown_of self.now }
-    {
-        Shown {
+        if self.most > limits::COALITIONS || self.tally && (self.list || self.most > 0) {
+            return None;
+        }
+        Some(Options {
+            workers: 1,
+            bits: 0,
+            most: if self.most == 0 { USUAL } else { self.most },
             list: self.list,
             sizes: self.sizes,
             notation: self.notation,
-        }
+        })
     }
 }

@@ -1,7 +1,8 @@
 //! Where a bracket text breaks its grammar, as the reader of such texts knows it.
+use crate::said::Said;
+use crate::values::is_digit;
 use council_file::{bracket_rule, is_bracket};
 use council_game::{Memory, limits};
-use explain_toml::{Said, is_digit};
 use std::alloc::Global;
 
 /// How the front of a bracket text can end, and what is then wanted behind it. The first end that fits says it.
@@ -42,20 +43,22 @@ fn longest_front(alloc: Global, text: &str) -> Result<usize, Memory> {
     Ok(len)
 }
 
-/// Says where the text breaks the grammar.
-pub(crate) fn say_misfit(said: &mut Said<'_>, alloc: Global) -> Result<(), Memory> {
-    let text = said.text.trim_end();
-    let place = longest_front(alloc, text)?;
-    let (front, rest) = text.split_at_checked(place).unwrap_or((text, ""));
-    let wanted = if front.ends_with(is_digit) && rest.starts_with(is_digit) {
-        "a number has at most 18 digits"
-    } else {
-        wanted_behind(alloc, front)?.unwrap_or("")
-    };
-    said.say_place(place);
-    said.line(wanted);
-    said.say_remedy_at(place);
-    Ok(())
+impl Said<'_> {
+    /// Says where the text breaks the grammar.
+    pub fn say_misfit(&mut self, alloc: Global) -> Result<(), Memory> {
+        let text = self.text.trim_end();
+        let place = longest_front(alloc, text)?;
+        let (front, rest) = text.split_at_checked(place).unwrap_or((text, ""));
+        let wanted = if front.ends_with(is_digit) && rest.starts_with(is_digit) {
+            "a number has at most 18 digits"
+        } else {
+            wanted_behind(alloc, front)?.unwrap_or("")
+        };
+        self.say_place(place);
+        self.line(wanted);
+        self.say_remedy_at(place);
+        Ok(())
+    }
 }
 
 /// What is to be said of a game that was read, where another may be meant: of a bracket text with a weight `000`, as a comma

@@ -1,9 +1,8 @@
 //! What a fault says of bytes.
-use crate::bracket::say_misfit;
-use crate::rules::{say_count, say_quota_range, say_range, say_unknown_key, say_weight};
+use crate::said::Said;
+use crate::source::bare;
 use council_file::{bracket_rule, is_bracket};
 use council_game::{GameFault, Memory, Rule};
-use explain_toml::{Said, bare};
 use std::alloc::Global;
 use toml::Table;
 use toml::de::Error;
@@ -40,25 +39,25 @@ fn say_fault(
         GameFault::Read => said.line(READ),
         GameFault::TooLong => said.line(TOO_LONG),
         GameFault::Text => said.say_no_toml(bytes, error, is_bracket(bytes)),
-        GameFault::UnknownKey => say_unknown_key(said),
+        GameFault::UnknownKey => said.say_unknown_key(),
         GameFault::Title => said.say_title(),
         GameFault::Rules => said.say_rules(),
         GameFault::Quota => said.say_quota(),
         GameFault::Members => match rule {
-            Some(rule) => say_count(said, rule),
+            Some(rule) => said.say_count(rule),
             None => said.say_members(),
         },
         GameFault::Name { member } => said.say_name(usize::from(member)),
         GameFault::SameName { member } => said.say_same_name(usize::from(member)),
         GameFault::Weight { member } => match rule {
-            Some(rule) => say_weight(said, rule, usize::from(member)),
+            Some(rule) => said.say_weight_of(rule, usize::from(member)),
             None => said.say_weight(usize::from(member)),
         },
         GameFault::QuotaRange => match rule {
-            Some(rule) => say_range(said, "the quota", rule.quota, rule),
-            None => return say_quota_range(said, alloc),
+            Some(rule) => said.say_range("the quota", rule.quota, rule),
+            None => return said.say_quota_range(alloc),
         },
-        GameFault::Bracket => return say_misfit(said, alloc),
+        GameFault::Bracket => return said.say_misfit(alloc),
         GameFault::Memory => {}
     }
     Ok(())

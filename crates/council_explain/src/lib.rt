@@ -1,14 +1,24 @@
 //! Why a game file was refused, and where: some lines of text for a person to read. No contract speaks of their
-//! words, which are tested.
+//! words, which are tested. And a reader that keeps what it reads, so that it can be explained.
 //!
 //! ```text
+//! let mut reader = Kept::new(alloc, &mut file, true);
 //! let lines = explain(alloc, b"[51, 50, 49, 1]", GameFault::Bracket)?;
 //! ```
 #![tactic(auto)]
 
 mod bracket;
 mod explaining;
+mod kept;
+mod keys;
+mod members;
+mod no_toml;
+mod ranges;
 mod rules;
+mod said;
+mod source;
+mod values;
 
 pub use bracket::remark;
 pub use explaining::explain;
+pub use kept::Kept;

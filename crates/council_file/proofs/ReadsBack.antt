@@ -11,9 +11,9 @@ use Rattle.council_game.proofs.Shared.Games.{passed, none-any, light-weights, li
 use Rattle.council_file.specs.Bracket.{Symbol, number, opening, closing, comma, semicolon, symbols, value_of, weights_of, rule_of}
 use Rattle.council_file.specs.Bracket.{is_bracket, begins_bracket, begins_with_digit, game_of_bracket, nameless_game}
 use Rattle.council_file.specs.{File.game_of, Laws.lone_game, Laws.NotationReadsBack}
-use Rattle.council_text.specs.{Joined.joined_numbers, Notation.notation}
+use Rattle.council_game.specs.{Joined.joined_numbers, Notation.notation}
 use Rattle.council_file.proofs.{Digits.symbols-number, Named.repeats_pass, Named.name_at, Named.decimal_name}
-use Rattle.council_text.proofs.Shared.Joins.{one-number, next-numbers}
+use Rattle.council_game.proofs.Shared.Joins.{one-number, next-numbers}
 
 -- ---- numbers
 

@@ -5,7 +5,7 @@ use Rattle.council_game.specs.Ranks.{rank_places}
 use Rattle.council_game.specs.Game.{GameView}
 use Rattle.council_file.specs.Bracket.{counted_names}
 use Rattle.council_file.specs.File.{game_of}
-use Rattle.council_text.specs.Notation.{notation}
+use Rattle.council_game.specs.Notation.{notation}
 
 -- the game of one rule: no title, and members 1 to n
 abbrev pub lone_game : RuleView → GameView

@@ -20,7 +20,7 @@ mod token;
 mod tree;
 
 pub use bracket::{bracket_rule, is_bracket};
-pub use council_text::write_notation;
+pub use council_game::write_notation;
 pub use keys::{is_member_key, is_top_key};
 pub use parse::parse_game;
 pub use reading::read_game;

@@ -7,3 +7,5 @@ mod Bounds
 mod Seen
 mod Imports
 pub mod Searches
+mod Room
+mod Fronts

@@ -11,3 +11,4 @@ pub mod WinningByPlaces
 pub mod Subsets
 pub mod Listing
 pub mod RankPlaces
+pub mod Joins

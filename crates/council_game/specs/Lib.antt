@@ -9,3 +9,7 @@ pub mod Rules
 pub mod Laws
 pub mod Inner
 pub mod Shared
+pub mod Front
+pub mod Joined
+pub mod Notation
+pub mod Room

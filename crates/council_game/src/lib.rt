@@ -1,4 +1,4 @@
-//! Weighted voting games.
+//! Weighted voting games, and their rules as text.
 //!
 //! ```text
 //! let game = Game::new(alloc, None, names, weights, 51)?;
@@ -10,8 +10,10 @@
 mod checks;
 mod fault;
 mod game;
+mod joined;
 pub mod laws;
 mod naming;
+mod notation;
 mod plain;
 mod ranks;
 mod rule;
@@ -21,6 +23,8 @@ pub use checks::is_title;
 pub use coalitions::{Coalition, Memory, limits};
 pub use fault::GameFault;
 pub use game::Game;
+pub use joined::{push_decimal, push_joined};
+pub use notation::write_notation;
 pub use plain::plain_list;
 pub use ranks::members_by_rank;
 pub use rule::Rule;

@@ -1,51 +1,59 @@
-//! How far a run or a tally has come, told on standard error.
-use council_streams::Wipe;
-use mwc_gather::{Gate, Lookout};
-use mwc_tally::Watch;
+//! How far a run or a tally has come.
+use crate::thousands::Thousands;
+use crate::wiping::Wipe;
+use coalitions::Gate;
 use std::sync::{Mutex, Wait};
 use std::time::{Clock, Duration};
 
-/// What takes no more seconds tells nothing.
+/// Nothing is printed before so many seconds have passed.
 const QUIET: u64 = 1;
 
-/// How many slices are done, or of a run begun, how many coalitions were counted, or of a run found, how many
-/// prefixes were looked at on the way to them, as far as that was told, and whether a line on standard error says so.
+/// What the workers have done so far, as far as they have said so.
 #[derive(Drop)]
-struct Told {
-    done: u64,
-    counted: u64,
-    looked: u64,
-    shown: bool,
+struct Done {
+    /// How many slices are done.
+    slices: u64,
+    /// How many coalitions were found.
+    found: u64,
+    /// How many prefixes were examined.
+    prefixes: u64,
+    /// Which workers have begun a slice, one bit for each.
+    busy: u32,
+    /// Whether a line on standard error says so.
+    is_shown: bool,
 }
 
-/// Tells how many slices are done and how many coalitions were counted in them, or of a run how many slices are
-/// begun, and where it takes many prefixes to find a coalition, how many were looked at, in one line that is written
-/// anew each time, where standard error is a terminal and it takes more than a second.
+/// Prints how far a run or a tally has come, in one line that is written anew each time, if standard error is a
+/// terminal and more than a second has passed.
 #[derive(Drop)]
 pub struct Progress<'a, R> {
     rt: &'a R,
-    /// When it began; none where nothing is told.
+    /// When it began; none if nothing is printed.
     began: Option<Duration>,
-    told: Mutex<Told>,
+    /// How many slices there are in all.
+    slices: u16,
+    done: Mutex<Done>,
 }
 
 impl<'a, R: Eprint + Clock + Wait> Progress<'a, R> {
-    /// Nothing was done yet; it is told where standard error is a terminal.
-    pub fn new(rt: &'a R, terminal: bool) -> Progress<'a, R> {
+    /// Begins with nothing done of `slices` slices.
+    pub fn new(rt: &'a R, terminal: bool, slices: u16) -> Progress<'a, R> {
         let began = if terminal { rt.monotonic().ok() } else { None };
         Progress {
             rt,
             began,
-            told: Mutex::new(Told {
-                done: 0,
-                counted: 0,
-                looked: 0,
-                shown: false,
+            slices,
+            done: Mutex::new(Done {
+                slices: 0,
+                found: 0,
+                prefixes: 0,
+                busy: 0,
+                is_shown: false,
             }),
         }
     }
 
-    /// Whether it takes long enough to be told of.
+    /// Whether it has taken long enough to be shown.
     fn is_long(&self) -> bool {
         let Some(began) = self.began else {
             return false;
@@ -56,53 +64,29 @@ impl<'a, R: Eprint + Clock + Wait> Progress<'a, R> {
         }
     }
 
-    /// Wipes the line, where it was written.
+    /// Wipes the line, if it was written.
     pub fn wipe(&self) {
-        let mut told = self.told.lock(self.rt);
-        if told.shown {
-            told.shown = false;
+        let mut done = self.done.lock(self.rt);
+        if done.is_shown {
+            done.is_shown = false;
             let _ = eprint!(self.rt; "\r\x1b[K");
         }
     }
 
-    /// Writes the line anew, of a run, or of a tally with this number of slices; wipes it where all slices are done.
-    fn tell(&self, told: &mut Told, slices: Option<u16>) {
-        let (done, counted, looked) = (told.done, told.counted, told.looked);
-        if let Some(slices) = slices
-            && u64::from(slices) <= done
-        {
-            if told.shown {
-                told.shown = false;
-                let _ = eprint!(self.rt; "\r\x1b[K");
-            }
-            return;
-        }
+    /// Writes the line anew.
+    fn show(&self, done: &mut Done) {
         if !self.is_long() {
             return;
         }
-        told.shown = true;
-        if let Some(slices) = slices {
-            let _ = eprint!(self.rt;
-                "\rcouncil: {done} of {slices} slices, {counted} coalitions are counted"
-            );
-        } else {
-            let _ = eprint!(self.rt; "\rcouncil: slice {done} is begun");
-            if looked > 0 {
-                let _ = eprint!(self.rt; ", {counted} coalitions are found");
-            }
+        done.is_shown = true;
+        let (found, slices) = (Thousands(done.found), self.slices);
+        let _ = eprint!(self.rt;
+            "\rcouncil: {found} coalitions found, {} of {slices} slices done",
+            done.slices
+        );
+        if done.found == 0 && done.prefixes > 0 {
+            let _ = eprint!(self.rt; ", {} prefixes examined", Thousands(done.prefixes));
         }
-        if looked > 0 {
-            let _ = eprint!(self.rt; ", {looked} prefixes are looked at");
-        }
-    }
-
-    /// Adds what came, and tells of it: of a run, or of a tally with this number of slices.
-    fn add(&self, done: u64, counted: u64, looked: u64, slices: Option<u16>) {
-        let mut told = self.told.lock(self.rt);
-        told.done = told.done.wrapping_add(done);
-        told.counted = told.counted.wrapping_add(counted);
-        told.looked = told.looked.wrapping_add(looked);
-        self.tell(&mut told, slices);
     }
 }
 
@@ -117,27 +101,21 @@ impl<'a, R: Eprint + Clock + Wait> Wipe for Line<'a, R> {
 }
 
 impl<'a, R: Eprint + Clock + Wait> Gate for Progress<'a, R> {
-    fn pass(&self, _worker: u8, _slice: u16) {
-        self.add(1, 0, 0, None);
-    }
-}
-
-impl<'a, R: Eprint + Clock + Wait> Lookout for Progress<'a, R> {
-    fn looked(&self, prefixes: u64, met: u64) {
-        self.add(0, met, prefixes, None);
-    }
-}
-
-impl<'a, R: Eprint + Clock + Wait> Watch for Progress<'a, R> {
-    fn counted(&self, _slice: u16, slices: u16) {
-        self.add(1, 0, 0, Some(slices));
+    /// A worker that goes on to a further slice has done the one before.
+    fn pass(&self, worker: u8, _slice: u16) {
+        let mut done = self.done.lock(self.rt);
+        let bit = 1u32.wrapping_shl(u32::from(worker));
+        if done.busy & bit != 0 {
+            done.slices = done.slices.wrapping_add(1);
+        }
+        done.busy |= bit;
+        self.show(&mut done);
     }
 
-    fn met(&self, more: u64, slices: u16) {
-        self.add(0, more, 0, Some(slices));
-    }
-
-    fn looked(&self, more: u64, slices: u16) {
-        self.add(0, 0, more, Some(slices));
+    fn inform(&self, prefixes: u64, found: u64) {
+        let mut done = self.done.lock(self.rt);
+        done.found = done.found.wrapping_add(found);
+        done.prefixes = done.prefixes.wrapping_add(prefixes);
+        self.show(&mut done);
     }
 }

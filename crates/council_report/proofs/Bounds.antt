@@ -2,7 +2,7 @@
 use Rattle.council_report.proofs.Imports.{◌≡◌, ℕ, ◌+◌, ◌^◌, ◌<◌, ◌≤◌, ◌++◌, List, [], ◌∷◌, length, get_or, map, decimal, Bool, cond, true}
 use Rattle.council_report.proofs.Imports.{zero, suc, arith, length-append, flat_map, range_with_len, length-map, length-range_with_len}
 use Rattle.council_report.proofs.Imports.{GameView, IsGame, votes_of, votes-are, weight-le, table_of_member_size, few-members, Counted}
-use Rattle.council_report.proofs.Imports.{Shown, line_of_size, line_of_member, lines_of, with_tab, names_of, coalition_line, size_line}
+use Rattle.council_report.proofs.Imports.{ReportLines, line_of_size, line_of_member, lines_of, with_tab, names_of, coalition_line, size_line}
 use Rattle.council_report.proofs.Imports.{get_or-range_with_len, nat_tests, common_steps, IsRule, weight, member_line}
 use Rattle.std.proofs.lemmas.{Fmt.length-decimal-le, Fmt.length-decimal-le_wide, List.FromFn.length-map-range_with_len, List.Sums.sum_by-le}
 use Rattle.std.proofs.lemmas.{Bool.cond_both, List.Concat.length-flat_map}
@@ -10,7 +10,7 @@ use Rattle.std.proofs.Common.{◌*◌, codes, ◌==◌, All}
 use Rattle.std.specs.List.{AllByRecursion}
 use Rattle.council_game.specs.{Ranks.member_at, Votes.RuleView, Votes.places_of, Votes.size}
 use Rattle.council_game.proofs.Shared.Games.{names-fit, light-weights}
-use Rattle.council_text.proofs.Shared.Joins.{one-number, next-numbers}
+use Rattle.council_game.proofs.Shared.Joins.{one-number, next-numbers}
 use Rattle.power_index.specs.{Counting.members, Fractions.lowest_terms}
 use Rattle.power_index.specs.Tables.{table_of_size, table_of_member, table_deegan_packel, table_public_good}
 use Rattle.power_index.proofs.Shared.{Members.size-le, Small.AreBelow, Small.deegan_packel-wide, Small.public_good-wide}
@@ -136,7 +136,7 @@ chosen-fits : (b : Bool) (text : List ℕ) (n : ℕ) → (b ≡ true → length 
 chosen-fits b text n h = cond_both b text [] (λ t. length t ≤ n) h (λ _. omega arith)
 
 -- 2^40 + 80 lines at most, whose bytes can be counted
-pub lines-count : (shown : Shown) (k : Counted) (list : List ℕ) (told : ℕ) → (shown.list ≡ true → length list ≤ 2 ^ 40) → told < 2 ^ 63
+pub lines-count : (shown : ReportLines) (k : Counted) (list : List ℕ) (told : ℕ) → (shown.list ≡ true → length list ≤ 2 ^ 40) → told < 2 ^ 63
     → told + length (lines_of shown k list) < 2 ^ 64
 unfolding lines_of
 lines-count shown k list told few small =

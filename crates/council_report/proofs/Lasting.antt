@@ -1,8 +1,8 @@
 -- Texts told one after another, through a block that stays ready.
 use Rattle.council_report.proofs.Imports.{◌≡◌, ◌≤◌, ◌++◌, ℕ, List, [], length, Option, arith, nat_tests, false, common_steps, progress_of}
-use Rattle.council_report.proofs.Imports.{Tells, HasStopped, Block, Takes}
-use Rattle.std.proofs.Common.{Result, Ok, Err, IfErr, OnOk}
-use Rattle.council_report.specs.{Inner.Ready.CanCount, Inner.Ready.HasRoom, Inner.Ready.IsReady, declared.output.WriteFault.WriteFault}
+use Rattle.council_report.proofs.Imports.{Tells, Block, Takes}
+use Rattle.std.proofs.Common.{Result, Ok, Err}
+use Rattle.council_report.specs.{Inner.Ready.CanCount, Inner.Ready.IsReady, declared.output.WriteFault.WriteFault}
 use Rattle.council_report.specs.Inner.Puts.{Puts, Settles}
 use Rattle.council_report.proofs.Telling.{tells-then, tells-same, tells-block, stopped-next, stopped-after}
 

@@ -7,8 +7,8 @@ use Rattle.council_game.specs.Ranks.{member_at}
 use Rattle.council_game.specs.Game.{GameView, votes_of, total}
 use Rattle.power_index.specs.Counting.{members}
 use Rattle.power_index.specs.Fractions.{decimals}
-use Rattle.council_text.specs.Joined.{joined_numbers}
-use Rattle.council_text.specs.Notation.{notation}
+use Rattle.council_game.specs.Joined.{joined_numbers}
+use Rattle.council_game.specs.Notation.{notation}
 
 -- a field after a TAB
 abbrev pub with_tab : List ℕ → List ℕ

@@ -2,16 +2,15 @@
 ghost use Rattle.std.specs.Prelude.{◌<◌, length};
 ghost use Rattle.std.specs.List.{flat_map};
 ghost use Rattle.council_game.specs.Votes.{rule_at};
-ghost use Rattle.council_text.specs.Notation.{notation};
+ghost use Rattle.council_game.specs.Notation.{notation};
 ghost use Rattle.council_report.specs.Inner.Ready.{Adds};
 ghost use Rattle.council_report.specs.Lines.{notation_line};
 ghost use Rattle.council_report.specs.Report.{heading, notation_lines};
 
-use crate::Shown;
+use crate::ReportLines;
 use crate::lines::{push_members, push_minimal, push_quota, push_title, push_total};
 use crate::output::Block;
-use council_game::Game;
-use council_text::write_notation;
+use council_game::{Game, write_notation};
 
 /// `notation`, a rule as `[q; w1, .., wn]`.
 #[tactic(auto, unfolding(crate::specs::Lines::notation_line))]
@@ -34,7 +33,7 @@ fn push_each_notation(out: &mut Block, game: &Game)
 }
 
 /// A line for the notation of each rule, where they are shown.
-fn push_notations(out: &mut Block, game: &Game, shown: Shown)
+fn push_notations(out: &mut Block, game: &Game, shown: ReportLines)
     ensures { Adds out.old out.new (notation_lines shown game.now) }
 {
     if shown.notation {
@@ -43,7 +42,7 @@ fn push_notations(out: &mut Block, game: &Game, shown: Shown)
 }
 
 /// The lines before those of the `count` coalitions.
-pub(crate) fn push_heading(out: &mut Block, game: &Game, count: u64, shown: Shown)
+pub(crate) fn push_heading(out: &mut Block, game: &Game, count: u64, shown: ReportLines)
     ensures { Adds out.old out.new (heading shown game.now count) }
 {
     push_title(out, game);

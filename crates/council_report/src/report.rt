@@ -14,7 +14,7 @@ ghost use Rattle.council_report.specs.Inner.Ready.{HasRoom, IsReady, CanCount};
 ghost use Rattle.council_report.specs.Inner.Puts.{Puts};
 ghost use Rattle.council_report.specs.Outcome.{Falls};
 
-use crate::Shown;
+use crate::ReportLines;
 use crate::counted::Counted;
 use crate::fault::ReportFault;
 use crate::heading::push_heading;
@@ -34,7 +34,7 @@ fn put_shown_coalitions<W: Write>(
     game: &Game,
     pieces: &[&[Coalition]],
     line: &mut SharedLine,
-    shown: Shown,
+    shown: ReportLines,
 ) -> Result<(), WriteFault>
     requires coalitions { AreNonemptyCoalitions game.now (joined pieces.now) }
     requires line { IsReadyLine game.now line.old }
@@ -55,7 +55,7 @@ fn put_shown_sizes<W: Write>(
     block: &mut Block,
     writer: &mut W,
     counted: &Counted<'_>,
-    shown: Shown,
+    shown: ReportLines,
 ) -> Result<(), WriteFault>
     requires ready { IsReady block.old }
     requires counted { CanCount block.old (lines_of_sizes shown counted.now) }
@@ -77,7 +77,7 @@ fn put_lines<W: Write>(
     counted: &Counted<'_>,
     pieces: &[&[Coalition]],
     line: &mut SharedLine,
-    shown: Shown,
+    shown: ReportLines,
 ) -> Result<(), WriteFault>
     requires coalitions { AreNonemptyCoalitions counted.now.game.now (joined pieces.now) }
     requires line { IsReadyLine counted.now.game.now line.old }
@@ -98,7 +98,7 @@ fn send<W: Write>(
     counted: &Counted<'_>,
     pieces: &[&[Coalition]],
     line: &mut SharedLine,
-    shown: Shown,
+    shown: ReportLines,
 ) -> Result<u64, WriteFault>
     requires coalitions { AreNonemptyCoalitions counted.now.game.now (joined pieces.now) }
     requires line { IsReadyLine counted.now.game.now line.old }
@@ -126,7 +126,7 @@ fn write_over<W: Write>(
     game: &Game,
     pieces: &[&[Coalition]],
     counts: &Counts,
-    shown: Shown,
+    shown: ReportLines,
     writer: &mut W,
 ) -> Result<u64, ReportFault>
     ghost list: { List ℕ }
@@ -174,7 +174,7 @@ pub fn write_report_of<W: Write>(
     game: &Game,
     pieces: &[&[Coalition]],
     counts: &Counts,
-    shown: Shown,
+    shown: ReportLines,
     writer: &mut W,
 ) -> Result<u64, ReportFault>
     requires some { 1 ≤ length (joined pieces.now) }
@@ -202,7 +202,7 @@ pub fn write_tally<W: Write>(
     alloc: Global,
     game: &Game,
     counts: &Counts,
-    shown: Shown,
+    shown: ReportLines,
     writer: &mut W,
 ) -> Result<u64, ReportFault>
     requires without_list { shown.list ≡ false }
@@ -230,7 +230,7 @@ pub fn write_report<W: Write>(
     alloc: Global,
     game: &Game,
     list: &[Coalition],
-    shown: Shown,
+    shown: ReportLines,
     writer: &mut W,
 ) -> Result<u64, ReportFault>
     requires some { 1 ≤ length list.now }

@@ -1,11 +1,11 @@
 //! Fields of a line, each put at the end of the block.
 ghost use Rattle.std.specs.Prelude.{◌≡◌, ◌<◌, ℕ, List, decimal, length};
-ghost use Rattle.council_text.specs.Joined.{GivesEach};
+ghost use Rattle.council_game.specs.Joined.{GivesEach};
 ghost use Rattle.council_report.specs.Inner.Ready.{Takes};
 ghost use Rattle.council_report.specs.Lines.{with_tab, with_slashes};
 
 use crate::output::Block;
-use council_text::push_joined;
+use council_game::push_joined;
 use itoa::Buffer;
 
 /// A field of bytes.

@@ -1,1 +1,1 @@
-mod Whole
+mod Finding

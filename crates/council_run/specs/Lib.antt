@@ -1,5 +1,3 @@
-pub mod Shows
 pub mod Status
 pub mod Run
-pub mod Tallied
-pub mod Inner
+pub mod Found

@@ -1,7 +1,7 @@
 -- The status that the program ends with.
 use Rattle.std.specs.Prelude.{ℕ}
 use Rattle.council_game.specs.declared.fault.GameFault.TheVariants as game
-use Rattle.mwc_parts.specs.declared.fault.GatherFault.TheVariants as gather
+use Rattle.mwc_gather.specs.declared.fault.GatherFault.TheVariants as gather
 use Rattle.council_run.specs.declared.fault.Cause.{Cause}
 use Rattle.council_run.specs.declared.fault.Cause.TheVariants as cause
 
@@ -13,7 +13,6 @@ status_of (cause.Gather gather.TooMany) = 4
 status_of (cause.Gather fault) = 5
 status_of cause.Write = 5
 status_of cause.Memory = 5
-status_of cause.Stopped = 5
 
 -- the number of a cause
 abbrev pub number_of : Cause → ℕ
@@ -21,4 +20,3 @@ number_of (cause.Game fault) = 1
 number_of (cause.Gather fault) = 2
 number_of cause.Write = 3
 number_of cause.Memory = 4
-number_of cause.Stopped = 5

@@ -1,7 +1,7 @@
 //! Why a run stopped.
 ghost use Rattle.std.specs.Prelude.{◌≡◌, ℕ};
 ghost use Rattle.council_report.specs.declared.fault.ReportFault.TheVariants as report;
-ghost use Rattle.mwc_parts.specs.declared.fault.GatherFault.TheVariants as gather;
+ghost use Rattle.mwc_gather.specs.declared.fault.GatherFault.TheVariants as gather;
 ghost use Rattle.mwc_tally.specs.declared.fault.TallyFault.TheVariants as tally;
 ghost use Rattle.council_run.specs.declared.fault.Cause.TheVariants as cause;
 ghost use Rattle.council_run.specs.Status.{number_of, status_of};
@@ -27,9 +27,6 @@ pub enum Cause {
     /// A growth was refused.
     #[error("out of memory")]
     Memory,
-    /// The watch of a tally stopped it.
-    #[error("stopped")]
-    Stopped,
 }
 
 /// Why a run stopped, and how many bytes the writer took. Only after `Write` it may have taken some.
@@ -40,7 +37,7 @@ pub struct RunFault {
 }
 
 impl Cause {
-    /// The number of the cause: 1 to 5, in the order in which they are met but for the last three.
+    /// Returns the number of the cause, 1 to 4.
     pub fn number(self) -> u8
         ensures { result ≡ number_of self }
     {
@@ -49,7 +46,6 @@ impl Cause {
             Cause::Gather(_) => 2,
             Cause::Write => 3,
             Cause::Memory => 4,
-            Cause::Stopped => 5,
         }
     }
 }
@@ -90,14 +86,12 @@ impl From<Memory> for RunFault {
 impl From<TallyFault> for RunFault {
     ghost from_gives = { λ fault e.
         (fault ≡ tally.Memory → e ≡ record { cause = cause.Memory; written = 0 })
-        × (fault ≡ tally.Start → e ≡ record { cause = cause.Gather gather.Start; written = 0 })
-        × (fault ≡ tally.Stopped → e ≡ record { cause = cause.Stopped; written = 0 }) };
+        × (fault ≡ tally.Start → e ≡ record { cause = cause.Gather gather.Start; written = 0 }) };
 
     fn from(fault: TallyFault) -> RunFault {
         RunFault::early(match fault {
             TallyFault::Memory => Cause::Memory,
             TallyFault::Start => Cause::Gather(GatherFault::Start),
-            TallyFault::Stopped => Cause::Stopped,
         })
     }
 }
@@ -118,9 +112,9 @@ impl From<ReportFault> for RunFault {
     }
 }
 
-/// The status that the program ends with: 1 where the game file could not be read, 3 for any other
-/// fault of the game, 4 for too many coalitions, 5 for want of memory, for a thread
-/// or a ring that failed, for a writer that failed, and for a tally that was stopped.
+/// Returns the status that the program ends with: 1 if the game file could not be read, 3 for any
+/// other fault of the game, 4 for too many coalitions, and 5 if memory, a thread, a ring or the
+/// writer failed.
 pub fn status(fault: &RunFault) -> u8
     ensures { result ≡ status_of fault.now.cause }
 {
@@ -129,6 +123,6 @@ pub fn status(fault: &RunFault) -> u8
         Cause::Game(GameFault::Memory) => 5,
         Cause::Game(_) => 3,
         Cause::Gather(GatherFault::TooMany) => 4,
-        Cause::Gather(_) | Cause::Write | Cause::Memory | Cause::Stopped => 5,
+        Cause::Gather(_) | Cause::Write | Cause::Memory => 5,
     }
 }

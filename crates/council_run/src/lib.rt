@@ -1,22 +1,23 @@
-//! A run, from the bytes of a weighted voting game to its report: the game is read, its minimal winning
-//! coalitions are listed by worker threads, and the report with both power indices is written.
+//! A run, from the bytes of a weighted voting game to its report: read the game, find its minimal winning coalitions or
+//! count them, and write the report with both power indices.
 //!
 //! ```text
 //! let length = run(rt, alloc, &mut reader, &options, &NoGate, &mut writer)?;
-//! let length = tally(rt, alloc, &mut reader, &options, &NoWatch, &mut writer)?;
+//! let length = tally(rt, alloc, &mut reader, &options, &NoGate, &mut writer)?;
 //! ```
 #![tactic(auto)]
 
+mod counting;
 mod fault;
+mod found;
+mod listing;
 mod number;
-mod options;
 mod runs;
-mod tallies;
 
-pub use council_game::limits;
+pub use coalitions::{Gate, NoGate, Options, limits};
+pub use counting::{LEAST_BITS, count_by_walk, count_by_workers};
 pub use fault::{Cause, RunFault, status};
-pub use mwc_tally::{NoWatch, Watch};
+pub use found::{Coalitions, Found};
+pub use listing::{list_by_walk, list_by_workers};
 pub use number::number_by_sums;
-pub use options::Options;
-pub use runs::{run, run_with_lookout};
-pub use tallies::tally;
+pub use runs::{run, tally};

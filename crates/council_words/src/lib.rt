@@ -1,14 +1,14 @@
-//! The command line of `council`: what its words ask for, each number in its range. What the words come to is
-//! tested, since no contract can say what a command line means.
+//! The command line of `council`: what its words ask for, each number in its range. Tests show what the words mean,
+//! since no contract can say that.
 //!
 //! ```text
-//! let words = command_line(rt)?;
-//! let wanted = wanted(rt, words.as_slice())?;
+//! let words = collect_words(rt)?;
+//! let arguments = parse_arguments(rt, words.as_slice())?;
 //! ```
 #![tactic(auto)]
 
-mod nothing_to_do;
+mod command_line;
 mod words;
 
-pub use nothing_to_do::{command_line, out_of_memory, wanted};
-pub use words::{Wanted, WordsFault, read_words};
+pub use command_line::{collect_words, out_of_memory, parse_arguments};
+pub use words::{Arguments, WordsFault, read_words};

@@ -1,9 +1,6 @@
 //! The words of the command line.
-ghost use Rattle.std.specs.Prelude.{◌≤◌};
-ghost use Rattle.coalitions.specs.declared.limits.TheConstants.{BITS, WORKERS, COALITIONS};
-
 use clap::{Arg, ArgAction, ArgMatches, Command, Error, value_parser};
-use coalitions::{Shown, limits};
+use coalitions::{Options, limits};
 use std::alloc::{AllocError, Global};
 
 /// Why there is nothing to do for a command line.
@@ -15,26 +12,17 @@ pub enum WordsFault {
     Range,
 }
 
-/// What a command line asks for. The type keeps each number in its range.
+/// What a command line asks for.
 #[derive(Drop)]
-pub struct Wanted<'a> {
-    /// The game file; none where standard input is to be read.
+pub struct Arguments<'a> {
+    /// The game file; none if standard input is to be read.
     pub file: Option<&'a str>,
-    /// The worker threads, 1 to 16.
-    pub workers: u8,
-    /// The places that are fixed in each slice, 0 to 10.
-    pub bits: u8,
-    /// The greatest number of minimal winning coalitions that a run keeps, 1 to 4,000,000.
-    pub most: u32,
-    /// The lines of the report beside those that each report has; of a tally none for a coalition.
-    pub shown: Shown,
-    /// Whether the coalitions are counted and not kept.
+    /// The options of a run. A tally lists no coalition, and takes any number of them.
+    pub options: Options,
+    /// Count the coalitions and keep none.
     pub tally: bool,
-    /// Lines that say more of a fault of the game.
+    /// Explain on standard error why a game is refused.
     pub explain: bool,
-    ghost workers_in_range: { (1 ≤ workers) × (workers ≤ WORKERS) },
-    ghost bits_in_range: { bits ≤ BITS },
-    ghost most_in_range: { (1 ≤ most) × (most ≤ COALITIONS) },
 }
 
 const ABOUT: &str =
@@ -44,7 +32,7 @@ are cut off: the Deegan-Packel index (Deegan and Packel 1978) and the public
 good index (Holler 1982; Holler and Packel 1983).";
 
 /// The version, and with which kit it was proved.
-const VERSION: &str = "1.2.0\nproved with rattle-kit-13f logic dac8208d650f15bf";
+const VERSION: &str = "1.2.0\nproved with rattle-kit-13b logic dac8208d650f15bf";
 
 const FORMS: &str = "A game file has one of two forms:
 
@@ -176,7 +164,7 @@ fn flag<'a>(
 }
 
 /// What the command takes, in the order of `--help`.
-fn arguments<'a>(alloc: Global) -> Result<Vec<Arg<'a>>, AllocError> {
+fn arguments_taken<'a>(alloc: Global) -> Result<Vec<Arg<'a>>, AllocError> {
     let file = "The game file; none, or -, is standard input";
     let mut arguments = Vec::new(alloc);
     arguments.push(Arg::new(alloc, "FILE").help(file))?;
@@ -197,8 +185,8 @@ fn file_of<'a>(matches: &ArgMatches<'a>) -> Option<&'a str> {
     }
 }
 
-/// What the parser found; none where a number is missing or out of its range.
-fn wanted_of<'a>(matches: &ArgMatches<'a>) -> Option<Wanted<'a>> {
+/// Returns the options of a run; none if a number is missing or out of its range.
+fn options_of(matches: &ArgMatches<'_>) -> Option<Options> {
     let workers = matches.get_one::<u8>("workers")?;
     let bits = matches.get_one::<u8>("bits")?;
     let most = matches.get_one::<u32>("most")?;
@@ -210,29 +198,24 @@ fn wanted_of<'a>(matches: &ArgMatches<'a>) -> Option<Wanted<'a>> {
     {
         return None;
     }
-    Some(Wanted {
-        file: file_of(matches),
+    Some(Options {
         workers,
         bits,
         most,
-        shown: Shown {
-            list: matches.get_flag("list"),
-            sizes: matches.get_flag("sizes"),
-            notation: matches.get_flag("notation"),
-        },
-        tally: matches.get_flag("tally"),
-        explain: matches.get_flag("explain"),
+        list: matches.get_flag("list"),
+        sizes: matches.get_flag("sizes"),
+        notation: matches.get_flag("notation"),
     })
 }
 
 /// What the parser makes of the words.
 fn matches_of<'a>(alloc: Global, words: &'a [String]) -> Result<ArgMatches<'a>, Error> {
-    let arguments = arguments(alloc)?;
+    let taken = arguments_taken(alloc)?;
     Command::new(alloc, "council")
         .version(VERSION)
         .about(ABOUT)
         .after_help(FORMS)
-        .args(arguments)?
+        .args(taken)?
         .try_get_matches_from(words)
 }
 
@@ -241,9 +224,14 @@ fn matches_of<'a>(alloc: Global, words: &'a [String]) -> Result<ArgMatches<'a>, 
 /// # Errors
 ///
 /// `Parse` where the parser refuses it, or answers `--help` or `--version`.
-pub fn read_words<'a>(alloc: Global, words: &'a [String]) -> Result<Wanted<'a>, WordsFault> {
+pub fn read_words<'a>(alloc: Global, words: &'a [String]) -> Result<Arguments<'a>, WordsFault> {
     match matches_of(alloc, words) {
-        Ok(matches) => wanted_of(&matches).ok_or(WordsFault::Range),
+        Ok(matches) => Ok(Arguments {
+            file: file_of(&matches),
+            options: options_of(&matches).ok_or(WordsFault::Range)?,
+            tally: matches.get_flag("tally"),
+            explain: matches.get_flag("explain"),
+        }),
         Err(error) => Err(WordsFault::Parse(error)),
     }
 }

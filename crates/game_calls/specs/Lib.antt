@@ -2,6 +2,10 @@ pub use Rattle.council_game.specs.Fault
 pub use Rattle.council_game.specs.Game
 pub use Rattle.council_game.specs.Members
 pub use Rattle.council_game.specs.Votes
+pub use Rattle.power_index.specs.Counting
+pub use Rattle.power_index.specs.Fractions
+pub use Rattle.power_index.specs.Indices
 pub mod Critical
 pub mod Named
 pub mod Quotas
+pub mod Winning

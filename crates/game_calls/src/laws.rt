@@ -1,12 +1,117 @@
-//! A law of games, with nothing to run.
-ghost use Rattle.council_game.specs.Game.{GameView, IsGame, total};
-ghost use Rattle.council_game.specs.Votes.{rule_at};
+//! Laws: what the definitions say of each other, with nothing to run. You call a law, and what it ensures is then
+//! known to the proof of your function.
+//!
+//! ```text
+//! game_calls::laws::lowest_terms_add_up();
+//! ```
+ghost use Rattle.coalitions.specs.Coalitions.{has};
+ghost use Rattle.council_game.specs.Game.{GameView, IsGame, AreNonemptyCoalitions, total};
+ghost use Rattle.council_game.specs.Votes.{Votes, IsVotes, wins, rule_at};
 ghost use Rattle.game_calls.specs.Quotas.{at_quota};
-ghost use Rattle.std.specs.Prelude.{ℕ, ◌≤◌};
+ghost use Rattle.power_index.specs.Counting.{members};
+ghost use Rattle.power_index.specs.Fractions.{SameFraction, fraction_cmp, lowest_terms, AddUpToOne};
+ghost use Rattle.power_index.specs.Indices.{deegan_packel, public_good};
+ghost use Rattle.std.specs.List.{filter, range_with_len};
+ghost use Rattle.std.specs.Prelude.{◌≡◌, ℕ, ◌<◌, ◌^◌, false, [], length, slice_index, slice_index_or, true, ◌+◌, ◌++◌, ◌∷◌, Bool, if◌then◌else◌, ◌↔◌, ◌*◌, ◌≤◌, List, map};
+ghost use Rattle.game_calls.specs.Winning.{IsSubset, HasMinimalSubsets, HasVetoersInAll};
+
+/// Nobody is in the empty coalition.
+#[tactic(auto, using(crate::proofs::Masks::empty))]
+pub fn nobody_is_in_the_empty_coalition()
+    ensures { (n p : ℕ) → has n p 0 ≡ false }
+{}
+
+/// Two coalitions of a game of n members that have the same members are the same.
+pub fn same_members_are_one_coalition()
+    ensures { (n a c : ℕ) → a < 2 ^ n → c < 2 ^ n → ((p : ℕ) → p < n → has n p a ≡ has n p c)
+        → a ≡ c }
+{}
+
+/// No two members have the same rank place.
+#[tactic(auto, using(crate::proofs::Distinct::distinct_places))]
+pub fn rank_places_are_distinct()
+    ensures { (g : GameView) → IsGame g → (i j : ℕ) → i < length g.names → j < length g.names
+        → slice_index g.ranks i ≡ slice_index g.ranks j → i ≡ j }
+{}
+
+/// No two members have the same name.
+#[tactic(auto, using(crate::proofs::Distinct::distinct_names))]
+pub fn names_are_distinct()
+    ensures { (g : GameView) → IsGame g → (i j : ℕ) → i < length g.names → j < length g.names
+        → slice_index_or g.names i [] ≡ slice_index_or g.names j [] → i ≡ j }
+{}
+
+/// A coalition wins that has a subset that wins.
+#[tactic(auto, using(crate::proofs::Minimal::larger_wins))]
+pub fn larger_coalitions_win()
+    ensures { (v : Votes) → IsVotes v → (a c : ℕ) → IsSubset v.members a c
+        → wins v.rules a ≡ true → wins v.rules c ≡ true }
+{}
+
+/// Each winning coalition has a subset that is a minimal winning coalition.
+#[tactic(auto, using(crate::proofs::Minimal::minimal_subsets))]
+pub fn winning_coalitions_have_minimal_ones()
+    ensures { (v : Votes) → IsVotes v → HasMinimalSubsets v }
+{}
+
+/// A member of all minimal winning coalitions is a vetoer: no coalition wins without it.
+#[tactic(auto, using(crate::proofs::Minimal::vetoers_in_all))]
+pub fn members_of_all_are_vetoers()
+    ensures { (v : Votes) → IsVotes v → HasVetoersInAll v }
+{}
 
 /// The first rule of a game at another quota, 1 to its total, is a game: no check refuses it.
 #[tactic(auto, using(crate::proofs::Quotas::another_quota))]
 pub fn quotas_can_be_changed()
     ensures { (g : GameView) → IsGame g → (q : ℕ) → 1 ≤ q → q ≤ total (rule_at g.rules 0)
         → IsGame (at_quota g q) }
+{}
+
+/// What passes a test among 0, 1, .., n is what passes among those below n, and then n if it passes: one step of
+/// a loop that keeps the members or places that pass.
+#[tactic(auto, using(council_game::proofs::Shared::Lists::filter_one_more))]
+pub fn filters_take_one_more()
+    ensures { (test : ℕ → Bool) (n : ℕ) → filter test (range_with_len 0 (n + 1))
+        ≡ filter test (range_with_len 0 n) ++ (if test n then n ∷ [] else []) }
+{}
+
+/// Fractions with bottoms above 0 are ordered as their lowest terms are. So `Index::compare` orders the indices
+/// as they are defined.
+#[tactic(auto, using(crate::proofs::Ordered::lowest_terms_ordered))]
+pub fn lowest_terms_keep_order()
+    ensures { (p q : ℕ × ℕ) → 0 < p.1 → 0 < q.1 →
+        fraction_cmp (lowest_terms p) (lowest_terms q) ≡ fraction_cmp p q }
+{}
+
+/// Fractions with bottoms above 0 have the same lowest terms exactly where they are the same number.
+#[tactic(auto, using(crate::proofs::Ordered::apart))]
+pub fn lowest_terms_tell_fractions_apart()
+    ensures { (p q : ℕ × ℕ) → 0 < p.1 → 0 < q.1 →
+        (lowest_terms p ≡ lowest_terms q) ↔ SameFraction p q }
+{}
+
+/// A fraction that is at most another, which is below a third, is below the third.
+#[tactic(auto, using(crate::proofs::Ordered::at_most_then_below))]
+pub fn fractions_are_ordered()
+    ensures { (p q r : ℕ × ℕ) → 0 < p.1 → p.0 * q.1 ≤ q.0 * p.1 → q.0 * r.1 < r.0 * q.1
+        → p.0 * r.1 < r.0 * p.1 }
+{}
+
+/// The indices of a game's members in lowest terms, as the calls give them, add up to 1, of each kind: over
+/// each list of coalitions that are not empty, if there is one in it.
+#[tactic(auto, using(crate::proofs::LowestTermsAddUp::sums))]
+pub fn lowest_terms_add_up()
+    ensures deegan_packel { (g : GameView) (list : List ℕ) → IsGame g → 0 < length list
+        → AreNonemptyCoalitions g list → AddUpToOne (map (λ i. lowest_terms (deegan_packel g list i)) (members g)) }
+    ensures public_good { (g : GameView) (list : List ℕ) → IsGame g → 0 < length list
+        → AreNonemptyCoalitions g list → AddUpToOne (map (λ i. lowest_terms (public_good g list i)) (members g)) }
+{}
+
+/// The bottom of each index, before it is in lowest terms, is above 0.
+#[tactic(auto, using(crate::proofs::LowestTermsAddUp::bottoms))]
+pub fn bottoms_are_positive()
+    ensures deegan_packel { (g : GameView) (list : List ℕ) (i : ℕ) → IsGame g → 0 < length list
+        → AreNonemptyCoalitions g list → 0 < (deegan_packel g list i).1 }
+    ensures public_good { (g : GameView) (list : List ℕ) (i : ℕ) → IsGame g → 0 < length list
+        → AreNonemptyCoalitions g list → 0 < (public_good g list i).1 }
 {}

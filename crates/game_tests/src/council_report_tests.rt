@@ -8,7 +8,7 @@ ghost use Rattle.council_game.specs.Game.{AreNonemptyCoalitions};
 use crate::helpers::same;
 use council_file::parse_game;
 use council_game::{Coalition, Game, plain_list};
-use council_report::{ReportFault, Shown, write_report, write_report_of, write_tally};
+use council_report::{ReportFault, ReportLines, write_report, write_report_of, write_tally};
 use power_index::Counts;
 use power_index::laws::{minimal_coalitions_can_be_counted, tallies_are_counts};
 use std::alloc::Global;
@@ -173,7 +173,7 @@ fn lines(rt: &impl Abort, alloc: Global, heading: &[u8], list: &[Coalition]) -> 
 const HEADING: &[u8] = b"members\t14\nquota\t140/7/1\ntotal\t287/14/1532221043\nminimal\t2650\n";
 
 /// A report with a line for each coalition.
-const LIST: Shown = Shown {
+const LIST: ReportLines = ReportLines {
     list: true,
     sizes: false,
     notation: false,
@@ -238,7 +238,7 @@ fn tallies_as_it_reports(rt: HostRuntime) {
     let list = plain_list(alloc, &game).expect(&rt, "a list");
     assert!(rt; list.len() == 2_650);
     minimal_coalitions_can_be_counted();
-    let shown = Shown {
+    let shown = ReportLines {
         list: false,
         sizes: true,
         notation: true,

@@ -1,15 +1,26 @@
 //! Command lines.
-use council_words::{Wanted, WordsFault, read_words};
+use council_words::{Arguments, WordsFault, read_words};
 use std::alloc::Global;
 use std::process::Abort;
 
 /// Fails with the label where the numbers and the flags are not these: list, sizes, notation, tally, explain.
-fn asks_for(rt: &impl Abort, found: &Wanted<'_>, numbers: [u32; 3], flags: [bool; 5], label: &str) {
-    let found_numbers = [u32::from(found.workers), u32::from(found.bits), found.most];
+fn asks_for(
+    rt: &impl Abort,
+    found: &Arguments<'_>,
+    numbers: [u32; 3],
+    flags: [bool; 5],
+    label: &str,
+) {
+    let options = &found.options;
+    let found_numbers = [
+        u32::from(options.workers),
+        u32::from(options.bits),
+        options.most,
+    ];
     let found_flags = [
-        found.shown.list,
-        found.shown.sizes,
-        found.shown.notation,
+        options.list,
+        options.sizes,
+        options.notation,
         found.tally,
         found.explain,
     ];
@@ -60,9 +71,9 @@ fn reads_command_lines(rt: HostRuntime) {
         ),
     ] {
         let words = words(&rt, rt.alloc(), line);
-        let wanted = read_words(rt.alloc(), words.as_slice()).expect(&rt, "a command line");
-        assert!(rt; wanted.file == file, "{line}");
-        asks_for(&rt, &wanted, numbers, flags, line);
+        let arguments = read_words(rt.alloc(), words.as_slice()).expect(&rt, "a command line");
+        assert!(rt; arguments.file == file, "{line}");
+        asks_for(&rt, &arguments, numbers, flags, line);
     }
 }
 

@@ -1,6 +1,6 @@
-//! The tests of `council_game`, `council_text`, `council_file`, `council_report` and `council_words`, which need
-//! their public calls alone: games, files, reports, writers that fail, and command lines.
-//! They stand in one crate, since a check loads the statements of the libraries once.
+//! Tests of calls that start no thread: games, files, walks, counts, reports and command lines.
+//!
+//! Each module `NAME_tests` tests the public calls of the crate NAME.
 #![tactic(auto)]
 
 #[cfg(test)]
@@ -13,3 +13,9 @@ mod council_report_tests;
 mod council_words_tests;
 #[cfg(test)]
 mod helpers;
+#[cfg(test)]
+mod mwc_sums_tests;
+#[cfg(test)]
+mod mwc_walk_tests;
+#[cfg(test)]
+mod power_index_tests;

@@ -1,12 +1,11 @@
 -- Turns of desks.
+use Rattle.mwc_gather.proofs.Imports.{subst, arith, sym, length-map, All-head, All-tail, Slicing, DeskView, IsFresh, Desk, Deal, AllOf, set}
 use Rattle.mwc_gather.proofs.Imports.{◌≡◌, ℕ, ◌+◌, ◌<◌, Bool, false, ◌||◌, [], ◌∷◌, List, Option, None, All, length, common_steps, get_or}
-use Rattle.mwc_gather.proofs.Imports.{subst, arith, sym, length-map, All-head, All-tail, Slicing, DeskView, IsFresh, Desk, Deal, AllOf}
-use Rattle.mwc_gather.proofs.Imports.{view_of, views_of, DealsTo, DealsFirst, refl, take, true, nat_tests, All-push}
-use Rattle.std.proofs.Common.{zero, suc, not, replicate, set, length-set, get_or-set_other}
-use Rattle.std.proofs.{Math.Bool.or-false, lemmas.Bool.or_parts, lemmas.Grind.take-set_at, lemmas.List.map-set, lemmas.List.get_or_default}
-use Rattle.mwc_parts.specs.Shared.Dealing.{DealsInTurn, TakesTurn, DealsOneEach}
-use Rattle.mwc_parts.proofs.Shared.Turns as turns
-use Rattle.mwc_parts.proofs.Shared.Firsts as firsts
+use Rattle.mwc_gather.proofs.Imports.{view_of, views_of, DealsTo, DealsFirst, refl, take, true, nat_tests, All-push, zero, suc, replicate}
+use Rattle.mwc_gather.proofs.Imports.{length-set, or-false, map-set, DealsInTurn, TakesTurn, DealsOneEach}
+use Rattle.std.proofs.{Common.not, Common.get_or-set_other, lemmas.Bool.or_parts, lemmas.Grind.take-set_at, lemmas.List.get_or_default}
+use Rattle.mwc_gather.proofs.Turns as turns
+use Rattle.mwc_gather.proofs.Firsts as firsts
 
 view_at : (desks : List Desk) (i : ℕ) (d : Desk) → i < length desks → d ≡ get_or desks i d
     → view_of d ≡ get_or (views_of desks) i (view_of d)

@@ -1,15 +1,14 @@
 -- The end of gathering.
 use Rattle.mwc_gather.proofs.Imports.{common_steps, nat_tests, ◌≡◌, ℕ, ◌<◌, ◌≤◌, Bool, true, false, List, [], ◌∷◌, ◌++◌, Option, Some, None}
-use Rattle.mwc_gather.proofs.Imports.{IsPart, fault_of, also, Part, Met, GatherFault, Memory, length-joined, Desk, Deal, view_of, views_of}
-use Rattle.mwc_gather.proofs.Imports.{cond, All, length, map, refl, AllZip, get_or, append_assoc, ap, subst, arith, sym, ◌∙◌, length-map}
-use Rattle.mwc_gather.proofs.Imports.{map_push, All-head, All-tail, Slicing, sum_by, sum_by-cons, coalition_count, DeskView, IsFresh}
-use Rattle.mwc_gather.proofs.Imports.{DealsTo, IsPartOfDesk, all_total, IsComplete}
-use Rattle.std.proofs.{Common.slice_get, lemmas.List.get_or-map, lemmas.Slice.Zip.AllZip-long}
-use Rattle.std.specs.List.Sorted.{IsStrictlyIncreasing}
-use Rattle.mwc_parts.specs.declared.fault.GatherFault.TheVariants.{TooMany, Start, Ring}
-use Rattle.mwc_parts.specs.{Parts.shares, Shared.Dealing.IsWell, Shared.Dealing.given_slices, Shared.Deals.AreDealt}
-use Rattle.mwc_parts.proofs.Shared.Firsts.{each_within, dealt_total, dealt_increase, share_begins}
-use Rattle.mwc_parts.proofs.Shared.Turns as turns
+use Rattle.mwc_gather.proofs.Imports.{IsPart, Part, GatherFault, Memory, Desk, Deal, view_of, views_of, cond, All, IsPartOfDesk, all_total}
+use Rattle.mwc_gather.proofs.Imports.{IsComplete, get_or-map, IsStrictlyIncreasing, TooMany, shares, IsWell, All-head, All-tail, Slicing}
+use Rattle.mwc_gather.proofs.Imports.{sum_by, sum_by-cons, coalition_count, DeskView, IsFresh, DealsTo, given_slices, AreDealt, first_of}
+use Rattle.mwc_gather.proofs.Imports.{length, map, refl, AllZip, get_or, append_assoc, ap, subst, arith, sym, ◌∙◌, length-map, map_push}
+use Rattle.mwc_gather.proofs.Readings.{length-joined}
+use Rattle.std.proofs.{Common.slice_get, lemmas.Slice.Zip.AllZip-long}
+use Rattle.mwc_gather.specs.declared.fault.GatherFault.TheVariants.{Start, Ring}
+use Rattle.mwc_gather.proofs.Firsts.{each_within, dealt_total, dealt_increase, share_begins}
+use Rattle.mwc_gather.proofs.Turns as turns
 
 module _ {X Y : Type 0} where
   all_of_map : (P : Y → Type 0) (f : X → Y) (xs : List X) → All P (map f xs) → All (λ x. P (f x)) xs
@@ -56,22 +55,19 @@ pub fresh_push : (desks : List Desk) (d : Desk) → All IsFresh (views_of desks)
     → All IsFresh (views_of (desks ++ d ∷ []))
 fresh_push desks d a f = grind (arith, nat_tests, common_steps, map_push)
 
-pub many_is_new_or_old : (m : Met) (why : GatherFault) (P : Type 0) → (why ≡ TooMany → P) → (m.many ≡ true → P)
-    → (also m why).many ≡ true → P
-many_is_new_or_old m TooMany P f h e = f refl
-many_is_new_or_old m Start P f h e = h e
-many_is_new_or_old m Memory P f h e = h e
-many_is_new_or_old m Ring P f h e = h e
-
-first_or_later : (b : Bool) (why : GatherFault) (later : Option GatherFault) → (later ≡ None → ⊥) → cond b (Some why) later ≡ None → ⊥
-first_or_later true why later some e = cc
-first_or_later false why later some e = some e
-
-pub one_is_met : (m : Met) (why : GatherFault) → fault_of (also m why) ≡ None → ⊥
-one_is_met m Start = λ e. cc
-one_is_met m Memory = first_or_later m.start _ _ (λ e. cc)
-one_is_met m Ring = first_or_later m.start _ _ (first_or_later m.memory _ _ (λ e. cc))
-one_is_met m TooMany = first_or_later m.start _ _ (first_or_later m.memory _ _ (first_or_later m.ring _ _ (λ e. cc)))
+-- TooMany is answered only after TooMany
+pub first_is_many : (met : Option GatherFault) (why : GatherFault) → first_of met why ≡ TooMany → why ≡ TooMany
+first_is_many None why e = e
+first_is_many (Some Start) why e = cc
+first_is_many (Some Memory) Start e = cc
+first_is_many (Some Memory) Memory e = cc
+first_is_many (Some Memory) Ring e = cc
+first_is_many (Some Memory) TooMany e = refl
+first_is_many (Some Ring) Start e = cc
+first_is_many (Some Ring) Memory e = cc
+first_is_many (Some Ring) Ring e = cc
+first_is_many (Some Ring) TooMany e = refl
+first_is_many (Some TooMany) why e = e
 
 pub head_of : {X : Type 0} (P : X → Type 0) (x : X) (xs ys : List X) → ys ≡ x ∷ xs → All P ys → P x
 head_of {X} P x xs ys e a = All-head P x xs (subst (λ (l : List X). All P l) e a)

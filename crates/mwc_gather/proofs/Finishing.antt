@@ -1,34 +1,49 @@
 -- Workers that are joined, one after another.
-use Rattle.mwc_gather.proofs.Imports.{fault_of, also, also_all, Part, Met, GatherFault, Desk, Deal, IsOf, AllOf, CanEndWith, IsPartOfDesk}
-use Rattle.mwc_gather.proofs.Imports.{◌≡◌, ℕ, ◌<◌, ◌≤◌, Bool, true, false, List, [], ◌∷◌, ◌++◌, Option, Some, None, All, length, refl}
-use Rattle.mwc_gather.proofs.Imports.{is_some, AllZip, ap, subst, arith, sym, ◌∙◌, false≢true, append-nil, Slicing, coalition_count}
-use Rattle.mwc_gather.proofs.Imports.{DealsTo, all_total, IsComplete}
+use Rattle.mwc_gather.specs.Inner.Fault.{first_of_all}
+use Rattle.mwc_gather.proofs.Imports.{TooMany, Part, GatherFault, Desk, Deal, IsOf, AllOf, CanEndWith, IsPartOfDesk, ◌≡◌, ℕ, ◌<◌, ◌≤◌, Bool}
+use Rattle.mwc_gather.proofs.Imports.{true, false, List, [], ◌∷◌, ◌++◌, Option, Some, None, All, length, refl, is_some, AllZip, ap, subst}
+use Rattle.mwc_gather.proofs.Imports.{arith, sym, ◌∙◌, false≢true, append-nil, Slicing, coalition_count, DealsTo, all_total, IsComplete}
+use Rattle.mwc_gather.proofs.Imports.{first_of, Memory}
 use Rattle.std.proofs.lemmas.{List.Elements.All-rest, Slice.Zip.all_zipped_more}
-use Rattle.mwc_gather.proofs.Ends.{many_is_new_or_old, one_is_met, head_of, one_done, desks_within, completes}
-use Rattle.mwc_gather.proofs.Faults.{noted_after}
+use Rattle.mwc_gather.proofs.Ends.{first_is_many, head_of, one_done, desks_within, completes}
+
+-- one more answer
+noted_more : (m : Option GatherFault) (whys : List (Option GatherFault)) (w : Option GatherFault)
+    → first_of_all m (whys ++ w ∷ []) ≡ first_of_all (first_of_all m whys) (w ∷ [])
+noted_more m [] w = refl
+noted_more m (None ∷ whys) w = noted_more m whys w
+noted_more m (Some v ∷ whys) w = noted_more (Some (first_of m v)) whys w
+
+pub noted_after : (start met after : Option GatherFault) (whys : List (Option GatherFault)) (w : Option GatherFault) → met ≡ first_of_all start whys
+    → after ≡ first_of_all met (w ∷ []) → after ≡ first_of_all start (whys ++ w ∷ [])
+noted_after start met after whys w e f = f ∙ ap (λ (m : Option GatherFault). first_of_all m (w ∷ [])) e ∙ sym (noted_more start whys w)
+
+-- where there is no room for a part
+pub memory_ends : (g : Slicing) (most : ℕ) (d : Desk) → CanEndWith g most d (Some Memory)
+memory_ends g most d = (λ e. cc, λ e. refl, λ e. absurd cc)
 
 -- some of the workers have ended, and the rest are still to be joined: what was met follows from their answers, and where nothing was met
 -- all of them are parts
-pub record Finishing (g : Slicing) (most : ℕ) (start : Met) (desks rest : List Desk) (met : Met) (parts : List Part) : Type 0 where
+pub record Finishing (g : Slicing) (most : ℕ) (start : Option GatherFault) (desks rest : List Desk) (met : Option GatherFault) (parts : List Part) : Type 0 where
   pub all_of : AllOf g most rest
   pub within : All (λ (d : Desk). coalition_count g d.given.items ≤ all_total g) rest
-  pub many : met.many ≡ true → most < all_total g
+  pub many : met ≡ Some TooMany → most < all_total g
   pub done : List Desk
   pub split : done ++ rest ≡ desks
   pub whys : List (Option GatherFault)
   pub ends : AllZip (CanEndWith g most) done whys
-  pub met_is : met ≡ also_all start whys
-  pub none : fault_of met ≡ None → (fault_of start ≡ None) × AllZip (IsPartOfDesk g) done parts
+  pub met_is : met ≡ first_of_all start whys
+  pub none : met ≡ None → (start ≡ None) × AllZip (IsPartOfDesk g) done parts
 
 -- no worker is joined yet
-pub none_joined : {g : Slicing} {most : ℕ} {start : Met} {desks rest : List Desk} {parts : List Part} → rest ≡ desks → parts ≡ []
+pub none_joined : {g : Slicing} {most : ℕ} {start : Option GatherFault} {desks rest : List Desk} {parts : List Part} → rest ≡ desks → parts ≡ []
     → {early : Bool} {deal : Deal} → DealsTo g most early deal desks
-    → start.many ≡ false → Finishing g most start desks rest start parts
+    → (start ≡ Some TooMany → ⊥) → Finishing g most start desks rest start parts
 none_joined {desks = desks} e f h few =
     rw (e, f) (record {
       all_of = h.all_of;
       within = desks_within desks h;
-      many = λ z. absurd (false≢true (sym few ∙ z));
+      many = λ z. absurd (few z);
       done = [];
       split = refl;
       whys = [];
@@ -37,11 +52,11 @@ none_joined {desks = desks} e f h few =
       none = λ n. (n, tt);
     })
 
-module _ {g : Slicing} {most : ℕ} {start met after : Met} {desks old rest : List Desk} {parts left : List Part} where
+module _ {g : Slicing} {most : ℕ} {start met after : Option GatherFault} {desks old rest : List Desk} {parts left : List Part} where
   -- one more has ended
   one_ended : (d : Desk) (w : Option GatherFault) (f : Finishing g most start desks old met parts) → old ≡ d ∷ rest
-      → after ≡ also_all met (w ∷ []) → CanEndWith g most d w → (after.many ≡ true → most < all_total g)
-      → (fault_of after ≡ None → (fault_of start ≡ None) × AllZip (IsPartOfDesk g) (f.done ++ d ∷ []) left)
+      → after ≡ first_of_all met (w ∷ []) → CanEndWith g most d w → (after ≡ Some TooMany → most < all_total g)
+      → (after ≡ None → (start ≡ None) × AllZip (IsPartOfDesk g) (f.done ++ d ∷ []) left)
       → Finishing g most start desks rest after left
   one_ended d w f step e ends many none =
       record {
@@ -57,15 +72,14 @@ module _ {g : Slicing} {most : ℕ} {start met after : Met} {desks old rest : Li
       }
 
   -- with a fault
-  pub fault_met : (d : Desk) (why : GatherFault) → Finishing g most start desks old met parts → old ≡ d ∷ rest → after ≡ also met why
+  pub fault_met : (d : Desk) (why : GatherFault) → Finishing g most start desks old met parts → old ≡ d ∷ rest → after ≡ Some (first_of met why)
       → (IsOf g most d → CanEndWith g most d (Some why)) → Finishing g most start desks rest after left
   fault_met d why f step e own =
       let within : Desk → Type 0 = λ d. coalition_count g d.given.items ≤ all_total g in
       let ends = own (head_of (IsOf g most) d rest old step f.all_of) in
       let few : within d = head_of within d rest old step f.within in
       one_ended d (Some why) f step e ends
-      (λ z. many_is_new_or_old met why (most < all_total g) (λ t. let over = ends.2 t in omega arith) f.many (sym (ap (λ (m : Met). m.many) e) ∙ z))
-      (λ n. absurd (one_is_met met why (sym (ap fault_of e) ∙ n)))
+      (λ z. let over = ends.2 (first_is_many met why cc) in omega arith) (λ n. cc)
 
   -- with a part
   pub part_kept : (d : Desk) (p : Part) → Finishing g most start desks old met parts → old ≡ d ∷ rest → left ≡ parts ++ p ∷ []
@@ -73,14 +87,14 @@ module _ {g : Slicing} {most : ℕ} {start met after : Met} {desks old rest : Li
       → Finishing g most start desks rest after left
   part_kept d p f step e same part ends =
       let own = head_of (IsOf g most) d rest old step f.all_of in
-      one_ended d None f step same (ends own) (λ z. f.many (sym (ap (λ (m : Met). m.many) same) ∙ z))
-      (λ n. let kept = f.none (sym (ap fault_of same) ∙ n) in
+      one_ended d None f step same (ends own) (λ z. f.many (sym same ∙ z))
+      (λ n. let kept = f.none (sym same ∙ n) in
       (kept.0, rw e (all_zipped_more (IsPartOfDesk g) f.done parts d p kept.1 (part own))))
 
 -- all have ended: where nothing was met, the parts are complete
-pub all_complete : {g : Slicing} {most workers : ℕ} {start met : Met} {deal : Deal} (desks rest : List Desk)
-    (parts : List Part) → Finishing g most start desks rest met parts → rest ≡ [] → fault_of met ≡ None
-    → DealsTo g most (is_some (fault_of start)) deal desks → length desks ≡ workers → 0 < workers → IsComplete g workers parts
+pub all_complete : {g : Slicing} {most workers : ℕ} {start met : Option GatherFault} {deal : Deal} (desks rest : List Desk)
+    (parts : List Part) → Finishing g most start desks rest met parts → rest ≡ [] → met ≡ None
+    → DealsTo g most (is_some start) deal desks → length desks ≡ workers → 0 < workers → IsComplete g workers parts
 all_complete {g} desks rest parts f e n h same some =
     let kept = f.none n in
     let all = sym (append-nil f.done) ∙ ap (λ (w : List Desk). f.done ++ w) (sym e) ∙ f.split in

@@ -1,13 +1,13 @@
 -- From the join of a worker to its part.
+use Rattle.mwc_gather.proofs.Imports.{◌≡◌, ℕ, ◌<◌, false, List, ◌++◌, length, Some, None, ap, subst, sym, ◌∙◌, arith, false≢true, Word, ◌⊎◌}
 use Rattle.mwc_gather.proofs.Imports.{Slicing, coalition_count, IsDraftOf, IsPart, Part, GatherFault, Desk, IsOf, IsPartOfDesk, CanEndWith}
-use Rattle.mwc_gather.proofs.Imports.{◌≡◌, ℕ, ◌<◌, false, List, ◌++◌, length, Some, None, ap, subst, sym, ◌∙◌, arith, false≢true, Word}
-use Rattle.std.proofs.Common.{◌⊎◌, Result, Ok, Err, IfOk, IfErr, flat_map, inl, inr}
-use Rattle.mwc_ring.specs.{RingViews.RingInView, RingViews.RingOutView, RingViews.ClosedView, declared.closed.Unfinished.Unfinished}
-use Rattle.mwc_parts.specs.{Shared.Settled.HasAllWords, Shared.Settled.ends_from, Wording.IsWholeSending, Wording.IsCutSending}
-use Rattle.mwc_parts.specs.{Drafts.IsPartOfDraft, Drafts.fault_in_draft, Pieces.HasEnds, Shared.Fault.fault_in, declared.draft.Draft.Draft}
-use Rattle.mwc_parts.proofs.Shared.Readings.{has_ends}
-use Rattle.mwc_parts.proofs.Shared.Settles.{settles, kept_by, lost_or_cut, whole_sent, whole_reads, whole_many}
-use Rattle.mwc_gather.specs.{Inner.Desks.desk_slicing, Sending.HasWorked}
+use Rattle.mwc_gather.proofs.Imports.{flat_map, inl, inr, HasAllWords, ends_from, IsWholeSending, IsCutSending, fault_in_draft, HasEnds}
+use Rattle.mwc_gather.proofs.Imports.{Draft}
+use Rattle.std.proofs.Common.{Result, Ok, Err, IfOk, IfErr}
+use Rattle.mwc_pipe.specs.{RingViews.RingInView, RingViews.RingOutView, RingViews.ClosedView, declared.closed.Unfinished.Unfinished}
+use Rattle.mwc_gather.specs.{Inner.Desks.desk_slicing, Inner.Drafts.IsPartOfDraft, Inner.Fault.fault_in, Sending.HasWorked}
+use Rattle.mwc_gather.proofs.Readings.{has_ends}
+use Rattle.mwc_gather.proofs.Settles.{settles, kept_by, lost_or_cut, whole_sent, whole_reads, whole_many}
 
 worked_ok : (g : Slicing) (most : ℕ) (out : RingInView) (tasks : RingOutView) (r : Result ClosedView Unfinished × RingOutView)
     (closed : ClosedView) → HasWorked g most out tasks r → r.0 ≡ Ok closed → IsWholeSending g most r.1.taken closed.accepted

@@ -1,3 +1,11 @@
+mod Turns
+mod Firsts
+mod Settles
+mod Readings
+mod Shares
+mod Tasks
+mod Rooms
+pub mod Searches
 mod Slices
 mod FirstWords
 mod UnderWay
@@ -6,6 +14,5 @@ mod Joins
 mod Deals
 mod Ends
 mod Finishing
-mod Faults
 mod Wholes
 mod Imports

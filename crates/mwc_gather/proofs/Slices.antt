@@ -1,8 +1,8 @@
 -- The words of a slice as far as they were sent.
 use Rattle.mwc_gather.proofs.Imports.{◌≡◌, ℕ, ◌+◌, ◌<◌, ◌≤◌, Bool, true, false, List, [], ◌∷◌, ◌++◌, length, map, take, refl, IsPrefix, ap}
 use Rattle.mwc_gather.proofs.Imports.{arith, append_assoc, sym, ◌∙◌, nat_tests, append-nil, map-append, Word, Open, One, Done, Slicing}
-use Rattle.mwc_gather.proofs.Imports.{slice_words, cut_words, sending}
-use Rattle.std.proofs.{Common.◌-◌, Common.nat_lt, Common.if◌then◌else◌, Math.Seq.take-append-add}
+use Rattle.mwc_gather.proofs.Imports.{slice_words, cut_words, sending, ◌-◌, if◌then◌else◌}
+use Rattle.std.proofs.{Common.nat_lt, Math.Seq.take-append-add}
 
 module _ {W : Type 0} (one : ℕ → W) where
   -- what was sent is a beginning of all words

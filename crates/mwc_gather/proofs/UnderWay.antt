@@ -1,8 +1,8 @@
 -- A slice on its way into a pipe.
 use Rattle.mwc_gather.proofs.Imports.{◌+◌, ◌<◌, ◌≤◌, List, [], ◌∷◌, ◌++◌, length, map, take, IsPrefix, ap, subst, arith, cut_words, sending}
 use Rattle.mwc_gather.proofs.Imports.{append_assoc, sym, ◌∙◌, append-nil, map-append, Word, Open, One, Done, Slicing, slice_words, ◌≡◌, ℕ}
-use Rattle.mwc_gather.proofs.Imports.{SendsFirst, SendsSome}
-use Rattle.std.proofs.{Common.length-append, Math.Seq.take-append_seam}
+use Rattle.mwc_gather.proofs.Imports.{SendsFirst, SendsSome, length-append}
+use Rattle.std.proofs.Math.Seq.{take-append_seam}
 use Rattle.mwc_gather.proofs.Slices.{starts_sending, whole_starts}
 use Rattle.mwc_gather.proofs.FirstWords.{none_sent, first_added, first_all, some_starts}
 

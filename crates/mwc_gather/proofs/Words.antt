@@ -1,11 +1,6 @@
 -- Words that are put and read.
-use Rattle.mwc_gather.proofs.Imports.{◌≡◌, ℕ, ◌+◌, ◌≤◌, Bool, true, false, ◌||◌, cond, List, [], ◌∷◌, ◌++◌, common_steps, arith}
-use Rattle.mwc_gather.proofs.Imports.{sum_by-cons, false≢true, Word, Open, One, Done}
-use Rattle.std.specs.List.{list_any}
-use Rattle.mwc_parts.specs.Shared.Wording.{is_done}
-use Rattle.std.proofs.{Common.count_by, lemmas.List.Sums.sum_by-append}
-use Rattle.mwc_ring.specs.declared.word.Word.TheVariants.{End}
-use Rattle.mwc_gather.specs.Inner.Sending.{is_end}
+use Rattle.mwc_gather.proofs.Imports.{is_end, ◌≡◌, ℕ, ◌+◌, ◌≤◌, Bool, true, false, ◌||◌, cond, List, [], ◌∷◌, ◌++◌, common_steps, arith}
+use Rattle.mwc_gather.proofs.Imports.{sum_by-cons, false≢true, Word, Open, One, Done, list_any, is_done, count_by, sum_by-append, End}
 
 -- the words that tell that a slice is whole
 done_more : (before row : List Word) → count_by is_done (before ++ row) ≡ count_by is_done before + count_by is_done row

@@ -4,9 +4,9 @@ use Rattle.std.specs.List.{flat_map, range_with_len}
 use Rattle.std.specs.List.Sorted.{IsStrictlyIncreasing}
 use Rattle.council_game.specs.Votes.{Votes, minimal_coalitions}
 use Rattle.mwc_walk.specs.Slices.{slice}
-use Rattle.mwc_parts.specs.Parts.{HasPieces, shares}
-use Rattle.mwc_parts.specs.declared.part.Part.{Part}
-use Rattle.mwc_parts.specs.declared.gathered.Gathered.{Gathered}
+use Rattle.mwc_gather.specs.Parts.{HasPieces, shares}
+use Rattle.mwc_gather.specs.declared.part.Part.{Part}
+use Rattle.mwc_gather.specs.declared.gathered.Gathered.{Gathered}
 
 -- what is answered: a part for each worker; in each part the slices ascend, and each piece is the slice of its number;
 -- worker w begins with slice w; and all slices in their order are the minimal winning coalitions, of which there are

@@ -1,6 +1,10 @@
 pub use Rattle.council_game.specs.Game
 pub use Rattle.council_game.specs.Votes
-pub mod Slicings
+pub mod Slicing
+pub mod Table
+pub mod Wording
+pub mod Pieces
+pub mod Parts
 pub mod Sending
 pub mod Gathering
 pub mod Inner

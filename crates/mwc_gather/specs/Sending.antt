@@ -1,11 +1,11 @@
 -- What the sending of one slice, and a worker, answer.
 use Rattle.std.specs.Prelude.{◌≡◌, ℕ, ◌+◌, ◌<◌, ◌≤◌, nat_lt, Bool, true, List, ◌++◌, length, ◌⊎◌, Result, Ok, Err, if◌then◌else◌, ⊤}
 use mathlib.Core.List.{IsPrefix}
-use Rattle.mwc_parts.specs.Slicing.{Slicing}
-use Rattle.mwc_parts.specs.Wording.{slice_words, cut_words, IsWholeSending, IsCutSending}
-use Rattle.mwc_ring.specs.RingViews.{RingInView, RingOutView, ClosedView}
-use Rattle.mwc_ring.specs.declared.word.Word.{Word}
-use Rattle.mwc_ring.specs.declared.closed.Unfinished.{Unfinished}
+use Rattle.mwc_gather.specs.Slicing.{Slicing}
+use Rattle.mwc_gather.specs.Wording.{slice_words, cut_words, IsWholeSending, IsCutSending}
+use Rattle.mwc_pipe.specs.RingViews.{RingInView, RingOutView, ClosedView}
+use Rattle.mwc_pipe.specs.declared.word.Word.{Word}
+use Rattle.mwc_pipe.specs.declared.closed.Unfinished.{Unfinished}
 use Rattle.mwc_gather.specs.declared.sent.Sent.{Sent}
 use Rattle.mwc_gather.specs.declared.sent.Sent.TheVariants as sent
 

@@ -2,18 +2,18 @@
 ghost use Rattle.std.specs.Prelude.{◌≡◌, ◌<◌, ◌≤◌, ◌^◌, ◌++◌, List, All, length, replicate, true, false};
 ghost use Rattle.std.specs.List.{list_any};
 ghost use Rattle.coalitions.specs.declared.limits.TheConstants.{WORKERS};
-ghost use Rattle.mwc_ring.specs.declared.word.Word.{Word};
-ghost use Rattle.mwc_parts.specs.Shared.Wording.{is_done};
-ghost use Rattle.mwc_parts.specs.Shared.Dealing.{TakesTurn, IsFresh};
-ghost use Rattle.mwc_gather.specs.Slicings.{slicing};
-ghost use Rattle.mwc_gather.specs.Inner.Desks.{IsSameDesk, view_of, views_of, AllOf, DealsTo, DealsFirst};
+ghost use Rattle.mwc_pipe.specs.declared.word.Word.{Word};
+ghost use Rattle.mwc_gather.specs.Inner.Sending.{is_done};
+ghost use Rattle.mwc_gather.specs.Inner.Dealing.{TakesTurn, IsFresh};
+ghost use Rattle.mwc_gather.specs.Inner.Gathering.{slices_of};
+ghost use Rattle.mwc_gather.specs.Inner.Desks.{IsSameDesk, view_of, views_of, AllOf, CanDeal, DealsTo, DealsFirst};
 
 use crate::desk::Desk;
 use crate::job::Job;
+use crate::marks::Marks;
 use crate::parcel::WORDS;
 use crate::waiting::{BellPair, Bells, Patience};
-use mwc_parts::Marks;
-use mwc_ring::Word;
+use mwc_pipe::Word;
 use std::sync::Wait;
 
 /// The deal of the slices to the workers.
@@ -89,11 +89,8 @@ impl Deal {
         desks: &mut [Desk],
         bells: &Bells,
     )
-        requires few { length desks.old ≤ WORKERS }
-        requires all_of { AllOf (slicing job.now.guarded job.now.bits) job.now.most desks.old }
-        requires fresh { All IsFresh (views_of desks.old) }
-        requires marks { self.old.marks ≡ replicate (2 ^ job.now.bits) None }
-        ensures { DealsFirst (slicing job.now.guarded job.now.bits) job.now.most self.old.stopped
+        requires { CanDeal job.now self.old desks.old }
+        ensures { DealsFirst (slices_of job.now) job.now.most self.old.stopped
             self.new (length desks.old) desks.new }
     {
         for i in 0..desks.len() {
@@ -110,11 +107,8 @@ impl Deal {
         desks: &mut [Desk],
         bells: &Bells,
     )
-        requires few { length desks.old ≤ WORKERS }
-        requires all_of { AllOf (slicing job.now.guarded job.now.bits) job.now.most desks.old }
-        requires fresh { All IsFresh (views_of desks.old) }
-        requires marks { self.old.marks ≡ replicate (2 ^ job.now.bits) None }
-        ensures deals { DealsTo (slicing job.now.guarded job.now.bits) job.now.most self.old.stopped
+        requires { CanDeal job.now self.old desks.old }
+        ensures deals { DealsTo (slices_of job.now) job.now.most self.old.stopped
             self.new desks.new }
         ensures ended { All (λ d. d.ended ≡ true) desks.new }
     {

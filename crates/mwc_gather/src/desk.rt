@@ -2,25 +2,27 @@
 ghost use Rattle.std.specs.Prelude.{◌≡◌, ℕ, ◌||◌, ◌+◌, ◌<◌, ◌≤◌, ◌^◌, ◌++◌, ◌∷◌, [], List, All, IfOk, IfErr, if◌then◌else◌, IsTrue, IsFalse, true, false, count_by, length, take, vec_len, vec_capacity};
 ghost use Rattle.std.specs.List.{list_any};
 ghost use Rattle.coalitions.specs.declared.limits.TheConstants.{WORKERS};
-ghost use Rattle.mwc_ring.specs.declared.word.Word.{Word};
-ghost use Rattle.mwc_parts.specs.Slicing.{Slicing};
-ghost use Rattle.mwc_parts.specs.Wording.{open_words};
-ghost use Rattle.mwc_parts.specs.Drafts.{IsDraftOf, LosesForWantOfRoom};
-ghost use Rattle.mwc_parts.specs.Shared.Wording.{end_words, is_done};
-ghost use Rattle.mwc_parts.specs.Shared.Dealing.{IsFresh};
-ghost use Rattle.mwc_parts.specs.Shared.Fault.{IsEarly, fault_in};
-ghost use Rattle.mwc_gather.specs.Slicings.{slicing};
+ghost use Rattle.mwc_pipe.specs.declared.word.Word.{Word};
+ghost use Rattle.mwc_gather.specs.Slicing.{Slicing};
+ghost use Rattle.mwc_gather.specs.Wording.{open_words};
+ghost use Rattle.mwc_gather.specs.Inner.Drafts.{IsDraftOf, Hears, LosesForWantOfRoom};
+ghost use Rattle.mwc_gather.specs.Inner.Sending.{end_words, is_done};
+ghost use Rattle.mwc_gather.specs.Inner.Dealing.{IsFresh};
+ghost use Rattle.mwc_gather.specs.Inner.Fault.{IsEarly, fault_in};
+ghost use Rattle.mwc_gather.specs.Inner.Gathering.{slices_of};
 ghost use Rattle.mwc_gather.specs.Sending.{HasWorked};
 ghost use Rattle.mwc_gather.specs.Inner.Sending.{is_end};
 
+use crate::draft::Draft;
 use crate::equipment::Equipment;
+use crate::fault::GatherFault;
 use crate::job::Job;
+use crate::observer::SliceObserver;
+use crate::part::Part;
 use crate::promise::{Answer, GivenJob};
-use crate::told::Told;
 use crate::waiting::{BellPair, Bells, Patience};
 use crate::worker::work_beside;
-use mwc_parts::{Draft, GatherFault, Part};
-use mwc_ring::{Rest, RingIn, RingOut, Word};
+use mwc_pipe::{Rest, RingIn, RingOut, Word};
 use mwc_walk::slice_count;
 use std::alloc::Global;
 use std::sync::Wait;
@@ -58,7 +60,7 @@ impl Desk {
     ghost use Rattle.mwc_gather.specs.Inner.Desks.{IsOf, IsSameDesk, view_of, IsPartOfDesk, CanEndWith};
 
     /// Makes room for what is kept of a worker, and starts it.
-    pub fn open<'s, E, R: Threads + Wait + Sync, G: Told + Sync>(
+    pub fn open<'s, E, R: Threads + Wait + Sync, G: SliceObserver + Sync>(
         scope: &Scope<'s, E>,
         rt: &'s R,
         alloc: Global,
@@ -68,7 +70,7 @@ impl Desk {
     ) -> Result<Desk, GatherFault>
         requires worker { worker < WORKERS }
         requires gate { (j : ℕ) → j < 2 ^ job.now.bits → G.takes worker j }
-        ensures order { IfOk result (IsOf (slicing job.now.guarded job.now.bits) job.now.most) }
+        ensures order { IfOk result (IsOf (slices_of job.now) job.now.most) }
         ensures fresh { IfOk result (λ d. IsFresh (view_of d)) }
         ensures fault { IfErr result IsEarly }
     {
@@ -81,7 +83,11 @@ impl Desk {
             draft,
         } = Equipment::new(alloc, slice_count(job.bits))?;
         let given_job = job.given(&out, &list);
-        let own = job.share();
+        let own = Job {
+            guarded: job.guarded.share(),
+            bits: job.bits,
+            most: job.most,
+        };
         let pair = BellPair {
             own: &bells.workers[usize::from(worker)],
             other: &bells.gatherer,
@@ -90,7 +96,7 @@ impl Desk {
             requires worker { worker < WORKERS }
             requires fresh { (out.accepted ≡ []) × (list.taken ≡ []) }
             requires gate { (j : ℕ) → j < 2 ^ own.bits → G.takes worker j }
-            ensures { HasWorked (slicing own.entry.guarded own.entry.bits) own.entry.most
+            ensures { HasWorked (slices_of own.entry) own.entry.most
                 out list result }
         { work_beside(rt, &own, worker, out, list, pair) };
         let Ok(worker) = scope.spawn_with(given_job, body) else {
@@ -162,10 +168,9 @@ impl Desk {
         ensures cut { self.new.draft.cut ≡ false → self.old.draft.cut ≡ false }
     {
         let count = self.words.take_some(row);
-        let words = &row[..count];
-        self.draft.hear_row(words);
-        self.idle |= one_tells_whole(words);
-        self.ended |= one_is_end(words);
+        let news = self.draft.hear_row(&row[..count]);
+        self.idle |= news.done;
+        self.ended |= news.end;
         count
     }
 
@@ -231,40 +236,9 @@ fn put<R: Wait>(rt: &R, tasks: &mut RingIn, mut task: Word, pair: BellPair<'_>)
     unreachable!()
 }
 
-/// Whether a word tells that a slice is whole.
-fn tells_whole(word: &Word) -> bool
-    ensures { result ≡ is_done word.now }
-{
-    matches!(word, Word::Done(_))
-}
-
-/// Whether one of the words does.
-fn one_tells_whole(words: &[Word]) -> bool
-    ensures { result ≡ list_any is_done words.now }
-{
-    words.iter().any(tells_whole)
-}
-
-/// Whether a word is the last of a worker.
-fn is_end(word: &Word) -> bool
-    ensures { result ≡ is_end word.now }
-{
-    matches!(word, Word::End { cut: _ })
-}
-
-/// Whether one of the words is.
-fn one_is_end(words: &[Word]) -> bool
-    ensures { result ≡ list_any is_end words.now }
-{
-    words.iter().any(is_end)
-}
-
 /// Keeps all words that are left.
 fn drain(mut rest: Rest, draft: &mut Draft)
-    ensures keeps { (words : List Word)
-        → IsDraftOf words draft.old → IsDraftOf (words ++ rest) draft.new }
-    ensures lost { draft.new.lost ≡ false → draft.old.lost ≡ false }
-    ensures cut { draft.new.cut ≡ false → draft.old.cut ≡ false }
+    ensures { Hears draft.old rest draft.new }
 {
     while let Some(word) = rest.next() {
         draft.hear(word);

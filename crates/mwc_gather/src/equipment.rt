@@ -1,12 +1,13 @@
 //! What a desk is made of before its worker is started.
 ghost use Rattle.std.specs.Prelude.{◌≡◌, [], false, IfErr};
-ghost use Rattle.mwc_parts.specs.Drafts.{IsDraftOf};
-ghost use Rattle.mwc_parts.specs.Shared.Fault.{IsEarly};
+ghost use Rattle.mwc_gather.specs.Inner.Drafts.{IsDraftOf};
+ghost use Rattle.mwc_gather.specs.Inner.Fault.{IsEarly};
 ghost use Rattle.mwc_gather.specs.declared.equipment.TheConstants.{TASKS};
 
+use crate::draft::Draft;
+use crate::fault::GatherFault;
 use crate::parcel::WORDS;
-use mwc_parts::{Draft, GatherFault};
-use mwc_ring::{RingIn, RingOut, ring};
+use mwc_pipe::{RingIn, RingOut, ring};
 use std::alloc::Global;
 
 /// How many tasks a worker may be behind the gatherer.

@@ -1,27 +1,28 @@
 //! Workers that run beside each other.
-ghost use Rattle.std.specs.Prelude.{◌≡◌, ◌<◌, ◌≤◌, ◌^◌, All, List, ℕ, Option, None, false, IfOk, IfErr, length, vec_len};
+ghost use Rattle.std.specs.Prelude.{◌≡◌, ◌≢◌, ◌<◌, ◌≤◌, ◌^◌, All, List, ℕ, Option, Some, None, IfOk, IfErr, length, vec_len};
 ghost use Rattle.std.specs.Option.{is_some};
 ghost use Rattle.std.specs.List.{AllZip};
 ghost use Rattle.coalitions.specs.declared.limits.TheConstants.{BITS, WORKERS, COALITIONS};
 ghost use Rattle.council_game.specs.Votes.{minimal_coalitions};
 ghost use Rattle.council_game.specs.Game.{votes_of};
-ghost use Rattle.mwc_parts.specs.Shared.Dealing.{IsFresh};
-ghost use Rattle.mwc_parts.specs.Fault.{fault_of};
-ghost use Rattle.mwc_parts.specs.Shared.Fault.{fault_in, also_all};
-ghost use Rattle.mwc_gather.specs.Slicings.{slicing};
+ghost use Rattle.mwc_gather.specs.Inner.Dealing.{IsFresh};
+ghost use Rattle.mwc_gather.specs.Inner.Fault.{fault_in, first_of_all};
 ghost use Rattle.mwc_gather.specs.Inner.Desks.{AllOf, DealsTo, CanEndWith, HasStarted, views_of};
 ghost use Rattle.mwc_gather.specs.declared.dealing.Deal.{Deal};
 ghost use Rattle.mwc_gather.specs.Gathering.{Gathers};
-ghost use Rattle.mwc_gather.specs.Inner.Gathering.{all_total, IsComplete};
+ghost use Rattle.mwc_gather.specs.Inner.Gathering.{slices_of, all_total, Answers, IsComplete};
 
 use crate::dealing::Deal;
 use crate::desk::Desk;
-use crate::guarded::{Gate, Guarded};
+use crate::fault::{GatherFault, first_of};
+use crate::gathered::Gathered;
+use crate::guarded::Guarded;
 use crate::job::Job;
-use crate::lookout::{Lookout, NoLookout};
-use crate::told::Told;
+use crate::marks::Marks;
+use crate::observer::SliceObserver;
+use crate::part::{Part, fits};
 use crate::waiting::Bells;
-use mwc_parts::{GatherFault, Gathered, Marks, Met, Part, fits};
+use coalitions::Gate;
 use mwc_walk::slice_count;
 use std::alloc::Global;
 use std::sync::Wait;
@@ -55,49 +56,25 @@ pub fn gather<R: Threads + Wait + Sync, G: Gate + Sync>(
     ensures many { result ≡ Err GatherFault.TooMany
         → most < length (minimal_coalitions (votes_of guarded.now)) }
 {
-    gather_with_lookout(rt, alloc, guarded, &NoLookout, bits, workers, most)
-}
-
-/// As `gather`, and tells a lookout meanwhile how many prefixes were looked at.
-///
-/// # Errors
-///
-/// As for `gather`.
-pub fn gather_with_lookout<R: Threads + Wait + Sync, G: Gate + Sync, L: Lookout + Sync>(
-    rt: &R,
-    alloc: Global,
-    guarded: &Guarded<'_, G>,
-    lookout: &L,
-    bits: u8,
-    workers: u8,
-    most: u32,
-) -> Result<Gathered, GatherFault>
-    requires bits { (bits ≤ BITS) × (bits ≤ length guarded.now.names) }
-    requires workers { (1 ≤ workers) × (workers ≤ WORKERS) }
-    requires most { (1 ≤ most) × (most ≤ COALITIONS) }
-    ensures gathers { IfOk result (Gathers (votes_of guarded.now) bits workers most) }
-    ensures many { result ≡ Err GatherFault.TooMany
-        → most < length (minimal_coalitions (votes_of guarded.now)) }
-{
-    let told = guarded.gate_with(lookout);
-    let job = Job::new(&guarded.seen_by_workers(&told), bits, most);
+    let job = Job {
+        guarded: guarded.share(),
+        bits,
+        most,
+    };
     let bells = Bells::new();
-    let shared = &bells;
+    let bells = &bells;
     thread::scope(
         thread::scope_env(),
         rt,
         move |scope| -> Result<Gathered, GatherFault>
             requires { (1 ≤ workers) × (workers ≤ WORKERS) }
-            ensures gathers { IfOk result
-                (Gathers (votes_of job.entry.guarded) job.entry.bits workers job.entry.most) }
-            ensures many { result ≡ Err GatherFault.TooMany
-                → job.entry.most < length (minimal_coalitions (votes_of job.entry.guarded)) }
-        { run(scope, rt, alloc, &job, workers, shared) },
+            ensures { Answers job.entry workers result }
+        { run(scope, rt, alloc, &job, workers, bells) },
     )
 }
 
 /// Starts the workers, deals the slices while they run, and joins them.
-fn run<'s, E, R: Threads + Wait + Sync, G: Told + Sync>(
+fn run<'s, E, R: Threads + Wait + Sync, G: SliceObserver + Sync>(
     scope: &Scope<'s, E>,
     rt: &'s R,
     alloc: Global,
@@ -107,15 +84,12 @@ fn run<'s, E, R: Threads + Wait + Sync, G: Told + Sync>(
 ) -> Result<Gathered, GatherFault>
     requires workers { (1 ≤ workers) × (workers ≤ WORKERS) }
     requires gate { (w j : ℕ) → w < workers → j < 2 ^ job.now.bits → G.takes w j }
-    ensures gathers { IfOk result
-        (Gathers (votes_of job.now.guarded) job.now.bits workers job.now.most) }
-    ensures many { result ≡ Err GatherFault.TooMany
-        → job.now.most < length (minimal_coalitions (votes_of job.now.guarded)) }
+    ensures { Answers job.now workers result }
 {
     let (mut desks, met) = open_all(scope, rt, alloc, job, workers, bells);
     let mut deal = Deal {
         marks: Marks::new(slice_count(job.bits)),
-        stopped: met.fault().is_some(),
+        stopped: met.is_some(),
     };
     deal.read_all(rt, job, desks.as_mut_slice(), bells);
     let parts = finish_all(rt, alloc, job, desks, met)?;
@@ -124,11 +98,8 @@ fn run<'s, E, R: Threads + Wait + Sync, G: Told + Sync>(
 
 /// All that was gathered, unless there is more than was asked for.
 fn all_of<G>(job: &Job<'_, G>, workers: u8, parts: Vec<Part>) -> Result<Gathered, GatherFault>
-    requires { IsComplete (slicing job.now.guarded job.now.bits) workers parts.items }
-    ensures gathers { IfOk result
-        (Gathers (votes_of job.now.guarded) job.now.bits workers job.now.most) }
-    ensures many { result ≡ Err GatherFault.TooMany
-        → job.now.most < length (minimal_coalitions (votes_of job.now.guarded)) }
+    requires { IsComplete (slices_of job.now) workers parts.items }
+    ensures answers { Answers job.now workers result }
     ensures fault { IfErr result (λ fault. fault ≡ GatherFault.TooMany) }
 {
     if !fits(parts.as_slice(), job.most) {
@@ -140,40 +111,34 @@ fn all_of<G>(job: &Job<'_, G>, workers: u8, parts: Vec<Part>) -> Result<Gathered
     })
 }
 
-/// Starts the workers, until one cannot be started: their desks, and what was met. Room for the desks
-/// is made first.
-fn open_all<'s, E, R: Threads + Wait + Sync, G: Told + Sync>(
+/// Starts the workers, until one cannot be started, and returns their desks and why that was. Room
+/// for the desks is made first.
+fn open_all<'s, E, R: Threads + Wait + Sync, G: SliceObserver + Sync>(
     scope: &Scope<'s, E>,
     rt: &'s R,
     alloc: Global,
     job: &Job<'s, G>,
     workers: u8,
     bells: &'s Bells,
-) -> (Vec<Desk>, Met)
+) -> (Vec<Desk>, Option<GatherFault>)
     requires workers { (1 ≤ workers) × (workers ≤ WORKERS) }
     requires gate { (w j : ℕ) → w < workers → j < 2 ^ job.now.bits → G.takes w j }
     ensures few { vec_len result.0 ≤ workers }
-    ensures all { fault_of result.1 ≡ None → vec_len result.0 ≡ workers }
-    ensures met { HasStarted workers (vec_len result.0) result.1 }
-    ensures order { AllOf (slicing job.now.guarded job.now.bits) job.now.most result.0.items }
+    ensures started { HasStarted workers (vec_len result.0) result.1 }
+    ensures order { AllOf (slices_of job.now) job.now.most result.0.items }
     ensures fresh { All IsFresh (views_of result.0.items) }
 {
     let mut desks = Vec::new(alloc);
-    let mut met = Met::nothing();
     if desks.reserve(usize::from(workers)).is_err() {
-        met.note(GatherFault::Memory);
-        return (desks, met);
+        return (desks, Some(GatherFault::Memory));
     }
     for worker in 0..workers {
         match Desk::open(scope, rt, alloc, job, worker, bells) {
             Ok(desk) => desks.push_reserved(desk),
-            Err(why) => {
-                met.note(why);
-                return (desks, met);
-            }
+            Err(why) => return (desks, Some(why)),
         }
     }
-    (desks, met)
+    (desks, None)
 }
 
 /// Joins all workers, and gives the part of each, or the fault that goes before the others.
@@ -182,19 +147,19 @@ fn finish_all<R: Threads, G>(
     alloc: Global,
     job: &Job<'_, G>,
     desks: Vec<Desk>,
-    start: Met,
+    start: Option<GatherFault>,
 ) -> Result<Vec<Part>, GatherFault>
-    requires start { start.many ≡ false }
-    requires dealt { (deal : Deal) × DealsTo (slicing job.now.guarded job.now.bits) job.now.most
-        (is_some (fault_of start)) deal desks.items }
+    requires start { start ≢ Some GatherFault.TooMany }
+    requires dealt { (deal : Deal) × DealsTo (slices_of job.now) job.now.most
+        (is_some start) deal desks.items }
     ensures first { (whys : List (Option GatherFault))
-        × AllZip (CanEndWith (slicing job.now.guarded job.now.bits) job.now.most) desks.items whys
-        × (fault_in result ≡ fault_of (also_all start whys)) }
-    ensures none { IfOk result (λ v. fault_of start ≡ None) }
+        × AllZip (CanEndWith (slices_of job.now) job.now.most) desks.items whys
+        × (fault_in result ≡ first_of_all start whys) }
+    ensures none { IfOk result (λ v. start ≡ None) }
     ensures parts { IfOk result (λ v. 0 < vec_len desks
-        → IsComplete (slicing job.now.guarded job.now.bits) (vec_len desks) v.items) }
+        → IsComplete (slices_of job.now) (vec_len desks) v.items) }
     ensures many { result ≡ Err GatherFault.TooMany
-        → job.now.most < all_total (slicing job.now.guarded job.now.bits) }
+        → job.now.most < all_total (slices_of job.now) }
 {
     let mut met = start;
     let mut parts = Vec::new(alloc);
@@ -202,13 +167,13 @@ fn finish_all<R: Threads, G>(
         match desk.finish(rt) {
             Ok(part) => {
                 if parts.push(part).is_err() {
-                    met.note(GatherFault::Memory);
+                    met = Some(first_of(met, GatherFault::Memory));
                 }
             }
-            Err(why) => met.note(why),
+            Err(why) => met = Some(first_of(met, why)),
         }
     }
-    match met.fault() {
+    match met {
         Some(why) => Err(why),
         None => Ok(parts),
     }

@@ -4,10 +4,10 @@ ghost use Rattle.coalitions.specs.declared.limits.TheConstants.{BITS, COALITIONS
 
 use crate::guarded::Guarded;
 use crate::promise::GivenJob;
-use mwc_ring::{RingIn, RingOut};
+use mwc_pipe::{RingIn, RingOut};
 use std::snapshot::Snapshot;
 
-/// What the workers are to do: to list the slices of the game behind a gate at `bits` bits, up to `most`
+/// What the workers are to do: to list the slices of the game at `bits` bits, up to `most`
 /// coalitions.
 #[derive(Drop)]
 pub(crate) struct Job<'a, G> {
@@ -21,28 +21,7 @@ pub(crate) struct Job<'a, G> {
 }
 
 impl<'a, G> Job<'a, G> {
-    pub fn new(guarded: &Guarded<'a, G>, bits: u8, most: u32) -> Job<'a, G>
-        requires bits { (bits ≤ BITS) × (bits ≤ length guarded.now.names) }
-        requires most { (1 ≤ most) × (most ≤ COALITIONS) }
-        ensures game { result.guarded ≡ guarded.now }
-        ensures asked { (result.bits ≡ bits) × (result.most ≡ most) }
-    {
-        Job {
-            guarded: guarded.share(),
-            bits,
-            most,
-        }
-    }
-
-    /// The same job, for another thread.
-    pub fn share(&self) -> Job<'a, G>
-        ensures game { result.guarded ≡ self.now.guarded }
-        ensures asked { (result.bits ≡ self.now.bits) × (result.most ≡ self.now.most) }
-    {
-        Job::new(&self.guarded, self.bits, self.most)
-    }
-
-    /// The same as proofs see it, with the ends of the rings of a worker that it is given to.
+    /// Returns the job as proofs see it, with a worker's ends of its two rings.
     pub fn given(&self, out: &RingIn, tasks: &RingOut) -> GivenJob
         ensures game { result.game.value ≡ self.now.guarded }
         ensures asked { (result.bits ≡ self.now.bits) × (result.most ≡ self.now.most) }

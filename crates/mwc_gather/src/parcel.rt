@@ -2,7 +2,7 @@
 ghost use Rattle.std.specs.Prelude.{◌≡◌, ◌<◌, ◌↔◌, ◌++◌, ◌∷◌, [], IsTrue, IsFalse, length};
 ghost use Rattle.mwc_gather.specs.declared.parcel.TheConstants.{WORDS};
 
-use mwc_ring::Word;
+use mwc_pipe::Word;
 use std::marker::Model;
 
 /// How many words a parcel or a ring has room for: a worker may be that far ahead of the gatherer.
@@ -23,7 +23,7 @@ pub(crate) struct Parcel {
 
 impl Model for Parcel {
     ghost use Rattle.std.specs.Prelude.{◌≡◌, ◌≤◌, List, length, take};
-    ghost use Rattle.mwc_ring.specs.declared.word.Word.{Word};
+    ghost use Rattle.mwc_pipe.specs.declared.word.Word.{Word};
     ghost use Rattle.mwc_gather.specs.declared.parcel.TheConstants.{WORDS};
 
     ghost Value = { List Word };

@@ -1,9 +1,9 @@
 //! What a worker promises of its answer.
-ghost use Rattle.mwc_gather.specs.Slicings.{slicing};
+ghost use Rattle.mwc_gather.specs.Slicing.{slicing};
 ghost use Rattle.mwc_gather.specs.Sending.{HasWorked};
 
 use council_game::Game;
-use mwc_ring::{Closed, RingIn, RingOut, Unfinished};
+use mwc_pipe::{Closed, RingIn, RingOut, Unfinished};
 use std::snapshot::Snapshot;
 use std::thread::Promise;
 

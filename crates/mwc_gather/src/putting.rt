@@ -1,7 +1,7 @@
 //! Putting a row of words into a pipe.
 ghost use Rattle.std.specs.Prelude.{◌≡◌, ◌≤◌, ◌++◌, true, false, length, take};
 
-use mwc_ring::{PipeIn, Refused, RingIn, Word};
+use mwc_pipe::{PipeIn, Refused, RingIn, Word};
 
 /// How far a row of words came.
 #[derive(Clone, Copy)]

@@ -1,20 +1,19 @@
 //! Sending the words of a slice.
 ghost use Rattle.std.specs.Prelude.{◌≡◌, ◌<◌, ◌≤◌, ◌^◌, ◌++◌, ◌∷◌, [], IsTrue, IsFalse, true, length, ◌+◌};
 ghost use Rattle.coalitions.specs.declared.limits.TheConstants.{BITS, WORKERS, COALITIONS};
-ghost use Rattle.mwc_parts.specs.Slicing.{Slicing};
-ghost use Rattle.mwc_gather.specs.Slicings.{slicing};
+ghost use Rattle.mwc_gather.specs.Slicing.{slicing};
 ghost use Rattle.mwc_gather.specs.Sending.{Sends, BreaksOnlyIfRefused};
 ghost use Rattle.mwc_gather.specs.Inner.Sending.{SendsFirst, SendsSome};
 
-use crate::guarded::{Gate, Guarded};
-use crate::lookout::NoLookout;
+use crate::guarded::Guarded;
+use crate::observer::SliceObserver;
 use crate::parcel::Parcel;
+use crate::progress::Progress;
 use crate::putting::{PutsRows, WordByWord};
-use crate::seeking::{LastTold, next_told};
 use crate::sent::Sent;
-use crate::told::Told;
 use crate::waiting::{Bell, BellPair, Patience};
-use mwc_ring::{PipeIn, Word};
+use coalitions::Gate;
+use mwc_pipe::{PipeIn, Word};
 use mwc_walk::Walk;
 use std::sync::Wait;
 
@@ -127,20 +126,19 @@ pub fn send_slice<R: Wait, P: PipeIn<Word>, G: Gate>(
         own: &bell,
         other: &bell,
     };
-    let told = guarded.gate_with(&NoLookout);
-    let guarded = guarded.seen_by_workers(&told);
-    send_behind::<WordByWord, _, _, _>(rt, &guarded, bits, slice, worker, left, out, pair)
+    send_behind::<WordByWord, _, _, _>(rt, guarded, bits, slice, worker, left, out, pair)
 }
 
-/// As `send_slice`, by rows. Only here a gate is passed: whatever sends a slice comes by. It rings the
-/// other bell for what it has put in, and sleeps at its own.
-pub(crate) fn send_behind<W: PutsRows<P>, R: Wait, P: PipeIn<Word>, G: Told>(
+/// Sends a slice as `send_slice` does, and informs the gate how far it has come. Only here a gate is
+/// passed: whatever sends a slice comes by. It rings the other bell for what it has put in, and
+/// sleeps at its own.
+pub(crate) fn send_behind<W: PutsRows<P>, R: Wait, P: PipeIn<Word>, G: SliceObserver>(
     rt: &R,
     guarded: &Guarded<'_, G>,
     bits: u8,
     slice: u16,
     worker: u8,
-    left: u32,
+    mut left: u32,
     out: &mut P,
     pair: BellPair<'_>,
 ) -> Sent
@@ -153,32 +151,14 @@ pub(crate) fn send_behind<W: PutsRows<P>, R: Wait, P: PipeIn<Word>, G: Told>(
         (P.accepted out.new) (P.broken out.new) result }
     ensures unbroken { BreaksOnlyIfRefused (P.broken out.old) (P.broken out.new) result }
 {
-    let walk = Walk::new(guarded.behind(worker, slice), bits, slice);
-    send_walk::<W, _, _, _>(rt, guarded, walk, slice, left, out, pair)
-}
-
-/// Sends the words of a slice whose walk has it all still to give, as `send_behind`, and tells how far it has come.
-fn send_walk<W: PutsRows<P>, R: Wait, P: PipeIn<Word>, G: Told>(
-    rt: &R,
-    guarded: &Guarded<'_, G>,
-    mut walk: Walk<'_>,
-    slice: u16,
-    mut left: u32,
-    out: &mut P,
-    pair: BellPair<'_>,
-) -> Sent
-    requires left { (0 < left) × (left ≤ COALITIONS + 1) }
-    ensures identity { P.identity out.new ≡ P.identity out.old }
-    ensures sends { (g : Slicing) → g.slice slice ≡ walk.entry.to_come
-        → Sends g slice left (P.accepted out.old) (P.accepted out.new) (P.broken out.new) result }
-    ensures unbroken { BreaksOnlyIfRefused (P.broken out.old) (P.broken out.new) result }
-{
+    let mut walk = Walk::new(guarded.admit(worker, slice), bits, slice);
     let mut parcel = Parcel::new();
     parcel.push(Word::Open(slice));
-    let mut last = LastTold::nothing(&walk, left);
-    while let Some(coalition) = next_told(guarded, &mut walk, &mut last, left) {
+    let mut progress = Progress::new();
+    while let Some(coalition) = progress.next(guarded, &mut walk) {
         let word = Word::One(coalition);
         if left == 1 {
+            progress.report(guarded, &walk);
             if !send_last::<W, _, _>(rt, &mut parcel, word, out, pair) {
                 return Sent::Refused;
             }
@@ -189,6 +169,7 @@ fn send_walk<W: PutsRows<P>, R: Wait, P: PipeIn<Word>, G: Told>(
         }
         left -= 1;
     }
+    progress.report(guarded, &walk);
     if !send_last::<W, _, _>(rt, &mut parcel, Word::Done(slice), out, pair) {
         return Sent::Refused;
     }

@@ -1,21 +1,22 @@
 //! The body of a worker's thread.
 ghost use Rattle.std.specs.Prelude.{◌≡◌, ℕ, ◌+◌, ◌<◌, ◌≤◌, ◌^◌, ◌++◌, ◌∷◌, [], length, IfOk, MatchOption};
 ghost use Rattle.coalitions.specs.declared.limits.TheConstants.{BITS, WORKERS, COALITIONS};
-ghost use Rattle.mwc_gather.specs.Slicings.{slicing};
+ghost use Rattle.mwc_gather.specs.Inner.Gathering.{slices_of};
+ghost use Rattle.mwc_gather.specs.Slicing.{slicing};
 ghost use Rattle.mwc_gather.specs.Sending.{HasWorked};
 ghost use Rattle.mwc_gather.specs.Inner.Sending.{TakesLast, TakesTask};
-ghost use Rattle.mwc_parts.specs.Wording.{IsLast};
-ghost use Rattle.mwc_ring.specs.declared.word.Word.TheVariants.{End, Open};
+ghost use Rattle.mwc_gather.specs.Wording.{IsLast};
+ghost use Rattle.mwc_pipe.specs.declared.word.Word.TheVariants.{End, Open};
 
-use crate::guarded::{Gate, Guarded};
+use crate::guarded::Guarded;
 use crate::job::Job;
-use crate::lookout::NoLookout;
+use crate::observer::SliceObserver;
 use crate::putting::RowByRow;
 use crate::send::{send, send_behind};
 use crate::sent::Sent;
-use crate::told::Told;
 use crate::waiting::{Bell, BellPair, Patience};
-use mwc_ring::{Closed, RingIn, RingOut, Unfinished, Word};
+use coalitions::Gate;
+use mwc_pipe::{Closed, RingIn, RingOut, Unfinished, Word};
 use mwc_walk::slice_count;
 use std::sync::Wait;
 
@@ -94,13 +95,16 @@ pub fn work<R: Wait, G: Gate>(
         own: &bell,
         other: &bell,
     };
-    let told = guarded.gate_with(&NoLookout);
-    let job = Job::new(&guarded.seen_by_workers(&told), bits, most);
+    let job = Job {
+        guarded: guarded.share(),
+        bits,
+        most,
+    };
     work_beside(rt, &job, worker, out, tasks, pair)
 }
 
 /// As `work`. It rings the other bell for what it has put in or taken, and sleeps at its own.
-pub(crate) fn work_beside<R: Wait, G: Told>(
+pub(crate) fn work_beside<R: Wait, G: SliceObserver>(
     rt: &R,
     job: &Job<'_, G>,
     worker: u8,
@@ -111,7 +115,7 @@ pub(crate) fn work_beside<R: Wait, G: Told>(
     requires worker { worker < WORKERS }
     requires fresh { (out.accepted ≡ []) × (tasks.taken ≡ []) }
     requires gate { (j : ℕ) → j < 2 ^ job.now.bits → G.takes worker j }
-    ensures { HasWorked (slicing job.now.guarded job.now.bits) job.now.most out tasks result }
+    ensures { HasWorked (slices_of job.now) job.now.most out tasks result }
 {
     let slices = slice_count(job.bits);
     let mut left = job.most + 1;

@@ -6,13 +6,13 @@ use Rattle.std.proofs.{Math.Bool.or-false, Math.Bool.or-true, Math.Bool.or_assoc
 use Rattle.std.proofs.lemmas.{Bool.Decides.nat_tests, List.map-append, List.take_more, List.Folds.list_any-append, Option.slice_get-map}
 use Rattle.std.proofs.lemmas.{Bool.cases_Bool, Grind.common_steps}
 use Rattle.std.specs.List.{list_any}
-use Rattle.mwc_ring.specs.declared.{reply.Reply.Reply, reply.Reply.TheVariants.Accepted, reply.Reply.TheVariants.First, step.Step.Step}
-use Rattle.mwc_ring.specs.declared.step.Step.TheVariants.{Put, Take, Close}
-use Rattle.mwc_ring.specs.PipeView.{PipeView, Leaves, IsStep}
-use Rattle.mwc_ring.specs.History.{Event, item_in, item_out, is_close, has_close, items_in, items_out, reply_to, history_after, history}
-use Rattle.mwc_ring.specs.History.{replies}
+use Rattle.mwc_pipe.specs.declared.{reply.Reply.Reply, reply.Reply.TheVariants.Accepted, reply.Reply.TheVariants.First, step.Step.Step}
+use Rattle.mwc_pipe.specs.declared.step.Step.TheVariants.{Put, Take, Close}
+use Rattle.mwc_pipe.specs.PipeView.{PipeView, Leaves, IsStep}
+use Rattle.mwc_pipe.specs.History.{Event, item_in, item_out, is_close, has_close, items_in, items_out, reply_to, history_after, history}
+use Rattle.mwc_pipe.specs.History.{replies}
 use Rattle.mwc_pipe.specs.Laws.{NothingIsLost, NothingEntersAfterClose, EachReplyIsCounted, HasPast}
-use Rattle.mwc_ring.proofs.Shared.Counting.{holding, stepped, reply_is, leaves_step, inside_count, get_after}
+use Rattle.mwc_pipe.proofs.Counting.{holding, stepped, reply_is, leaves_step, inside_count, get_after}
 
 get_first : {X : Type 0} (xs ys : List X) (k : ℕ) (x : X) → slice_get xs k ≡ Some x → slice_get (xs ++ ys) k ≡ Some x
 get_first [] ys k x e = absurd (cc)

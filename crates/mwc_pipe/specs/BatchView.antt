@@ -1,7 +1,7 @@
 -- What contracts see of a batch.
 use Rattle.std.specs.Prelude.{ℕ, Bool, false, List}
-use Rattle.mwc_ring.specs.declared.word.Word.{Word}
-use Rattle.mwc_ring.specs.PipeView.{PipeView}
+use Rattle.mwc_pipe.specs.declared.word.Word.{Word}
+use Rattle.mwc_pipe.specs.PipeView.{PipeView}
 
 -- the capacity, the accepted words, oldest first, and whether it is broken
 pub record BatchView : Type 0 where

@@ -1,12 +1,12 @@
 -- The calls of a pipe, and the replies that they stand for.
 use Rattle.std.specs.Prelude.{◌≡◌, Bool, true, false, [], ◌∷◌, Option, Some, None, Result, Ok, Err, if◌then◌else◌}
-use Rattle.mwc_ring.specs.declared.refused.Refused.{Refused}
-use Rattle.mwc_ring.specs.declared.refused.Refused.TheVariants as refused
+use Rattle.mwc_pipe.specs.declared.refused.Refused.{Refused}
+use Rattle.mwc_pipe.specs.declared.refused.Refused.TheVariants as refused
 use Rattle.mwc_pipe.specs.declared.taken.Taken.{Taken}
 use Rattle.mwc_pipe.specs.declared.taken.Taken.TheVariants as taken
-use Rattle.mwc_ring.specs.declared.reply.Reply.{Reply}
-use Rattle.mwc_ring.specs.declared.reply.Reply.TheVariants as reply
-use Rattle.mwc_ring.specs.PipeView.{PipeView}
+use Rattle.mwc_pipe.specs.declared.reply.Reply.{Reply}
+use Rattle.mwc_pipe.specs.declared.reply.Reply.TheVariants as reply
+use Rattle.mwc_pipe.specs.PipeView.{PipeView}
 
 module _ {T : Type 0} where
   -- the reply to a put; a refusal for want of memory is none

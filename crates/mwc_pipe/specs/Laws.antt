@@ -1,11 +1,11 @@
 -- What holds of every list of steps.
 use Rattle.std.specs.Prelude.{◌≡◌, ℕ, ◌<◌, ◌≤◌, List, length, take, Some, slice_get}
-use Rattle.mwc_ring.specs.declared.step.Step.{Step}
-use Rattle.mwc_ring.specs.declared.step.Step.TheVariants.{Put, Close}
-use Rattle.mwc_ring.specs.declared.reply.Reply.{Reply}
-use Rattle.mwc_ring.specs.declared.reply.Reply.TheVariants.{Closed}
-use Rattle.mwc_ring.specs.History.{Event, history, items_in, items_out, replies, reply_to, IsLawful}
-use Rattle.mwc_ring.specs.PipeView.{PipeView, Leaves}
+use Rattle.mwc_pipe.specs.declared.step.Step.{Step}
+use Rattle.mwc_pipe.specs.declared.step.Step.TheVariants.{Put, Close}
+use Rattle.mwc_pipe.specs.declared.reply.Reply.{Reply}
+use Rattle.mwc_pipe.specs.declared.reply.Reply.TheVariants.{Closed}
+use Rattle.mwc_pipe.specs.History.{Event, history, items_in, items_out, replies, reply_to, IsLawful}
+use Rattle.mwc_pipe.specs.PipeView.{PipeView, Leaves}
 
 module _ {T : Type 0} where
   -- what was taken is the beginning of what was accepted, and the rest has at most `capacity` items

@@ -1,3 +1,10 @@
+pub mod History
+pub mod PipeView
+pub mod Refusal
+pub mod RowSteps
+pub mod RingName
+pub mod RingViews
 pub mod Laws
 pub mod Calls
 pub mod BatchView
+pub mod Inner

@@ -1,13 +1,15 @@
 //! A pipe of words that is only filled.
 ghost use Rattle.std.specs.Prelude.{◌≡◌, ◌≢◌, ◌≤◌, ◌^◌, ◌↔◌, ◌++◌, ◌∷◌, [], ℕ, length, true, false, OnOk, IfErr, IfSome};
-ghost use Rattle.mwc_ring.specs.Refusal.{handed_back, broken_after};
+ghost use Rattle.mwc_pipe.specs.Refusal.{PutsIn};
 ghost use Rattle.mwc_pipe.specs.Calls.{reply_of_put};
-ghost use Rattle.mwc_ring.specs.PipeView.{IsStep};
+ghost use Rattle.mwc_pipe.specs.PipeView.{IsStep};
 ghost use Rattle.mwc_pipe.specs.BatchView.{still_open};
-ghost use Rattle.mwc_ring.specs.declared.step.Step.TheVariants.{Put};
+ghost use Rattle.mwc_pipe.specs.declared.step.Step.TheVariants.{Put};
 
 use crate::pipe::Pipe;
-use mwc_ring::{PipeIn, Refused, Word};
+use crate::pipe_in::PipeIn;
+use crate::refused::Refused;
+use crate::word::Word;
 use std::alloc::Global;
 use std::marker::Model;
 
@@ -71,11 +73,8 @@ impl PipeIn<Word> for Batch {
     /// never refused as Closed.
     fn put(&mut self, item: Word) -> Result<(), Refused<Word>>
         ensures identity { self.new.capacity ≡ self.old.capacity }
-        ensures ok { OnOk result ((self.new.accepted ≡ self.old.accepted ++ item ∷ [])
-            × (self.new.broken ≡ self.old.broken)) }
-        ensures refused { IfErr result (λ e. (handed_back e ≡ item)
-            × (self.new.accepted ≡ self.old.accepted)
-            × (self.new.broken ≡ broken_after e self.old.broken)) }
+        ensures put { PutsIn item self.old.accepted self.old.broken result
+            self.new.accepted self.new.broken }
         ensures open { result ≢ Err (Refused.Closed item) }
         ensures full { (result ≡ Err (Refused.Full item))
             ↔ (length self.old.accepted ≡ self.old.capacity) }

@@ -1,9 +1,9 @@
 //! Laws of the definitions, each the contract of a function that does nothing.
 ghost use Rattle.std.specs.Prelude.{ℕ, List};
-ghost use Rattle.mwc_ring.specs.History.{replies};
+ghost use Rattle.mwc_pipe.specs.History.{replies};
 ghost use Rattle.mwc_pipe.specs.Laws.{NothingIsLost, NothingEntersAfterClose, EachReplyIsCounted, HasPast};
-ghost use Rattle.mwc_ring.specs.PipeView.{PipeView};
-ghost use Rattle.mwc_ring.specs.declared.step.Step.{Step};
+ghost use Rattle.mwc_pipe.specs.PipeView.{PipeView};
+ghost use Rattle.mwc_pipe.specs.declared.step.Step.{Step};
 
 /// What came out is the beginning of what went in, and at most `capacity` items are left.
 #[tactic(auto, using(crate::proofs::WholeRuns::laws))]

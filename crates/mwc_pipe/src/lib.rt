@@ -1,22 +1,44 @@
-//! A bounded queue with a close, as a pure machine, and the ring between two threads under the same law.
+//! A bounded queue that can be closed, as a pure machine, and the ring between two threads that
+//! keeps the same law.
 //!
 //! ```text
 //! let mut pipe = Pipe::new(alloc, 2);
 //! let put = pipe.put(7);
 //! let taken = pipe.take();
+//!
+//! let (mut words, mut out) = ring(alloc, 64)?;
+//! let put = words.put_some(&row);
+//! let taken = out.take_some(&mut into);
 //! ```
 #![tactic(auto)]
 
 mod batch;
+mod closed;
 pub mod laws;
 mod pipe;
+mod pipe_in;
+mod refused;
+mod reply;
+mod rest;
+mod ring_in;
+mod ring_out;
+mod rings;
+mod step;
 mod taken;
 mod trace;
+mod word;
 
 pub use batch::Batch;
-pub use mwc_ring::{
-    Closed, PipeIn, Refused, Reply, Rest, RingIn, RingOut, Step, Unfinished, Word, ring,
-};
+pub use closed::{Closed, Unfinished};
 pub use pipe::Pipe;
+pub use pipe_in::PipeIn;
+pub use refused::Refused;
+pub use reply::Reply;
+pub use rest::Rest;
+pub use ring_in::RingIn;
+pub use ring_out::RingOut;
+pub use rings::ring;
+pub use step::Step;
 pub use taken::Taken;
 pub use trace::{Trace, replay};
+pub use word::Word;

@@ -1,12 +1,12 @@
 //! A bounded queue with a close.
 ghost use Rattle.std.specs.Prelude.{◌≡◌, ◌≤◌, ◌<◌, ◌^◌, ◌↔◌, [], ◌∷◌, ◌++◌, length, true, false, not, OnOk, IfErr, IfSome};
-ghost use Rattle.mwc_ring.specs.PipeView.{IsStep};
-ghost use Rattle.mwc_ring.specs.Refusal.{handed_back};
+ghost use Rattle.mwc_pipe.specs.PipeView.{IsStep};
+ghost use Rattle.mwc_pipe.specs.Refusal.{handed_back};
 ghost use Rattle.mwc_pipe.specs.Calls.{reply_of_put, reply_of_taken, reply_of_close, TakesOut};
-ghost use Rattle.mwc_ring.specs.declared.step.Step.TheVariants.{Put, Take, Close};
+ghost use Rattle.mwc_pipe.specs.declared.step.Step.TheVariants.{Put, Take, Close};
 
+use crate::refused::Refused;
 use crate::taken::Taken;
-use mwc_ring::Refused;
 use std::alloc::Global;
 use std::collections::VecDeque;
 use std::marker::Model;
@@ -23,7 +23,7 @@ pub struct Pipe<T> {
 
 impl<T> Model for Pipe<T> {
     ghost use Rattle.std.specs.Prelude.{◌≤◌, ◌^◌, length};
-    ghost use Rattle.mwc_ring.specs.PipeView.{PipeView};
+    ghost use Rattle.mwc_pipe.specs.PipeView.{PipeView};
 
     ghost Value = { PipeView T };
 

@@ -2,14 +2,16 @@
 ghost use Rattle.std.specs.Prelude.{◌≡◌, ◌≤◌, ◌^◌, [], ◌∷◌, ◌++◌, length, false, IfOk, OnOk};
 ghost use Rattle.std.specs.Option.{option_to_list};
 ghost use Rattle.std.specs.List.{list_any};
-ghost use Rattle.mwc_ring.specs.PipeView.{IsStep, Leaves};
-ghost use Rattle.mwc_ring.specs.History.{history, replies, items_in, items_out, is_close, item_in, item_out, IsLawful};
+ghost use Rattle.mwc_pipe.specs.PipeView.{IsStep, Leaves};
+ghost use Rattle.mwc_pipe.specs.History.{history, replies, items_in, items_out, is_close, item_in, item_out, IsLawful};
 ghost use Rattle.mwc_pipe.specs.Laws.{NothingEntersAfterClose};
 
 use crate::pipe::Pipe;
+use crate::refused::Refused;
+use crate::reply::Reply;
+use crate::step::Step;
 use crate::taken::Taken;
 use coalitions::Memory;
-use mwc_ring::{Refused, Reply, Step};
 use std::alloc::Global;
 
 /// What a pipe made of a list of steps.
@@ -78,9 +80,12 @@ impl<T: Copy> Trace<T> {
         ensures gone { OnOk result
             (self.new.gone.items ≡ self.old.gone.items ++ option_to_list (item_out (step, reply))) }
     {
-        keep(&mut self.came, accepted_item(step, reply))?;
-        keep(&mut self.gone, taken_item(step, reply))?;
         self.replies.push(reply)?;
+        match (step, reply) {
+            (Step::Put(item), Reply::Accepted) => self.came.push(item)?,
+            (Step::Take, Reply::Item(item)) => self.gone.push(item)?,
+            _ => {}
+        }
         Ok(())
     }
 
@@ -129,42 +134,6 @@ fn serve<T: Copy>(pipe: &mut Pipe<T>, step: Step<T>) -> Result<Reply<T>, Memory>
             }
         }
     }
-}
-
-/// The item of a put that was accepted.
-fn accepted_item<T: Copy>(step: Step<T>, reply: Reply<T>) -> Option<T>
-    ensures { result ≡ item_in (step, reply) }
-{
-    match step {
-        Step::Put(item) => match reply {
-            Reply::Accepted => Some(item),
-            _ => None,
-        },
-        _ => None,
-    }
-}
-
-/// The item that a take was answered by.
-fn taken_item<T: Copy>(step: Step<T>, reply: Reply<T>) -> Option<T>
-    ensures { result ≡ item_out (step, reply) }
-{
-    match step {
-        Step::Take => match reply {
-            Reply::Item(item) => Some(item),
-            _ => None,
-        },
-        _ => None,
-    }
-}
-
-/// Notes the item, if there is one.
-fn keep<T: Copy>(items: &mut Vec<T>, item: Option<T>) -> Result<(), Memory>
-    ensures { OnOk result (items.new.items ≡ items.old.items ++ option_to_list item) }
-{
-    if let Some(item) = item {
-        items.push(item)?;
-    }
-    Ok(())
 }
 
 /// What is left inside, oldest first.

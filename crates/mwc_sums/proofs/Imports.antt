@@ -1,4 +1,4 @@
--- The words of other libraries and of the definitions that two or more files of these proofs take; `tools/imports.py` writes them.
+-- The words of other libraries and of the definitions that two or more files of these proofs take.
 pub use Rattle.coalitions.proofs.Shared.{Lists.filter-both, Lists.sum-plus, Lists.sum-zero, Ranges.sum_by-range-more}
 pub use Rattle.council_game.proofs.Shared.{Making.RanksAre, Making.ranks-are, Weights.weight-without, WinningByPlaces.rule-is}
 pub use Rattle.council_game.proofs.Shared.{Listing.down-below, Rankings.places-at, RuleLists.held_full}

@@ -2,16 +2,16 @@
 mod asked;
 mod gates;
 mod refusals;
+mod tallies;
 mod texts;
-mod watches;
 
 ghost use Rattle.std.specs.Prelude.{◌≤◌, ◌<◌};
 ghost use Rattle.coalitions.specs.declared.limits.TheConstants.{BITS, COALITIONS, WORKERS};
 
 use crate::helpers::same;
 use council_game::GameFault;
-use council_report::Shown;
-use council_run::{Cause, NoWatch, Options, RunFault, run, status, tally};
+use council_report::ReportLines;
+use council_run::{Cause, Options, RunFault, run, status, tally};
 use mwc_gather::{Gate, GatherFault, NoGate};
 use std::alloc::Global;
 use std::io::{Error, ErrorKind, Read, Write};
@@ -62,33 +62,33 @@ const FIVE_REPORT: &[u8] = b"members\t5\n\
     member\t5\t15\t3\t11/60\t0.183333\t1/5\t0.200000\n";
 
 /// No line beside those that each report has.
-const NO_LINES: Shown = Shown {
+const NO_LINES: ReportLines = ReportLines {
     list: false,
     sizes: false,
     notation: false,
 };
 
 /// A line for each coalition and for each size.
-const LISTED: Shown = Shown {
+const LISTED: ReportLines = ReportLines {
     list: true,
     sizes: true,
     notation: false,
 };
 
 /// A line for each coalition.
-const LIST: Shown = Shown {
+const LIST: ReportLines = ReportLines {
     list: true,
     ..NO_LINES
 };
 
 /// A line with the notation of each rule.
-const NOTATION: Shown = Shown {
+const NOTATION: ReportLines = ReportLines {
     notation: true,
     ..NO_LINES
 };
 
 /// Options of these numbers, under which a report shows these lines.
-fn options(workers: u8, bits: u8, most: u32, shown: Shown) -> Options
+fn options(workers: u8, bits: u8, most: u32, shown: ReportLines) -> Options
     requires workers { (1 ≤ workers) × (workers ≤ WORKERS) }
     requires bits { bits ≤ BITS }
     requires most { (1 ≤ most) × (most ≤ COALITIONS) }
@@ -585,7 +585,6 @@ fn statuses(rt: HostRuntime) {
         (Cause::Gather(GatherFault::Ring), 5, 2),
         (Cause::Write, 5, 3),
         (Cause::Memory, 5, 4),
-        (Cause::Stopped, 5, 5),
     ];
     for (cause, wanted, number) in causes {
         same(

@@ -1,4 +1,7 @@
 //! What the tests of this crate share.
+use council_game::{Game, Rule};
+use mwc_pipe::{PipeIn, Word};
+use std::alloc::Global;
 use std::fmt::Debug;
 use std::io::Print;
 use std::process::Abort;
@@ -16,4 +19,49 @@ pub(crate) fn same<T: PartialEq + Debug + Drop, L: Debug + Drop>(
 /// Prints a line, for `tests/refusals.sh`.
 pub(crate) fn say<R: Abort + Print>(rt: &R, line: &str) {
     rt.println(line).expect(rt, "the line is printed");
+}
+
+/// Prints whether a call that takes memory worked.
+pub(crate) fn say_memory<R: Abort + Print>(rt: &R, worked: bool) {
+    say(rt, if worked { "worked" } else { "out of memory" });
+}
+
+/// Puts the word in until it is refused, at most `most` times, and says how often it went in.
+pub(crate) fn fill<P: PipeIn<Word>>(pipe: &mut P, word: Word, most: u32) -> u32 {
+    for done in 0..most {
+        // a copy for the call: the prover does not follow a word that is given away in a loop
+        let again = word;
+        if pipe.put(again).is_err() {
+            return done;
+        }
+    }
+    most
+}
+
+/// The game of these rules, its members named M0, M1, ..
+pub(crate) fn game_of(rt: &impl Abort, alloc: Global, rules: Vec<Rule>) -> Game {
+    assert!(rt; 1 <= rules.len() && rules.len() <= 4);
+    let mut names = Vec::new(alloc);
+    for member in 0..rules[0].weights.len() {
+        let name = format!(in alloc; "M{member}").expect(rt, "a name");
+        names.push(name).expect(rt, "room");
+    }
+    assert!(rt; rules.iter().all(|rule| rule.weights.len() == names.len()));
+    Game::with_rules(alloc, None, names, rules).expect(rt, "a game")
+}
+
+/// The game of rules that have these quotas and weights.
+pub(crate) fn game_of_rules(rt: &impl Abort, alloc: Global, rules: &[(u64, &[u64])]) -> Game {
+    let mut own = Vec::new(alloc);
+    for (quota, weights) in rules {
+        let weights = weights.to_vec(alloc).expect(rt, "weights");
+        let quota = *quota;
+        own.push(Rule { quota, weights }).expect(rt, "room");
+    }
+    game_of(rt, alloc, own)
+}
+
+/// The game of one rule.
+pub(crate) fn game(rt: &impl Abort, alloc: Global, quota: u64, weights: &[u64]) -> Game {
+    game_of_rules(rt, alloc, &[(quota, weights)])
 }

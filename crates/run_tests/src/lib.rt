@@ -1,6 +1,6 @@
-//! The tests of `council_run` and `uses`, which need their public calls alone: whole runs and tallies, and the
-//! functions of callers.
-//! They stand in one crate, since a check loads the statements of the libraries once.
+//! Tests of threads and rings: pipes, gatherings, tallies and whole runs.
+//!
+//! Each module `NAME_tests` tests the public calls of the crate NAME.
 #![tactic(auto)]
 
 #[cfg(test)]
@@ -8,4 +8,8 @@ mod council_run_tests;
 #[cfg(test)]
 mod helpers;
 #[cfg(test)]
-mod uses_tests;
+mod mwc_gather_tests;
+#[cfg(test)]
+mod mwc_pipe_tests;
+#[cfg(test)]
+mod mwc_tally_tests;

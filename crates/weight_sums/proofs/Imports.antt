@@ -1,4 +1,4 @@
--- The words of other libraries and of the definitions that two or more files of these proofs take; `tools/imports.py` writes them.
+-- The words of other libraries and of the definitions that two or more files of these proofs take.
 pub use Rattle.coalitions.proofs.Shared.Lists.{get_or-zeros, sum-zero}
 pub use Rattle.std.proofs.Common.{length, length-take, ltb, mul-le-mul_left, mul-le-mul_right, pow_mono, pow_pos, refl, replicate, set, suc}
 pub use Rattle.std.proofs.Common.{All, Bool, List, [], ap, arith, cond, drop, eqb, false, get_or, get_or-set_other, get_or-set_same, leb}

@@ -1,14 +1,13 @@
--- What the words of a command line ask of a run.
-use Rattle.std.specs.Prelude.{◌≡◌, ◌≤◌, false, if◌then◌else◌}
-use Rattle.coalitions.specs.declared.shown.Shown.{Shown}
-use Rattle.council_game.specs.Game.{GameView}
-use Rattle.council_words.specs.declared.words.Wanted.{Wanted}
-use Rattle.council_run.specs.Run.{count_of}
+-- What a command line asks of a run.
+use Rattle.std.specs.Prelude.{ℕ, Option, None, Some, if◌then◌else◌}
+use Rattle.coalitions.specs.Options.{lines_of, without_list}
+use Rattle.coalitions.specs.declared.report_lines.ReportLines.{ReportLines}
+use Rattle.council_words.specs.declared.words.Arguments.{Arguments}
 
--- the lines of the report: a tally has none for a coalition
-abbrev pub lines_wanted : Wanted → Shown
-lines_wanted w = record { list = (if w.tally then false else w.shown.list); sizes = w.shown.sizes; notation = w.shown.notation }
+-- the optional lines of the report: a tally has none for a coalition
+abbrev pub lines_wanted : Arguments → ReportLines
+lines_wanted a = if a.tally then without_list (lines_of a.options) else lines_of a.options
 
--- a run takes as many minimal winning coalitions as the words say, a tally any number
-abbrev pub IsTaken : Wanted → GameView → Type 0
-IsTaken w g = w.tally ≡ false → count_of g ≤ w.most
+-- a run takes as many minimal winning coalitions as the options say, a tally any number
+abbrev pub limit_wanted : Arguments → Option ℕ
+limit_wanted a = if a.tally then None else Some a.options.most

@@ -1,5 +1,5 @@
 -- The tables of a game that is made.
-use Rattle.council_game.proofs.Imports.{recursion_from_All, or_parts, common_steps, Rule, RuleView, IsVotes, votes, nat_tests, ◌≡◌, ℕ, ◌-◌}
+use Rattle.council_game.proofs.Imports.{recursion_from_All, or_parts, common_steps, Rule, RuleView, IsVotes, votes, nat_tests, ◌≡◌, ℕ}
 use Rattle.council_game.proofs.Imports.{rule_along, rule_view, rule_views, GameView, IsGame, made_game, first_weights, total, votes_of}
 use Rattle.council_game.proofs.Imports.{Option, Ok, AllByRecursion, length-map, member_at, rank_places, members_by_rank, rule_by_rank}
 use Rattle.council_game.proofs.Imports.{◌<◌, ◌≤◌, List, [], ◌∷◌, length, get_or, map, sum, refl, sym, ap, ◌∙◌, subst, arith, All}

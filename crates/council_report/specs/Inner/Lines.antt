@@ -1,7 +1,7 @@
 -- The lines of sizes and members, from the counts of a list that need not be there.
 use Rattle.std.specs.Prelude.{ℕ, List, [], ◌++◌, if◌then◌else◌}
 use Rattle.std.specs.List.{flat_map, range_with_len}
-use Rattle.coalitions.specs.declared.shown.Shown.{Shown}
+use Rattle.coalitions.specs.declared.report_lines.ReportLines.{ReportLines}
 use Rattle.power_index.specs.Fractions.{lowest_terms}
 use Rattle.power_index.specs.Tables.{table_of_size, table_of_member, table_of_member_size, table_deegan_packel, table_public_good}
 use Rattle.council_report.specs.declared.counted.Counted.{Counted}
@@ -16,12 +16,12 @@ line_of_member k i =
     member_line k.game.now i (table_of_member k.counts.now i)
     (lowest_terms (table_deegan_packel k.counts.now i)) (lowest_terms (table_public_good k.counts.now i))
 
-abbrev pub lines_of_sizes : Shown → Counted → List ℕ
+abbrev pub lines_of_sizes : ReportLines → Counted → List ℕ
 lines_of_sizes shown k = if shown.sizes then flat_map (line_of_size k) (range_with_len 1 k.members) else []
 
 abbrev pub lines_of_members : Counted → List ℕ
 lines_of_members k = flat_map (line_of_member k) (range_with_len 0 k.members)
 
 -- the lines after the heading
-unfoldable pub lines_of : Shown → Counted → List ℕ → List ℕ
+unfoldable pub lines_of : ReportLines → Counted → List ℕ → List ℕ
 lines_of shown k list = coalition_lines shown k.game.now list ++ lines_of_sizes shown k ++ lines_of_members k

@@ -2,7 +2,7 @@
 //! the line of the answer, one after the other.
 use super::*;
 use crate::helpers::say;
-use council_text::{push_decimal, push_joined};
+use council_game::{push_decimal, push_joined};
 use std::io::Print;
 
 /// Tells the answer of a call that makes a game: what is shown of the game here, or want of memory.

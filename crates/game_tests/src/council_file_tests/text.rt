@@ -1,6 +1,6 @@
 //! Numbers put behind a text, one by one and in a row.
 use super::same;
-use council_text::{push_decimal, push_joined};
+use council_game::{push_decimal, push_joined};
 
 #[test]
 fn puts_numbers_behind_a_text(rt: HostRuntime) {

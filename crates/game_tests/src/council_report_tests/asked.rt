@@ -89,7 +89,7 @@ fn writes_in_blocks_and_flushes_once(rt: HostRuntime) {
     let alloc = rt.alloc();
     let game = game(&rt, alloc);
     let list = listing(&rt, alloc, &game, 16_383);
-    let shown = Shown {
+    let shown = ReportLines {
         list: true,
         sizes: true,
         notation: false,
@@ -112,7 +112,7 @@ fn no_failure_is_tried_again(rt: HostRuntime) {
     let alloc = rt.alloc();
     let game = game(&rt, alloc);
     let list = listing(&rt, alloc, &game, 16_383);
-    let shown = Shown {
+    let shown = ReportLines {
         list: false,
         sizes: true,
         notation: false,

@@ -41,7 +41,7 @@ fn writes_a_tally(rt: HostRuntime) {
     assert!(rt; list.len() == 2_650);
     minimal_coalitions_can_be_counted();
     let counts = Counts::of(&game, &list);
-    let shown = Shown {
+    let shown = ReportLines {
         list: false,
         sizes: true,
         notation: true,

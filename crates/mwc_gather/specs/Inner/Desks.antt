@@ -1,19 +1,20 @@
 -- What the workers of some desks were given.
-use Rattle.std.specs.Prelude.{◌≡◌, ◌≢◌, ◌⊎◌, ℕ, ◌<◌, Bool, true, List, Option, Some, None, All, length, map}
+use Rattle.std.specs.Prelude.{◌≡◌, ◌≢◌, ◌⊎◌, ℕ, ◌<◌, ◌≤◌, ◌^◌, Bool, true, List, Option, Some, None, All, length, map, replicate}
 use Rattle.std.specs.List.{AllWithin}
-use Rattle.mwc_parts.specs.Slicing.{Slicing}
-use Rattle.mwc_parts.specs.Shared.Settled.{IsPart}
-use Rattle.mwc_parts.specs.Wording.{coalition_count}
-use Rattle.mwc_parts.specs.Fault.{nothing, also}
-use Rattle.mwc_parts.specs.Shared.Fault.{IsEarly}
-use Rattle.mwc_parts.specs.declared.part.Part.{Part}
-use Rattle.mwc_parts.specs.declared.fault.Met.{Met}
-use Rattle.mwc_parts.specs.declared.fault.GatherFault.{GatherFault}
-use Rattle.mwc_parts.specs.declared.fault.GatherFault.TheVariants.{TooMany, Start, Memory}
-use Rattle.mwc_parts.specs.Shared.Dealing.{DeskView, IsWell, IsFresh, DealsInTurn, DealsOneEach}
-use Rattle.mwc_gather.specs.Slicings.{slicing}
+use Rattle.mwc_gather.specs.Slicing.{Slicing}
+use Rattle.mwc_gather.specs.Inner.Settled.{IsPart}
+use Rattle.mwc_gather.specs.Wording.{coalition_count}
+use Rattle.mwc_gather.specs.Inner.Fault.{IsEarly}
+use Rattle.mwc_gather.specs.declared.part.Part.{Part}
+use Rattle.mwc_gather.specs.declared.fault.GatherFault.{GatherFault}
+use Rattle.mwc_gather.specs.declared.fault.GatherFault.TheVariants.{TooMany, Start, Memory}
+use Rattle.mwc_gather.specs.Inner.Dealing.{DeskView, IsWell, IsFresh, DealsInTurn, DealsOneEach}
+use Rattle.mwc_gather.specs.Slicing.{slicing}
 use Rattle.mwc_gather.specs.declared.desk.Desk.{Desk}
 use Rattle.mwc_gather.specs.declared.dealing.Deal.{Deal}
+use Rattle.mwc_gather.specs.declared.job.Job.{Job}
+use Rattle.mwc_gather.specs.Inner.Gathering.{slices_of}
+use Rattle.coalitions.specs.declared.limits.TheConstants.{WORKERS}
 
 -- the slices of the game that the worker was given
 abbrev pub desk_slicing : Desk → Slicing
@@ -50,11 +51,10 @@ CanEndWith g most d None = IsWell (view_of d) × (d.told ≡ true)
 CanEndWith g most d (Some why) = (why ≢ Start) × (d.draft.lost ≡ true → why ≡ Memory)
     × (why ≡ TooMany → most < coalition_count g d.given.items)
 
--- what was met where `workers` workers were to be started and `started` were: nothing where these are all, or else one fault, which
--- is Start or want of memory
-abbrev pub HasStarted : ℕ → ℕ → Met → Type 0
-HasStarted workers started met =
-    ((met ≡ nothing) × (started ≡ workers)) ⊎ ((why : GatherFault) × IsEarly why × (met ≡ also nothing why) × (started < workers))
+-- where `workers` workers were to be started, `started` were: all, or fewer, with a fault that kept the next from its start
+abbrev pub HasStarted : ℕ → ℕ → Option GatherFault → Type 0
+HasStarted workers started None = started ≡ workers
+HasStarted workers started (Some why) = (started < workers) × IsEarly why
 
 -- the slices of the game are dealt to the desks; nothing is, where the deal was stopped early, from its beginning
 pub record DealsTo (g : Slicing) (most : ℕ) (early : Bool) (deal : Deal) (desks : List Desk) : Type 0 where
@@ -66,3 +66,8 @@ pub record DealsFirst (g : Slicing) (most : ℕ) (early : Bool) (deal : Deal) (k
   pub all_of : AllOf g most desks
   pub firsts : DealsOneEach g.slices k early deal.marks deal.stopped (views_of desks)
   pub to_come : AllWithin (λ (d : Desk). IsFresh (view_of d)) desks k (length desks)
+
+-- nothing is dealt yet, to the desks of workers that were given the job
+abbrev pub CanDeal : {G : Type 0} → Job G → Deal → List Desk → Type 0
+CanDeal job deal desks = (length desks ≤ WORKERS) × AllOf (slices_of job) job.most desks × All IsFresh (views_of desks)
+    × (deal.marks ≡ replicate (2 ^ job.bits) None)

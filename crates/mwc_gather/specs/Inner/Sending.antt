@@ -1,13 +1,23 @@
 -- What the sending of one slice, and a worker, answer: what only proofs and private functions need.
 use Rattle.std.specs.Prelude.{◌≡◌, ℕ, ◌<◌, Bool, true, false, List, [], ◌∷◌, ◌++◌}
-use Rattle.mwc_parts.specs.Wording.{IsLast}
-use Rattle.mwc_ring.specs.declared.word.Word.{Word}
-use Rattle.mwc_ring.specs.declared.word.Word.TheVariants.{End, Open}
+use Rattle.mwc_gather.specs.Wording.{IsLast}
+use Rattle.mwc_pipe.specs.declared.word.Word.{Word}
+use Rattle.mwc_pipe.specs.declared.word.Word.TheVariants.{Done, End, Open}
 
 -- whether a word is the last of a worker
 abbrev pub is_end : Word → Bool
 is_end (End cut) = true
 is_end _ = false
+
+-- whether a word tells that a slice is whole
+abbrev pub is_done : Word → Bool
+is_done (Done j) = true
+is_done _ = false
+
+-- the word that says that there are no more, where it was said
+abbrev pub end_words : Bool → List Word
+end_words false = []
+end_words true = End false ∷ []
 
 -- the first words of the row went into the pipe, and the rest is left
 abbrev pub SendsFirst : List Word → List Word → List Word → List Word → Type 0

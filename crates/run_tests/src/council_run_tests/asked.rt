@@ -135,7 +135,7 @@ fn answer<T: Threads + Wait + Sync>(
     writer: &mut Writer,
 ) -> Result<u64, RunFault> {
     if tallies {
-        tally(rt, alloc, reader, options, &NoWatch, writer)
+        tally(rt, alloc, reader, options, &NoGate, writer)
     } else {
         run(rt, alloc, reader, options, &NoGate, writer)
     }

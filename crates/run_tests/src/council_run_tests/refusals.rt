@@ -75,7 +75,7 @@ fn runs<R: Abort + Print + Threads + Wait + Sync>(
     };
     say(rt, "call");
     let answer = if is_tally {
-        tally(rt, alloc, &mut reader, &options, &NoWatch, &mut writer)
+        tally(rt, alloc, &mut reader, &options, &NoGate, &mut writer)
     } else {
         run(rt, alloc, &mut reader, &options, &NoGate, &mut writer)
     };

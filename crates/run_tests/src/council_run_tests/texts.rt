@@ -51,7 +51,6 @@ fn texts(rt: HostRuntime) {
         ),
         (Cause::Write, "output failed"),
         (Cause::Memory, "out of memory"),
-        (Cause::Stopped, "stopped"),
     ];
     for (cause, wanted) in rows {
         says(&rt, rt.alloc(), cause, wanted);
@@ -78,7 +77,6 @@ fn texts_below(rt: HostRuntime) {
     }
     for (fault, wanted) in [
         (TallyFault::Memory, "out of memory"),
-        (TallyFault::Stopped, "stopped"),
         (TallyFault::Start, "a worker could not be started"),
     ] {
         says(&rt, alloc, fault, wanted);

@@ -1,9 +1,8 @@
-use Rattle.mwc_gather.proofs.Imports.{◌≡◌, ◌≤◌, All, IsFresh, slicing, AllOf, views_of}
+use Rattle.mwc_gather.proofs.Imports.{◌≡◌, ◌≤◌, All, IsFresh, slices_of, AllOf, views_of}
 use Rattle.std.proofs.Common.{vec_len, vec_capacity}
-use Rattle.mwc_parts.specs.Fault.{nothing}
 use Rattle.mwc_gather.proofs.gathering.open_all.Given as goal
 
 abbrev pub invariant-loop-worker : goal.invariant-loop-worker
 invariant-loop-worker g l =
-    (vec_len l.desks ≡ l.worker) × (l.workers ≤ vec_capacity l.desks) × AllOf (slicing l.job.guarded l.job.bits) l.job.most l.desks.items
-    × All IsFresh (views_of l.desks.items) × (l.met ≡ nothing)
+    (vec_len l.desks ≡ l.worker) × (l.workers ≤ vec_capacity l.desks) × AllOf (slices_of l.job) l.job.most l.desks.items
+    × All IsFresh (views_of l.desks.items)

@@ -1,4 +1,4 @@
-use Rattle.mwc_gather.proofs.Imports.{ℕ, List, length, drop, subst, ap, sym, ◌∙◌, arith, Bool, is_some, fault_of, Desk, slicing, DealsTo}
+use Rattle.mwc_gather.proofs.Imports.{ℕ, List, length, drop, subst, ap, sym, ◌∙◌, arith, Bool, is_some, Desk, slices_of, DealsTo}
 use Rattle.std.proofs.Common.{take_at, pow_mono}
 use Rattle.mwc_gather.proofs.Wholes.{all_total_is}
 use Rattle.mwc_gather.proofs.gathering.run.Goals as goal
@@ -17,14 +17,14 @@ finish_all-requires-clause-dealt g c =
     let ok = c.open_all-desks.result.0.ok in
     let all = take_at new (drop (length new) c.open_all-desks.result.0.items) n (omega arith) in
     let job = c.args.job.now in
-    let early = c.is_some.ensures ∙ ap is_some c.fault.ensures in
-    let P : Bool → List Desk → Type 0 = λ b w. DealsTo (slicing job.guarded job.bits) job.most b c.read_all.new.self w in (
+    let early = c.is_some.ensures in
+    let P : Bool → List Desk → Type 0 = λ b w. DealsTo (slices_of job) job.most b c.read_all.new.self w in (
       c.read_all.new.self,
-      subst (P (is_some (fault_of c.open_all-desks.result.1))) (sym all) (subst (λ b. P b new) early c.read_all.ensures.deals),
+      subst (P (is_some c.open_all-desks.result.1)) (sym all) (subst (λ b. P b new) early c.read_all.ensures.deals),
     )
 
-pub returns-in_err-parts-clause-many : goal.returns-in_err-parts-clause-many
-returns-in_err-parts-clause-many g c = grind (arith, all_total_is)
+pub returns-in_err-parts : goal.returns-in_err-parts
+returns-in_err-parts g c = grind (arith, all_total_is)
 
 pub read_all-requires : goal.read_all-requires
 read_all-requires g c = grind arith
@@ -36,4 +36,4 @@ pub all_of-requires : goal.all_of-requires
 all_of-requires g c = grind arith
 
 pub returns : goal.returns
-returns g c = record { gathers = c.all_of.ensures.gathers; many = c.all_of.ensures.many }
+returns g c = c.all_of.ensures.answers

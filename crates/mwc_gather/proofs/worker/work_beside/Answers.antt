@@ -1,6 +1,5 @@
 use Rattle.mwc_gather.proofs.Imports.{◌≡◌, ℕ, ◌+◌, ◌<◌, List, [], ◌∷◌, ◌++◌, length, rules, arith, sym, ◌∙◌, ap, All-push, Word, Open}
-use Rattle.mwc_gather.proofs.Imports.{Slicing, slice_words, coalition_count, slicing, map_push}
-use Rattle.std.proofs.lemmas.List.{flat_map_more, Sums.sum_by_push}
+use Rattle.mwc_gather.proofs.Imports.{Slicing, slice_words, coalition_count, slices_of, map_push, flat_map_more, sum_by_push}
 use Rattle.mwc_gather.proofs.worker.work_beside.Goals as goal
 
 pub loop-init : goal.loop-init
@@ -11,7 +10,7 @@ send_behind-sent-requires g c = grind arith
 
 pub loop-preserved : goal.loop-preserved
 loop-preserved g c =
-    let game : Slicing = slicing c.args.job.now.guarded c.args.job.now.bits in
+    let game : Slicing = slices_of c.args.job.now in
     let j = c.in-Some-next_task.slice in
     let inv = c.loop.invariant.3 in
     let task = c.in-Some-next_task.ensures.taken in

@@ -1,5 +1,4 @@
-use Rattle.mwc_gather.proofs.Imports.{◌≡◌, ℕ, ◌+◌, ◌<◌, List, All, coalition_count, slicing}
-use Rattle.mwc_parts.specs.Wording.{open_words, wording}
+use Rattle.mwc_gather.proofs.Imports.{◌≡◌, ℕ, ◌+◌, ◌<◌, List, All, coalition_count, slices_of, open_words, wording}
 use Rattle.mwc_gather.proofs.worker.work_beside.Given as goal
 
 abbrev pub invariant-loop : goal.invariant-loop
@@ -7,6 +6,6 @@ invariant-loop g l =
     (l.out.ring ≡ l.initial.out.ring)
     × (l.tasks.ring ≡ l.initial.tasks.ring)
     × (0 < l.left)
-    × ((s : List ℕ) × (l.tasks.taken ≡ open_words s) × (l.out.accepted ≡ wording (slicing l.job.guarded l.job.bits) s)
-    × (coalition_count (slicing l.job.guarded l.job.bits) s + l.left ≡ l.job.most + 1)
-    × All (λ j. j < (slicing l.job.guarded l.job.bits).slices) s)
+    × ((s : List ℕ) × (l.tasks.taken ≡ open_words s) × (l.out.accepted ≡ wording (slices_of l.job) s)
+    × (coalition_count (slices_of l.job) s + l.left ≡ l.job.most + 1)
+    × All (λ j. j < (slices_of l.job).slices) s)

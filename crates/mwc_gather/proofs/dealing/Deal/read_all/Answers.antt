@@ -1,5 +1,5 @@
-use Rattle.mwc_gather.proofs.Imports.{◌≡◌, true, All, subst, common_steps, ◌<◌, length, arith, slicing}
-use Rattle.std.proofs.{Common.take_all, lemmas.List.Elements.All-nil}
+use Rattle.mwc_gather.proofs.Imports.{◌≡◌, true, All, subst, common_steps, ◌<◌, length, arith, slices_of, take_all}
+use Rattle.std.proofs.lemmas.List.Elements.{All-nil}
 use Rattle.mwc_gather.proofs.Deals.{turn_of, ended_more}
 use Rattle.mwc_gather.proofs.dealing.Deal.read_all.Goals as goal
 
@@ -19,7 +19,7 @@ pub loop-i-preserved : goal.loop-i-preserved
 loop-i-preserved g c =
     let q = c.loop-i.auto.desks in
     let l : c.loop-i.i < length c.loop-i.desks = omega arith in (
-      turn_of {g = slicing c.args.job.now.guarded c.args.job.now.bits} c.loop-i.desks c.loop-i.i c.index-desks-i.result
+      turn_of {g = slices_of c.args.job.now} c.loop-i.desks c.loop-i.i c.index-desks-i.result
           c.turn-moved.new.desk l c.loop-i.invariant.0 c.turn-moved.ensures.worker c.turn-moved.ensures.turns.2,
       ended_more c.loop-i.desks c.loop-i.i c.turn-moved.new.desk c.loop-i.running l c.loop-i.invariant.1,
     )

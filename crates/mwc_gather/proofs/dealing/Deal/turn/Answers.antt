@@ -1,6 +1,5 @@
-use Rattle.mwc_gather.proofs.{Deals.turn_after, Imports.◌∙◌, Imports.take, Imports.view_of}
-use Rattle.std.specs.List.{list_any}
-use Rattle.mwc_parts.specs.Shared.Wording.{is_done}
+use Rattle.mwc_gather.proofs.Deals.{turn_after}
+use Rattle.mwc_gather.proofs.Imports.{◌∙◌, take, view_of, list_any, is_done}
 use Rattle.mwc_gather.proofs.dealing.Deal.turn.Goals as goal
 
 pub deal_to-requires : goal.deal_to-requires

@@ -14,13 +14,13 @@ invariant_of-self-clause-idle_is_done c =
     let d = c.args.self.now in
     let row : List Word = take c.take_some-count.result c.take_some-count.new.into in
     let more = c.take_some-count.ensures.taken in
-    let now = ap (λ (b : Bool). d.idle || b) c.one_tells_whole.ensures in
+    let now = ap (λ (b : Bool). d.idle || b) c.hear_row-news.ensures.done in
     idle_more (length d.given.items) d.idle
-    (d.idle || c.one_tells_whole.result) d.words.taken row c.take_some-count.new.self.taken more now d.one_ahead d.idle_is_done
+    (d.idle || c.hear_row-news.result.done) d.words.taken row c.take_some-count.new.self.taken more now d.one_ahead d.idle_is_done
 
 pub invariant_of-self-clause-ended_is_end : goal.invariant_of-self-clause-ended_is_end
 invariant_of-self-clause-ended_is_end c =
     let d = c.args.self.now in
     let row : List Word = take c.take_some-count.result c.take_some-count.new.into in
-    ended_after d.ended c.one_is_end.result d.words.taken row c.take_some-count.new.self.taken c.take_some-count.ensures.taken d.ended_is_end
-    c.one_is_end.ensures
+    ended_after d.ended c.hear_row-news.result.end d.words.taken row c.take_some-count.new.self.taken c.take_some-count.ensures.taken d.ended_is_end
+    c.hear_row-news.ensures.end

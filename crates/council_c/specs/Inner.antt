@@ -1,2 +1,0 @@
--- What only private functions need: no public contract mentions it.
-pub mod Found

@@ -1,0 +1,33 @@
+//! Numbers that people read.
+use std::fmt::{self, Display, Formatter, Write};
+
+/// The places of the groups of three digits, the greatest first.
+const GROUPS: [u64; 7] = [
+    1_000_000_000_000_000_000,
+    1_000_000_000_000_000,
+    1_000_000_000_000,
+    1_000_000_000,
+    1_000_000,
+    1_000,
+    1,
+];
+
+/// A number with a comma between each three digits.
+#[derive(Clone, Copy)]
+pub(crate) struct Thousands(pub u64);
+
+impl Display for Thousands {
+    fn fmt<W: Write>(&self, f: &mut Formatter<W>) -> fmt::Result {
+        let mut has_begun = false;
+        for group in GROUPS {
+            let digits = self.0.checked_div(group).unwrap_or(0) % 1000;
+            if has_begun {
+                write!(f, ",{digits:03}")?;
+            } else if digits > 0 || group == 1 {
+                write!(f, "{digits}")?;
+                has_begun = true;
+            }
+        }
+        Ok(())
+    }
+}

@@ -1,0 +1,114 @@
+//! Counting the coalitions of a game, and keeping none: by sums, and what these leave by worker threads or by one walk.
+ghost use Rattle.std.specs.Prelude.{◌≡◌, IfErr, IfOk, None, false};
+ghost use Rattle.coalitions.specs.declared.report_lines.ReportLines.{ReportLines};
+ghost use Rattle.council_run.specs.Found.{Finds, IsWorkersFault};
+ghost use Rattle.power_index.specs.Tables.{AreCountsOfGame};
+
+use crate::fault::RunFault;
+use crate::found::{Coalitions, Found, on_heap};
+use coalitions::{Gate, Memory, Options};
+use council_game::Game;
+use mwc_sums::{Coverage, count_by_sums};
+use mwc_tally::{TallyFault, tally, tally_slice};
+use mwc_walk::laws::one_slice_is_the_whole;
+use power_index::Counts;
+use power_index::laws::tallies_are_counts;
+use std::alloc::Global;
+use std::sync::Wait;
+use std::thread::Threads;
+
+/// A tally has at least 2^8 slices if there are 8 members: the last of them are the longest, and with
+/// fewer one thread would still count when the others have ended.
+pub const LEAST_BITS: u8 = 8;
+
+/// Counts all coalitions of a game by worker threads behind a gate.
+// kept out of line: sums do not take the stack that threads want
+#[inline(never)]
+fn count_by_threads<T: Threads + Wait + Sync, G: Gate + Sync>(
+    rt: &T,
+    alloc: Global,
+    game: &Game,
+    options: &Options,
+    gate: &G,
+) -> Result<Box<Counts>, TallyFault>
+    ensures { IfOk result (λ counts. AreCountsOfGame game.now counts.value) }
+{
+    let bits = options.bits.max(LEAST_BITS).min(game.members() as u8);
+    tally(rt, alloc, game, bits, options.workers, gate)
+}
+
+/// Counts all coalitions of a game by one walk.
+#[inline(never)]
+fn count_walk(alloc: Global, game: &Game) -> Result<Box<Counts>, Memory>
+    ensures { IfOk result (λ counts. AreCountsOfGame game.now counts.value) }
+{
+    game.was_checked();
+    one_slice_is_the_whole();
+    tallies_are_counts();
+    on_heap(alloc, tally_slice(game, 0, 0))
+}
+
+/// Counts all coalitions of a game by sums, and what these leave by worker threads.
+fn count_all<T: Threads + Wait + Sync, G: Gate + Sync>(
+    rt: &T,
+    alloc: Global,
+    game: &Game,
+    options: &Options,
+    gate: &G,
+) -> Result<Box<Counts>, TallyFault>
+    ensures { IfOk result (λ counts. AreCountsOfGame game.now counts.value) }
+{
+    match count_by_sums(alloc, game)? {
+        Coverage::All(counts) => Ok(counts),
+        Coverage::Part(parts) => {
+            let left = count_by_threads(rt, alloc, &parts.left, options, gate)?;
+            Ok(parts.join(game, left))
+        }
+        Coverage::Nothing => count_by_threads(rt, alloc, game, options, gate),
+    }
+}
+
+/// Counts the coalitions of a game by sums, and what these leave by worker threads behind a gate. It
+/// takes a game with any number of them, and keeps none.
+///
+/// # Errors
+///
+/// Out of memory, or Start if a thread could not be started.
+pub fn count_by_workers<T: Threads + Wait + Sync, G: Gate + Sync>(
+    rt: &T,
+    alloc: Global,
+    game: &Game,
+    options: &Options,
+    gate: &G,
+) -> Result<Found, RunFault>
+    ensures finds { (lines : ReportLines) → lines.list ≡ false → Finds None lines game.now result }
+    ensures fails { IfErr result IsWorkersFault }
+{
+    let counts = count_all(rt, alloc, game, options, gate)?;
+    Ok(Found {
+        counts,
+        coalitions: Coalitions::Counted,
+    })
+}
+
+/// Counts the coalitions of a game by sums, and what these leave by one walk, in the calling thread.
+///
+/// # Errors
+///
+/// Out of memory.
+pub fn count_by_walk(alloc: Global, game: &Game) -> Result<Found, RunFault>
+    ensures { (lines : ReportLines) → lines.list ≡ false → Finds None lines game.now result }
+{
+    let counts = match count_by_sums(alloc, game)? {
+        Coverage::All(counts) => counts,
+        Coverage::Part(parts) => {
+            let left = count_walk(alloc, &parts.left)?;
+            parts.join(game, left)
+        }
+        Coverage::Nothing => count_walk(alloc, game)?,
+    };
+    Ok(Found {
+        counts,
+        coalitions: Coalitions::Counted,
+    })
+}

@@ -1,0 +1,100 @@
+//! Listing the coalitions of a game: by worker threads, or by one walk.
+ghost use Rattle.std.specs.Prelude.{◌≡◌, ◌≤◌, Err, IfErr, IfOk, Some};
+ghost use Rattle.coalitions.specs.declared.limits.TheConstants.{WORKERS};
+ghost use Rattle.coalitions.specs.declared.report_lines.ReportLines.{ReportLines};
+ghost use Rattle.council_run.specs.Found.{Finds, HoldAll, IsWorkersFault};
+ghost use Rattle.council_run.specs.Run.{IsWithin};
+ghost use Rattle.power_index.specs.Tables.{AreCountsOfGame};
+
+use crate::fault::RunFault;
+use crate::found::{Coalitions, Found, on_heap, pieces};
+use coalitions::{Gate, Options};
+use council_game::Game;
+use mwc_gather::{GatherFault, Gathered, Guarded, gather};
+use mwc_tally::tally_pieces;
+use mwc_walk::list_all;
+use power_index::Counts;
+use power_index::laws::minimal_coalitions_can_be_counted;
+use std::alloc::Global;
+use std::sync::Wait;
+use std::thread::Threads;
+
+/// Gathers the minimal winning coalitions of a game.
+fn gather_all<T: Threads + Wait + Sync, G: Gate + Sync>(
+    rt: &T,
+    alloc: Global,
+    game: &Game,
+    options: &Options,
+    gate: &G,
+) -> Result<Gathered, GatherFault>
+    ensures whole { IfOk result (HoldAll game.now) }
+    ensures few { IfOk result (λ _. IsWithin (Some options.now.most) game.now) }
+    ensures many { result ≡ Err GatherFault.TooMany → IsWithin (Some options.now.most) game.now → ⊥ }
+{
+    let bits = options.bits.min(game.members() as u8);
+    let guarded = Guarded::new(game, gate);
+    gather(rt, alloc, &guarded, bits, options.workers, options.most)
+}
+
+/// Counts the coalitions that the workers listed, by as many threads.
+fn count_gathered<T: Threads + Wait + Sync>(
+    rt: &T,
+    alloc: Global,
+    game: &Game,
+    gathered: &Gathered,
+    threads: u8,
+) -> Result<Box<Counts>, RunFault>
+    requires threads { (1 ≤ threads) × (threads ≤ WORKERS) }
+    requires whole { HoldAll game.now gathered.now }
+    ensures counts { IfOk result (λ counts. AreCountsOfGame game.now counts.value) }
+    ensures fails { IfErr result IsWorkersFault }
+{
+    game.was_checked();
+    minimal_coalitions_can_be_counted();
+    let pieces = pieces(alloc, game, gathered)?;
+    let counts = tally_pieces(rt, game, &pieces, threads)?;
+    Ok(on_heap(alloc, counts)?)
+}
+
+/// Lists the coalitions of a game by worker threads behind a gate, and counts them.
+///
+/// # Errors
+///
+/// The first of these: a fault of the gathering; out of memory for the row of its pieces; Start if a
+/// thread that counts them could not be started; out of memory for their counts.
+pub fn list_by_workers<T: Threads + Wait + Sync, G: Gate + Sync>(
+    rt: &T,
+    alloc: Global,
+    game: &Game,
+    options: &Options,
+    gate: &G,
+) -> Result<Found, RunFault>
+    ensures { (lines : ReportLines) → Finds (Some options.now.most) lines game.now result }
+{
+    let gathered = gather_all(rt, alloc, game, options, gate)?;
+    let counts = count_gathered(rt, alloc, game, &gathered, options.workers)?;
+    Ok(Found {
+        counts,
+        coalitions: Coalitions::Parts(gathered),
+    })
+}
+
+/// Lists the coalitions of a game by one walk, in the calling thread, and counts them. There may be
+/// at most `most`.
+///
+/// # Errors
+///
+/// Too many coalitions, or out of memory.
+pub fn list_by_walk(alloc: Global, game: &Game, most: u32) -> Result<Found, RunFault>
+    ensures { (lines : ReportLines) → Finds (Some most) lines game.now result }
+{
+    minimal_coalitions_can_be_counted();
+    let Some(list) = list_all(alloc, game, most)? else {
+        return Err(RunFault::from(GatherFault::TooMany));
+    };
+    let counts = on_heap(alloc, Counts::of(game, &list))?;
+    Ok(Found {
+        counts,
+        coalitions: Coalitions::Whole(list),
+    })
+}

@@ -1,3 +1,0 @@
-pub mod Shared
-mod Room
-mod Fronts

@@ -1,0 +1,32 @@
+//! Both indices of each member of a game.
+ghost use Rattle.coalitions.specs.declared.limits.TheConstants.{COALITIONS};
+ghost use Rattle.council_game.specs.Game.{votes_of};
+ghost use Rattle.council_game.specs.Votes.{minimal_coalitions};
+ghost use Rattle.power_index.specs.Both.{indices_of_member};
+ghost use Rattle.power_index.specs.Counting.{members};
+ghost use Rattle.std.specs.Prelude.{◌≡◌, ◌<◌, IfNone, IfOk, IfSome, length, map};
+
+use council_game::{Game, Memory, limits};
+use mwc_walk::list_all;
+use power_index::{Counts, MemberIndices, all_indices};
+use std::alloc::Global;
+
+/// Both indices of each member, in the order of the file; none where the game has more than 4,000,000 minimal
+/// winning coalitions.
+///
+/// # Errors
+///
+/// `Memory` where a growth was refused.
+pub fn indices_of(alloc: Global, game: &Game) -> Result<Option<Vec<MemberIndices>>, Memory>
+    ensures indices { IfOk result (λ o. IfSome o (λ v. v.items ≡
+        map (indices_of_member game.now (minimal_coalitions (votes_of game.now))) (members game.now))) }
+    ensures count { IfOk result (λ o. IfSome o (λ v. length v.items ≡ length game.now.names)) }
+    ensures more { IfOk result
+        (λ o. IfNone o (COALITIONS < length (minimal_coalitions (votes_of game.now)))) }
+{
+    let Some(list) = list_all(alloc, game, limits::COALITIONS)? else {
+        return Ok(None);
+    };
+    let counts = Counts::of(game, &list);
+    Ok(Some(all_indices(alloc, &counts)?))
+}

@@ -1,0 +1,291 @@
+//! Each use once, on a worked game.
+ghost use Rattle.std.specs.Prelude.{◌≡◌, length};
+
+use crate::blocking::is_blocking;
+use crate::games::{are_ranked_alike, of_one_rule, of_two_rules, quota_in_millionths};
+use crate::indices::{both_indices, first_of_bytes, indices_add_up};
+use crate::listed::{coalitions_with, is_dummy, listed_twice};
+use crate::named::critical_of_named;
+use crate::reports::report_into_memory;
+use crate::rings::through_a_ring;
+use crate::slices::{Passes, words_of_slice};
+use crate::tables::{first_wrong_row, most_powerful};
+use crate::tallied::tallied_index;
+use council_file::parse_game;
+use council_game::{Coalition, Game, Rule, plain_list};
+use council_report::ReportLines;
+use game_calls::{
+    at_quota, coalition_named, count_by_walk, critical_members, first_unnamed, game_from_slices,
+    has_member, outsiders, with_member, without_member,
+};
+use mwc_pipe::Word;
+use power_index::Index;
+use std::alloc::Global;
+use std::fmt::Debug;
+use std::process::Abort;
+
+const FIVE: &[u8] = b"[51; 35, 20, 15, 15, 15]";
+
+/// Fails with the label if what was found is not what was wanted.
+fn same<T: PartialEq + Debug + Drop, L: Debug + Drop>(
+    rt: &impl Abort,
+    found: T,
+    wanted: T,
+    label: L,
+) {
+    assert_eq!(rt; found, wanted, "{label:?}");
+}
+
+fn words(rt: &impl Abort, alloc: Global, texts: &[&str]) -> Vec<String> {
+    let mut words = Vec::new(alloc);
+    for text in texts {
+        let word = String::from_str(alloc, text).expect(rt, "a word");
+        words.push(word).expect(rt, "room");
+    }
+    words
+}
+
+/// A rule of these weights.
+fn rule(rt: &impl Abort, alloc: Global, quota: u64, weights: &[u64]) -> Rule
+    ensures { length result.weights.items ≡ length weights.now }
+{
+    let weights = weights.to_vec(alloc).expect(rt, "weights");
+    Rule { quota, weights }
+}
+
+/// The game of two rules: any two of three by states, and more than the half of the people.
+fn two_rules(rt: &impl Abort, alloc: Global) -> Game
+    ensures { length result.names ≡ 3 }
+{
+    let names = words(rt, alloc, &["Large", "Small", "Tiny"]);
+    let states = rule(rt, alloc, 2, &[1, 1, 1]);
+    let people = rule(rt, alloc, 60, &[55, 25, 20]);
+    assert!(rt; names.len() == 3);
+    let game = of_two_rules(alloc, names, states, people).expect(rt, "a game");
+    assert!(rt; game.members() == 3);
+    game
+}
+
+fn assert_index(rt: &impl Abort, index: Index, top: u128, bottom: u128, decimals: &[u8; 8]) {
+    same(rt, index.top(), top, "index.top");
+    same(rt, index.bottom(), bottom, "index.bottom");
+    same(rt, index.decimals(), *decimals, "index.decimals");
+}
+
+/// The game of a file.
+fn parsed(rt: &impl Abort, alloc: Global, file: &[u8]) -> Game {
+    parse_game(alloc, file).expect(rt, "a game")
+}
+
+/// The game of five members.
+fn five(rt: &impl Abort, alloc: Global) -> Game
+    ensures { length result.names ≡ 5 }
+{
+    let game = parsed(rt, alloc, FIVE);
+    assert!(rt; game.members() == 5);
+    game
+}
+
+#[test]
+fn indices_of_bytes(rt: HostRuntime) {
+    let answer = first_of_bytes(rt.alloc(), FIVE).expect(&rt, "memory");
+    let (first, second) = answer.expect(&rt, "a list of few");
+    assert_index(&rt, first, 3, 10, b"0.300000");
+    assert_index(&rt, second, 4, 15, b"0.266666");
+    let both = [second, first];
+    same(&rt, most_powerful(&both), Some(1), "most_powerful");
+    let wrong = first_wrong_row(&both, &[(8, 30), (31, 100)]);
+    same(&rt, wrong, Some(1), "first_wrong_row");
+}
+
+#[test]
+fn the_first_is_not_the_lightest(rt: HostRuntime) {
+    let game = parsed(&rt, rt.alloc(), b"[51; 40, 30, 11, 11]");
+    same(
+        &rt,
+        uses::lightest(&game),
+        Some(Coalition::of_mask(10)),
+        "lightest",
+    );
+    for (other, wanted) in [("3", Some(true)), ("1", Some(false)), ("5", None)] {
+        same(&rt, uses::win_together(&game, "1", other), wanted, other);
+    }
+}
+
+/// Ada, Bo and Cleo of 50, 49 and 1 votes, and a majority of 51.
+fn board(rt: &impl Abort, alloc: Global) -> Game {
+    game_from_slices(alloc, &["Ada", "Bo", "Cleo"], &[50, 49, 1], 51).expect(rt, "a game")
+}
+
+#[test]
+fn members_of_coalitions(rt: HostRuntime) {
+    let alloc = rt.alloc();
+    let game = board(&rt, alloc);
+    assert!(rt; game.members() == 3);
+    let two = coalition_named(&game, &["Ada", "Bo"]).expect(&rt, "a coalition");
+    let members = critical_members(alloc, &game, two).expect(&rt, "memory");
+    assert!(rt; members.as_slice() == [0, 1].as_slice());
+    assert!(rt; !has_member(&game, outsiders(&game, two), 0));
+    assert!(rt; has_member(&game, outsiders(&game, two), 2));
+    same(
+        &rt,
+        with_member(&game, without_member(&game, two, 0), 0),
+        two,
+        "one member less and more",
+    );
+    same(&rt, first_unnamed(&game, &["Bo", "Di"]), Some(1), "Di");
+    assert!(rt; is_blocking(&game, two));
+    let answer = critical_of_named(alloc, &game, &["Cleo", "Ada", "Bo"]).expect(&rt, "memory");
+    let critical = answer.expect(&rt, "members of these names");
+    assert!(rt; critical.as_slice() == [0].as_slice());
+    assert!(rt;
+        critical_of_named(alloc, &game, &["Di"])
+            .expect(&rt, "memory")
+            .is_none()
+    );
+}
+
+#[test]
+fn other_quotas(rt: HostRuntime) {
+    let alloc = rt.alloc();
+    let game = board(&rt, alloc);
+    assert!(rt; game.total() == 100);
+    let all = at_quota(alloc, &game, 100).expect(&rt, "memory");
+    same(&rt, all.quota(), 100, "quota");
+    same(&rt, count_by_walk(&all), 1, "count_by_walk");
+}
+
+#[test]
+fn a_game_of_two_rules(rt: HostRuntime) {
+    let alloc = rt.alloc();
+    let game = two_rules(&rt, alloc);
+    same(&rt, count_by_walk(&game), 2, "count_by_walk");
+    same(
+        &rt,
+        is_dummy(alloc, &game, 2).expect(&rt, "memory"),
+        Some(false),
+        "is_dummy",
+    );
+    let answer = both_indices(alloc, &game, 0).expect(&rt, "memory");
+    let (first, second) = answer.expect(&rt, "a list of few");
+    assert_index(&rt, first, 1, 2, b"0.500000");
+    assert_index(&rt, second, 1, 2, b"0.500000");
+    indices_add_up(&game);
+}
+
+#[test]
+fn a_dummy_and_a_share(rt: HostRuntime) {
+    let alloc = rt.alloc();
+    let names = words(&rt, alloc, &["D", "F", "I", "B", "N", "L"]);
+    let weights = [4, 4, 4, 2, 2, 1].to_vec(alloc).expect(&rt, "weights");
+    assert!(rt; weights.len() == names.len());
+    let game = of_one_rule(alloc, names, weights, 12).expect(&rt, "memory");
+    assert!(rt; game.members() == 6);
+    same(
+        &rt,
+        is_dummy(alloc, &game, 0).expect(&rt, "memory"),
+        Some(false),
+        "is_dummy",
+    );
+    same(
+        &rt,
+        is_dummy(alloc, &game, 5).expect(&rt, "memory"),
+        Some(true),
+        "is_dummy 2",
+    );
+    same(
+        &rt,
+        quota_in_millionths(&game),
+        705_882,
+        "quota_in_millionths",
+    );
+}
+
+#[test]
+fn games_that_rank_alike(rt: HostRuntime) {
+    let alloc = rt.alloc();
+    let five = five(&rt, alloc);
+    let alike = parsed(&rt, alloc, b"[7; 9, 4, 1, 1, 1]");
+    let other = parsed(&rt, alloc, b"[7; 4, 9, 1, 1, 1]");
+    assert!(rt; alike.members() == 5);
+    assert!(rt; other.members() == 5);
+    assert!(rt; are_ranked_alike(&five, &alike));
+    assert!(rt; !are_ranked_alike(&five, &other));
+}
+
+#[test]
+fn coalitions_with_a_member(rt: HostRuntime) {
+    let alloc = rt.alloc();
+    let game = five(&rt, alloc);
+    let list = plain_list(alloc, &game).expect(&rt, "memory");
+    assert!(rt; list.len() == 5);
+    let answer = listed_twice(alloc, &game).expect(&rt, "memory");
+    let (walked, tried) = answer.expect(&rt, "a list of few");
+    same(&rt, walked.as_slice(), list.as_slice(), "walked");
+    same(&rt, tried.as_slice(), list.as_slice(), "tried");
+    let found = coalitions_with(alloc, &game, &list, 1).expect(&rt, "memory");
+    assert!(rt; found.len() == 2);
+    same(&rt, found[0], Coalition::of_mask(24), "found[0]");
+    same(&rt, found[1], Coalition::of_mask(15), "found[1]");
+}
+
+#[test]
+fn words_to_another_thread(rt: HostRuntime) {
+    let mut words = Vec::new(rt.alloc());
+    for mask in 0..65_536 {
+        words
+            .push(Word::One(Coalition::of_mask(mask)))
+            .expect(&rt, "room");
+    }
+    assert!(rt; words.len() == 65_536);
+    let answer = through_a_ring(&rt, rt.alloc(), words).expect(&rt, "memory");
+    let mut rest = answer.expect(&rt, "a thread");
+    for mask in 0..65_536 {
+        same(
+            &rt,
+            rest.next(),
+            Some(Word::One(Coalition::of_mask(mask))),
+            "rest.next",
+        );
+    }
+    same(&rt, rest.next(), None, "rest.next 2");
+}
+
+#[test]
+fn words_of_a_slice(rt: HostRuntime) {
+    let game = five(&rt, rt.alloc());
+    let passes = Passes::none();
+    let words = words_of_slice(&rt, rt.alloc(), &game, &passes, 2, 1).expect(&rt, "words");
+    same(&rt, passes.count(), 1, "passes.count");
+    let wanted = [
+        Word::Open(1),
+        Word::One(Coalition::of_mask(22)),
+        Word::One(Coalition::of_mask(21)),
+        Word::One(Coalition::of_mask(19)),
+        Word::Done(1),
+    ];
+    same(&rt, words.as_slice(), wanted.as_slice(), "words");
+}
+
+#[test]
+fn a_report_in_memory(rt: HostRuntime) {
+    let game = parsed(&rt, rt.alloc(), b"[2; 1, 1]");
+    let shown = ReportLines {
+        list: false,
+        sizes: false,
+        notation: false,
+    };
+    let answer = report_into_memory(rt.alloc(), &game, shown).expect(&rt, "memory");
+    let bytes = answer.expect(&rt, "a list of few");
+    let wanted = b"members\t2\nquota\t2\ntotal\t2\nminimal\t1
+member\t1\t1\t1\t1/2\t0.500000\t1/2\t0.500000
+member\t2\t1\t1\t1/2\t0.500000\t1/2\t0.500000\n";
+    assert!(rt; bytes.as_slice() == wanted.as_slice());
+}
+
+#[test]
+fn a_tally(rt: HostRuntime) {
+    let game = five(&rt, rt.alloc());
+    let index = tallied_index(&rt, rt.alloc(), &game, 0, 2).expect(&rt, "memory");
+    assert_index(&rt, index, 3, 10, b"0.300000");
+}

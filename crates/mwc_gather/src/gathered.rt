@@ -1,0 +1,75 @@
+//! All parts.
+ghost use Rattle.std.specs.Prelude.{◌≡◌, ℕ, ◌<◌, List, All, IfOk, map};
+ghost use Rattle.std.specs.List.{flat_map, range_with_len};
+ghost use Rattle.coalitions.specs.Lists.{joined};
+ghost use Rattle.mwc_gather.specs.Parts.{HasPieces, HasEachSliceOnce};
+
+use crate::part::Part;
+use council_game::{Coalition, Memory};
+use std::alloc::Global;
+
+/// The parts of all workers, in which slices 0 to the last stand once each.
+#[derive(Drop)]
+pub struct Gathered {
+    /// The part of each worker.
+    pub parts: Vec<Part>,
+    /// How many slices there are.
+    pub slices: u16,
+    ghost each_slice_once: { HasEachSliceOnce slices parts.items },
+}
+
+impl Gathered {
+    /// The coalitions of all parts, slice after slice: after `gather`, all minimal winning coalitions in
+    /// listing order.
+    ///
+    /// # Errors
+    ///
+    /// Memory where a growth was refused.
+    #[tactic(auto, using(crate::proofs::Searches::for_in_order))]
+    pub fn in_order(&self, alloc: Global) -> Result<Vec<Coalition>, Memory>
+        ensures { (slice : ℕ → List ℕ) → All (HasPieces slice) self.now.parts.items
+            → IfOk result (λ all. all.items ≡ flat_map slice (range_with_len 0 self.now.slices)) }
+    {
+        let mut all = Vec::new(alloc);
+        for j in 0..self.slices {
+            all.extend_from_slice(self.piece(j))?;
+        }
+        Ok(all)
+    }
+
+    /// The coalitions of each slice where they lie, slice after slice: joined, they are what
+    /// `in_order` gives. Only the row of pieces takes memory, and no coalition is copied.
+    ///
+    /// # Errors
+    ///
+    /// Memory where a growth was refused.
+    pub fn pieces(&self, alloc: Global) -> Result<Vec<&[Coalition]>, Memory>
+        ensures each { (slice : ℕ → List ℕ) → All (HasPieces slice) self.now.parts.items
+            → IfOk result (λ row.
+            map (λ p. p.now) row.items ≡ map slice (range_with_len 0 self.now.slices)) }
+        ensures joined { (slice : ℕ → List ℕ) → All (HasPieces slice) self.now.parts.items
+            → IfOk result (λ row.
+            joined row.items ≡
+            flat_map slice (range_with_len 0 self.now.slices)) }
+    {
+        let mut row = Vec::new(alloc);
+        for number in 0..self.slices {
+            row.push(self.piece(number))?;
+        }
+        Ok(row)
+    }
+
+    /// The piece of a slice.
+    fn piece(&self, j: u16) -> &[Coalition]
+        requires { j < self.now.slices }
+        ensures { (slice : ℕ → List ℕ) → All (HasPieces slice) self.now.parts.items
+            → result.now ≡ slice j }
+    {
+        for part in &self.parts {
+            if let Some(m) = part.place(j) {
+                return part.piece(m);
+            }
+        }
+        unreachable!()
+    }
+}

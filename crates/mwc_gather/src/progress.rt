@@ -1,0 +1,72 @@
+//! How far the walk over a slice has come.
+ghost use Rattle.std.specs.Prelude.{◌≡◌, ◌<◌, ◌∷◌, [], MatchOption};
+
+use crate::guarded::Guarded;
+use crate::observer::SliceObserver;
+use council_game::Coalition;
+use mwc_walk::{Seek, Walk};
+
+/// How many prefixes are examined between two reports.
+const EACH: u64 = 1 << 20;
+
+/// What was reported of a walk, and what was not.
+#[derive(Drop)]
+pub(crate) struct Progress {
+    /// The visits of the walk that were reported.
+    visits: u64,
+    /// The coalitions found that were not reported.
+    found: u64,
+}
+
+impl Progress {
+    pub fn new() -> Progress {
+        Progress {
+            visits: 0,
+            found: 0,
+        }
+    }
+
+    /// Reports what was not reported yet.
+    pub fn report<G: SliceObserver>(&mut self, guarded: &Guarded<'_, G>, walk: &Walk<'_>) {
+        guarded.report(walk.visits().saturating_sub(self.visits), self.found);
+        self.visits = walk.visits();
+        self.found = 0;
+    }
+
+    /// Reports if that is due, and returns how many visits there may be until it is due again.
+    fn visits_until_due<G: SliceObserver>(
+        &mut self,
+        guarded: &Guarded<'_, G>,
+        walk: &Walk<'_>,
+    ) -> u64
+        ensures { 0 < result }
+    {
+        let visits = walk.visits().saturating_sub(self.visits);
+        if visits < EACH {
+            return EACH - visits;
+        }
+        self.report(guarded, walk);
+        EACH
+    }
+
+    /// Returns the next coalition of the slice, as `Walk::next` does, and reports on the way.
+    pub fn next<G: SliceObserver>(
+        &mut self,
+        guarded: &Guarded<'_, G>,
+        walk: &mut Walk<'_>,
+    ) -> Option<Coalition>
+        ensures { MatchOption result ((walk.old.to_come ≡ []) × (walk.new.to_come ≡ []))
+            (λ c. walk.old.to_come ≡ c ∷ walk.new.to_come) }
+    {
+        'seeks: loop {
+            match walk.seek(self.visits_until_due(guarded, walk)) {
+                Seek::Found(coalition) => {
+                    self.found = self.found.saturating_add(1);
+                    return Some(coalition);
+                }
+                Seek::End => return None,
+                Seek::NotYet => {}
+            }
+        }
+    }
+}

@@ -1,6 +1,0 @@
-use Rattle.std.proofs.Common.{◌≡◌, take, sum_by}
-use Rattle.mwc_parts.specs.{Inner.Times.times_in, Parts.shares}
-use Rattle.mwc_parts.proofs.gathered.Gathered.piece.Given as goal
-
-abbrev pub invariant-loop-part : goal.invariant-loop-part
-invariant-loop-part l = sum_by (times_in l.j) (shares (take l.part-index l.self.parts.items)) ≡ 0

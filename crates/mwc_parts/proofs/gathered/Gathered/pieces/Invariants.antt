@@ -1,8 +1,0 @@
-use Rattle.std.proofs.Common.{◌≡◌, ℕ, List, All, map}
-use Rattle.std.specs.List.{range_with_len}
-use Rattle.mwc_parts.specs.Parts.{HasPieces}
-use Rattle.mwc_parts.proofs.gathered.Gathered.pieces.Given as goal
-
-abbrev pub invariant-loop-number : goal.invariant-loop-number
-invariant-loop-number l =
-    (slice : ℕ → List ℕ) → All (HasPieces slice) l.self.parts.items → map (λ p. p.now) l.row.items ≡ map slice (range_with_len 0 l.number)

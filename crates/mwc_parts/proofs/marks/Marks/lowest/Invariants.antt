@@ -1,5 +1,0 @@
-use Rattle.std.proofs.Common.{ℕ, ◌<◌, None, IsSome, slice_index_or}
-use Rattle.mwc_parts.proofs.marks.Marks.lowest.Given as goal
-
-abbrev pub invariant-loop-slice : goal.invariant-loop-slice
-invariant-loop-slice l = (k : ℕ) → k < l.slice → IsSome (slice_index_or l.self-inside.holders k None)

@@ -1,5 +1,0 @@
-use Rattle.std.proofs.{Common.None, lemmas.List.take-replicate}
-use Rattle.mwc_parts.proofs.marks.Marks.new.Goals as goal
-
-pub returns : goal.returns
-returns c = take-replicate c.args.slices 1024 None c.requires.1

@@ -1,6 +1,0 @@
-use Rattle.std.proofs.Common.{◌≡◌, take}
-use Rattle.mwc_parts.specs.Inner.Times.{times_in}
-use Rattle.mwc_parts.proofs.part.Part.place.Given as goal
-
-abbrev pub invariant-loop-m : goal.invariant-loop-m
-invariant-loop-m l = times_in l.slice (take l.m l.self.slices.items) ≡ 0

@@ -1,6 +1,0 @@
-use Rattle.std.proofs.Common.{◌≡◌, ◌+◌, length, take, sum_by}
-use Rattle.mwc_parts.specs.declared.part.Part.{Part}
-use Rattle.mwc_parts.proofs.part.fits.Given as goal
-
-abbrev pub invariant-loop-part : goal.invariant-loop-part
-invariant-loop-part l = l.left + sum_by (λ (p : Part). length p.got.items) (take l.part-index l.parts) ≡ l.most

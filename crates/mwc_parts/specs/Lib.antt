@@ -1,9 +1,0 @@
-pub mod Slicing
-pub mod Table
-pub mod Wording
-pub mod Pieces
-pub mod Parts
-pub mod Fault
-pub mod Drafts
-pub mod Inner
-pub mod Shared

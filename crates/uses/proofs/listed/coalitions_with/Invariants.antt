@@ -1,6 +1,0 @@
-use Rattle.std.proofs.Common.{◌≡◌, take, filter}
-use Rattle.power_index.specs.Counting.{contains}
-use Rattle.uses.proofs.listed.coalitions_with.Given as goal
-
-abbrev pub invariant-loop-coalition : goal.invariant-loop-coalition
-invariant-loop-coalition l = l.found.items ≡ filter (contains l.game l.member) (take l.coalition-index l.list)

@@ -1,5 +1,0 @@
-use Rattle.coalitions.proofs.Shared.Digits.{same-places}
-use Rattle.voting_laws.proofs.membership.same_members_are_one_coalition.Goals as goal
-
-pub returns : goal.returns
-returns c = same-places

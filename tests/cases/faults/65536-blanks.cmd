@@ -1,0 +1,1 @@
+printf '%65536s' '' >long; council long

@@ -1,0 +1,1 @@
+printf '%65537s' '' >long; council long

@@ -1,0 +1,1 @@
+(cat game; printf '#%70000s' '' | tr ' ' '#') >long; council long

@@ -1,0 +1,1 @@
+council $'game\377' --list <game

@@ -1,0 +1,1 @@
+council game $'b\033]0;x\ay'

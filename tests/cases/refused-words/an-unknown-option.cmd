@@ -1,0 +1,1 @@
+council --order <game

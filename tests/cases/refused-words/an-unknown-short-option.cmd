@@ -1,0 +1,1 @@
+council -w 2 <game

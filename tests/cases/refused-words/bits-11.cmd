@@ -1,0 +1,1 @@
+council --bits 11 <game

@@ -1,0 +1,1 @@
+council --most 0 <game

@@ -1,0 +1,1 @@
+council --most 4000001 <game

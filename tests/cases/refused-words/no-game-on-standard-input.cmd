@@ -1,0 +1,1 @@
+cp game ./-; council - --list <<<'[2; 1, 1'

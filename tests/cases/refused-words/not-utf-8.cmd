@@ -1,0 +1,1 @@
+council $'\377' <game

@@ -1,0 +1,1 @@
+council missing.toml --workers 0 <game

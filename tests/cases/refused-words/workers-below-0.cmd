@@ -1,0 +1,1 @@
+council --workers -1 <game

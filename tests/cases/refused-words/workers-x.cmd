@@ -1,0 +1,1 @@
+council --workers x <game

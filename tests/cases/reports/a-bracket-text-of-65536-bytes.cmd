@@ -1,0 +1,1 @@
+printf '[1; 1]%65530s' '' >long; council long

@@ -1,0 +1,1 @@
+council --workers 16 game --bits 10 --list --most 5 --sizes

@@ -1,0 +1,1 @@
+council "$TOP/examples/un-security-council.toml" --sizes

@@ -1,0 +1,1 @@
+council game --workers 16 --bits 0 --most 4000000

@@ -1,0 +1,1 @@
+awk '/^```/ { inside = !inside; next } inside' "$TOP/docs/FORMATS.md" | awk '/^quota = 51/, /^weight = 1$/' | council
