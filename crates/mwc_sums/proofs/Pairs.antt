@@ -3,7 +3,7 @@ use Rattle.mwc_sums.proofs.Imports.{◌≡◌, ◌∙◌, ◌==◌, ◌&&◌, �
 use Rattle.mwc_sums.proofs.Imports.{IsGame, votes_of, size_of, minimal-few, AreChambersOf, minimal_of_size, sum-plus, filter-both, refl}
 use Rattle.mwc_sums.proofs.Imports.{arith, nat_tests, sum_by, range_with_len, sum_by-range-more, has, minimal_coalitions, GameView, ap}
 use Rattle.mwc_sums.proofs.Imports.{leb, true, contains, met, sum_by-cons, sum-range, sum-filter, minimal, down}
-use Rattle.mwc_sums.specs.{Chambers.paired, Chambers.minimal_of_member_size, declared.counted.Counted.Counted}
+use Rattle.mwc_sums.specs.{Chambers.paired, Chambers.minimal_of_member_size, declared.counted_game.CountedGame.CountedGame}
 use Rattle.power_index.specs.Tables.{Tables, table_of_member_size, table_of_size}
 use Rattle.coalitions.proofs.Shared.Ranges.{sum_by-range-le}
 use Rattle.power_index.specs.Counting.{count_of_size, count_of_member_size}
@@ -123,7 +123,7 @@ size-pairs a b s j = table_of_size a j * table_of_size b (s - j)
 abbrev pub member-pairs : Tables → Tables → ℕ → ℕ → ℕ → ℕ
 member-pairs a b i s j = table_of_member_size a i j * table_of_size b (s - j) + table_of_size a j * table_of_member_size b i (s - j)
 
-module _ (g : GameView) (a b : Counted) (is_g : IsGame g) (are : AreChambersOf g a.game b.game) (s : ℕ) (le : s ≤ length g.names) where
+module _ (g : GameView) (a b : CountedGame) (is_g : IsGame g) (are : AreChambersOf g a.game b.game) (s : ℕ) (le : s ≤ length g.names) where
   size-at : (j : ℕ) → j < s + 1 → size-pairs a.counts.value b.counts.value s j ≡ minimal_of_size a.game j * minimal_of_size b.game (s - j)
   size-at j lt = grind (arith, a.are.of_size j, b.are.of_size (s - j), a.are.members, b.are.members, are.first, are.second)
 

@@ -7,8 +7,8 @@ ghost use Rattle.mwc_sums.specs.Statute.{is_counted};
 ghost use Rattle.power_index.specs.Tables.{AreCountsOfGame};
 ghost use Rattle.std.specs.Prelude.{◌≡◌, ◌+◌, ◌<◌, ◌≤◌, true, IfOk, length};
 
-use crate::counted::Counted;
-use crate::seats::count_seated;
+use crate::counted_game::CountedGame;
+use crate::seats::count_chamber;
 use crate::statute::Statute;
 use council_game::{Game, Memory};
 use power_index::Counts;
@@ -31,7 +31,7 @@ impl Statute {
     }
 
     /// Counts the game of the rules of the first rule's chamber.
-    fn first_chamber(&self, alloc: Global, game: &Game) -> Result<Counted, Memory>
+    fn count_first(&self, alloc: Global, game: &Game) -> Result<CountedGame, Memory>
         requires some { 0 < length self.now.rules }
         requires chambers { AreOfChambers self.now.members self.now.rules }
         requires members { self.now.members ≡ length game.now.names }
@@ -42,8 +42,8 @@ impl Statute {
         let chamber = self.beside(alloc, 0, true)?;
         let (weights, seats) = chamber.seats().unwrap();
         let first = chamber.game(alloc, game)?;
-        let counts = count_seated(alloc, &first, weights, seats)?;
-        Ok(Counted {
+        let counts = count_chamber(alloc, &first, weights, seats)?;
+        Ok(CountedGame {
             game: first,
             counts,
         })
@@ -62,17 +62,17 @@ impl Statute {
         game.was_checked();
         self.rules_are_fair();
         let others = self.beside(alloc, 0, false)?;
-        let first = self.first_chamber(alloc, game)?;
+        let first = self.count_first(alloc, game)?;
         if others.rules() == 0 {
             return Ok(first.counts);
         }
-        let second = others.counted(alloc, game)?;
+        let second = others.count_game(alloc, game)?;
         Ok(first.join(game, &second))
     }
 
     /// Counts the game of these rules with the members of another game.
     #[cycle(count)]
-    pub(crate) fn counted(&self, alloc: Global, game: &Game) -> Result<Counted, Memory>
+    pub(crate) fn count_game(&self, alloc: Global, game: &Game) -> Result<CountedGame, Memory>
         requires some { 0 < length self.now.rules }
         requires few { length self.now.rules ≤ RULES }
         requires chambers { AreOfChambers self.now.members self.now.rules }
@@ -82,6 +82,6 @@ impl Statute {
     {
         let part = self.copy(alloc)?.game(alloc, game)?;
         let counts = self.count(alloc, &part)?;
-        Ok(Counted { game: part, counts })
+        Ok(CountedGame { game: part, counts })
     }
 }

@@ -3,7 +3,7 @@ ghost use Rattle.mwc_sums.specs.Coverage.{ArePartsOf, IsCoverage};
 ghost use Rattle.power_index.specs.Tables.{AreCountsOfGame};
 ghost use Rattle.std.specs.Prelude.{IfOk};
 
-use crate::counted::Counted;
+use crate::counted_game::CountedGame;
 use crate::statute::Statute;
 use council_game::{Game, Memory};
 use power_index::Counts;
@@ -24,7 +24,7 @@ pub enum Coverage {
 #[derive(Drop)]
 pub struct Parts {
     /// The part that sums counted.
-    pub counted: Counted,
+    pub counted: CountedGame,
     /// The part that is left: the same members under the other rules, without a title.
     pub left: Game,
 }
@@ -43,7 +43,7 @@ impl Parts {
         rest.was_checked();
         counted.join(
             game,
-            &Counted {
+            &CountedGame {
                 game: rest,
                 counts: left,
             },
@@ -74,7 +74,7 @@ pub fn count_by_sums(alloc: Global, game: &Game) -> Result<Coverage, Memory>
         return Ok(Coverage::Nothing);
     }
     Ok(Coverage::Part(Parts {
-        counted: counted.counted(alloc, game)?,
+        counted: counted.count_game(alloc, game)?,
         left: left.game(alloc, game)?,
     }))
 }

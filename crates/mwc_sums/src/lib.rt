@@ -19,12 +19,12 @@
 
 mod chamber;
 mod chambers;
-mod counted;
+mod counted_game;
 mod coverage;
 pub mod laws;
 mod seats;
 mod statute;
 mod vetoers;
 
-pub use counted::Counted;
+pub use counted_game::CountedGame;
 pub use coverage::{Coverage, Parts, count_by_sums};

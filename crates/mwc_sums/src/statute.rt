@@ -36,7 +36,7 @@ impl Model for Statute {
 }
 
 /// Copies the names of a game's members.
-fn copied_names(alloc: Global, game: &Game) -> Result<Vec<String>, Memory>
+fn copy_names(alloc: Global, game: &Game) -> Result<Vec<String>, Memory>
     ensures { IfOk result (λ names. map string_bytes names.items ≡ game.now.names) }
 {
     let members = game.members();
@@ -95,7 +95,7 @@ impl Statute {
     }
 
     /// Copies one of the rules.
-    fn copied(&self, rule: usize) -> Result<Rule, Memory>
+    fn copy_rule(&self, rule: usize) -> Result<Rule, Memory>
         requires { rule < length self.now.rules }
         ensures { IfOk result (λ r. rule_view r ≡ rule_at self.now.rules rule) }
     {
@@ -132,7 +132,7 @@ impl Statute {
         let mut rules = Vec::new(alloc);
         for other in 0..self.rules() {
             if self.share(rule, other) == sharing {
-                rules.push(self.copied(other)?)?;
+                rules.push(self.copy_rule(other)?)?;
             }
         }
         Ok(Statute { members, rules })
@@ -147,7 +147,7 @@ impl Statute {
         let mut rules = Vec::new(alloc);
         for rule in 0..self.rules() {
             if self.is_counted(alloc, rule)? == counted {
-                rules.push(self.copied(rule)?)?;
+                rules.push(self.copy_rule(rule)?)?;
             }
         }
         Ok(Statute { members, rules })
@@ -160,7 +160,7 @@ impl Statute {
         let members = self.members();
         let mut rules = Vec::new(alloc);
         for rule in 0..self.rules() {
-            rules.push(self.copied(rule)?)?;
+            rules.push(self.copy_rule(rule)?)?;
         }
         Ok(Statute { members, rules })
     }
@@ -178,7 +178,7 @@ impl Statute {
     {
         self.rules_are_fair();
         game.was_checked();
-        let names = copied_names(alloc, game)?;
+        let names = copy_names(alloc, game)?;
         match Game::with_rules(alloc, None, names, self.rules) {
             Ok(made) => {
                 made.was_checked();

@@ -11,11 +11,11 @@ returns-then-rules-eq0 c = (grind (arith, left-is), c.in_ok-count.ensures)
 pub returns-then-rules-eq0-2 : goal.returns-then-rules-eq0-2
 returns-then-rules-eq0-2 c = grind (arith, counted-is, left-is)
 
-pub counted-requires-clause-few : goal.counted-requires-clause-few
-counted-requires-clause-few c = grind (arith, sides-few)
+pub count_game-requires-clause-few : goal.count_game-requires-clause-few
+count_game-requires-clause-few c = grind (arith, sides-few)
 
-pub counted-requires-clause-chambers : goal.counted-requires-clause-chambers
-counted-requires-clause-chambers c = grind (arith, counted-chambers)
+pub count_game-requires-clause-chambers : goal.count_game-requires-clause-chambers
+count_game-requires-clause-chambers c = grind (arith, counted-chambers)
 
 pub game-requires-clause-few : goal.game-requires-clause-few
 game-requires-clause-few c = grind (arith, sides-few)
@@ -26,9 +26,9 @@ returns c =
       grind (arith, counted-is, left-is),
       record {
         chambers =
-            parts-are _ _ fair _ (counted-closed _ _ fair) c.args.game.now c.in_ok-counted-2.field-0.game
-            c.in_ok-game.field-0 c.in_ok-statute.ensures.game c.in_ok-counted-2.ensures.names c.in_ok-game.ensures.names
-            (c.in_ok-counted-2.ensures.rules ∙ c.in_ok-counted.ensures.rules) (c.in_ok-game.ensures.rules ∙ c.in_ok-left.ensures.rules);
+            parts-are _ _ fair _ (counted-closed _ _ fair) c.args.game.now c.in_ok-count_game.field-0.game
+            c.in_ok-game.field-0 c.in_ok-statute.ensures.game c.in_ok-count_game.ensures.names c.in_ok-game.ensures.names
+            (c.in_ok-count_game.ensures.rules ∙ c.in_ok-counted.ensures.rules) (c.in_ok-game.ensures.rules ∙ c.in_ok-left.ensures.rules);
         left_rules = grind (arith, left-is);
         names = c.in_ok-game.ensures.names;
         title = c.in_ok-game.ensures.title;

@@ -17,5 +17,5 @@ count-join-requires t c =
     c.in_ok-second.second.game c.requires.game c.in_ok-first.ensures.names c.in_ok-second.ensures.names c.in_ok-first.ensures.rules
     (c.in_ok-second.ensures.rules ∙ c.in_ok-others.ensures.rules)
 
-pub count-counted-requires : goal.count-counted-requires
-count-counted-requires t c = grind (arith, sides-few, others-chambers, chamber-some)
+pub count-count_game-requires : goal.count-count_game-requires
+count-count_game-requires t c = grind (arith, sides-few, others-chambers, chamber-some)

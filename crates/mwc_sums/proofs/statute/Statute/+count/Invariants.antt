@@ -4,5 +4,5 @@ use Rattle.mwc_sums.proofs.statute.Statute.+count.Given as goal
 abbrev pub decreases-count : goal.decreases-count
 decreases-count l = length l.self.now.rules + length l.self.now.rules
 
-abbrev pub decreases-counted : goal.decreases-counted
-decreases-counted l = length l.self.now.rules + length l.self.now.rules + 1
+abbrev pub decreases-count_game : goal.decreases-count_game
+decreases-count_game l = length l.self.now.rules + length l.self.now.rules + 1

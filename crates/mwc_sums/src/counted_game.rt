@@ -12,7 +12,7 @@ use power_index::Counts;
 
 /// A game, and the counts of its minimal winning coalitions.
 #[derive(Drop)]
-pub struct Counted {
+pub struct CountedGame {
     pub game: Game,
     pub counts: Box<Counts>,
     ghost is: { IsGame game },
@@ -21,7 +21,7 @@ pub struct Counted {
 
 /// Counts the coalitions of a size of a game of two chambers: pairs of one of each.
 #[tactic(auto, using(crate::proofs::Pairs::pairs))]
-fn pairs_of_size(game: &Game, first: &Counted, second: &Counted, size: usize) -> u64
+fn pairs_of_size(game: &Game, first: &CountedGame, second: &CountedGame, size: usize) -> u64
     requires size { size ≤ length game.now.names }
     requires chambers { AreChambersOf game.now first.now.game second.now.game }
     ensures { result ≡ minimal_of_size game.now size }
@@ -38,8 +38,8 @@ fn pairs_of_size(game: &Game, first: &Counted, second: &Counted, size: usize) ->
 #[tactic(auto, using(crate::proofs::Pairs::pairs))]
 fn pairs_of_member(
     game: &Game,
-    first: &Counted,
-    second: &Counted,
+    first: &CountedGame,
+    second: &CountedGame,
     member: usize,
     size: usize,
 ) -> u64
@@ -60,7 +60,7 @@ fn pairs_of_member(
 
 /// Counts the coalitions of a game of two chambers, by size.
 #[tactic(auto, using(crate::proofs::Pairs::above))]
-fn pairs(game: &Game, first: &Counted, second: &Counted) -> SizeCounts
+fn pairs(game: &Game, first: &CountedGame, second: &CountedGame) -> SizeCounts
     requires { AreChambersOf game.now first.now.game second.now.game }
     ensures { AreSizeCounts (length game.now.names) (λ _. true) (minimal_coalitions (votes_of game.now)) result }
 {
@@ -73,7 +73,7 @@ fn pairs(game: &Game, first: &Counted, second: &Counted) -> SizeCounts
 
 /// Counts those of them that contain a member, by size.
 #[tactic(auto, using(crate::proofs::Pairs::above))]
-fn pairs_with(game: &Game, first: &Counted, second: &Counted, member: usize) -> SizeCounts
+fn pairs_with(game: &Game, first: &CountedGame, second: &CountedGame, member: usize) -> SizeCounts
     requires member { member < length game.now.names }
     requires chambers { AreChambersOf game.now first.now.game second.now.game }
     ensures { AreSizeCounts (length game.now.names) (contains game.now member) (minimal_coalitions (votes_of game.now)) result }
@@ -85,12 +85,12 @@ fn pairs_with(game: &Game, first: &Counted, second: &Counted, member: usize) -> 
     sizes
 }
 
-impl Counted {
+impl CountedGame {
     /// Counts the game of two chambers, this one and another. (Out of line: inlined, it would cost
     /// stack on every call.)
     #[inline(never)]
     #[tactic(auto, using(power_index::proofs::Shared::Minimal::can_be_counted))]
-    pub(crate) fn join(self, game: &Game, other: &Counted) -> Box<Counts>
+    pub(crate) fn join(self, game: &Game, other: &CountedGame) -> Box<Counts>
         requires { AreChambersOf game.now self.game other.now.game }
         ensures { AreCountsOfGame game.now result.value }
     {

@@ -1,5 +1,5 @@
 use Rattle.mwc_sums.proofs.Imports.{◌≡◌, ℕ, ◌<◌, length, get_or, votes_of, has, minimal_coalitions, AreSizeCounts, []}
-use Rattle.mwc_sums.proofs.counted.Counted.join.Given as goal
+use Rattle.mwc_sums.proofs.counted_game.CountedGame.join.Given as goal
 
 abbrev pub ghost-of_sizes : goal.ghost-of_sizes
 ghost-of_sizes a = minimal_coalitions (votes_of a.game.now)

@@ -1,6 +1,6 @@
 use Rattle.mwc_sums.proofs.Imports.{◌≡◌, ℕ, ◌<◌, ◌≤◌, length, get_or}
 use Rattle.mwc_sums.specs.Chambers.{minimal_of_member_size}
-use Rattle.mwc_sums.proofs.counted.pairs_with.Given as goal
+use Rattle.mwc_sums.proofs.counted_game.pairs_with.Given as goal
 
 abbrev pub invariant-loop-size : goal.invariant-loop-size
 invariant-loop-size l = record {

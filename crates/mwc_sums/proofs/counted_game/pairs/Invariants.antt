@@ -1,5 +1,5 @@
 use Rattle.mwc_sums.proofs.Imports.{◌≡◌, ℕ, ◌<◌, ◌≤◌, length, get_or, minimal_of_size}
-use Rattle.mwc_sums.proofs.counted.pairs.Given as goal
+use Rattle.mwc_sums.proofs.counted_game.pairs.Given as goal
 
 abbrev pub invariant-loop-size : goal.invariant-loop-size
 invariant-loop-size l = record {
