@@ -71,6 +71,16 @@ def note(text):
     tell(text, 0)
 
 
+def warn_of_low_quotas(quotas, totals):
+    """Warns of each quota that is at most half of its total: of 0.85 read as one vote, and of a game in which two
+    coalitions without a common member both win."""
+    low = [rule for rule, (quota, total) in enumerate(zip(quotas, totals)) if 2 * quota <= total]
+    both = ": two coalitions without a common member could both win" if len(low) == len(quotas) else ""
+    for rule in low:
+        of = f" of rule {rule + 1}" if len(quotas) > 1 else ""
+        note(f"the quota {quotas[rule]:,}{of} is at most half of the total, {totals[rule]:,}{both}")
+
+
 def report_of(path, take=ignore):
     """The report in a file; - is standard input. `take` gets its coalitions."""
     if path == "-":

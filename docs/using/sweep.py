@@ -9,7 +9,7 @@ the total of the rule. --picture draws a line for each member; members whose lin
 """
 import sys
 
-from command import Words, computed, program_at_hand, ready, run, shown
+from command import Words, computed, note, program_at_hand, ready, run, shown
 from drawing import COLORS, DASHES, picture, text, width, wrapped
 from game import game_file
 from report import Fault
@@ -31,6 +31,15 @@ def sweep(program, start, rule, quotas):
         except Fault as it:
             raise Fault(f"quota {quota}: {it}", it.status) from None
     return [(quota, reports[quota]) for quota in quotas]
+
+
+def warn_of_half(start, rule, quotas):
+    """Warns of quotas of the sweep with which two coalitions without a common member could both win."""
+    low = [it for it in quotas if 2 * it <= start.totals[rule]]
+    others = [2 * quota <= total for quota, total in zip(start.quotas, start.totals)]
+    if low and all(others[:rule] + others[rule + 1 :]):
+        of = f" of rule {rule + 1}" if len(others) > 1 else ""
+        note(f"quotas up to {low[-1]:,}{of} are at most half of the total, {start.totals[rule]:,}: two coalitions without a common member could both win")
 
 
 def drawn(start, rule, reports, kind):
@@ -106,6 +115,7 @@ def main(words):
     if number > MOST:
         raise Fault(f"from {first} to {last} there are {number} quotas, and {MOST} are the most: --from, --to and --step choose some", 2)
     reports = sweep(program, start, words.rule - 1, quotas)
+    warn_of_half(start, words.rule - 1, quotas)
     if words.picture:
         with open(words.picture, "w", encoding="utf-8", newline="\n") as it:
             it.writelines(line + "\n" for line in drawn(start, words.rule - 1, reports, words.index))

@@ -41,6 +41,11 @@ case("sweep.py: a legend", {"Germany, France, Italy", "Belgium, Netherlands", "L
 points = drawn.findall("{*}polyline")[0].get("points").split()
 case("sweep.py: a point for each quota", len(points) == 17 and points[0].split(",")[0] == "60.00" and points[-1].split(",")[0] == "620.00", points)
 
+# ---- quotas of at most half
+HALF = ": two coalitions without a common member could both win\n"
+same("sweep.py: quotas of at most half are warned of", run.err, f"sweep.py: quotas up to 8 are at most half of the total, 17{HALF}")
+same("sweep.py: quotas above half are not", sweep(COUNCIL, "--from", "9").err, "")
+
 # ---- a range, steps, standard input, a rule of several
 same("sweep.py: a range in steps", [it[0] for it in rows(sweep(COUNCIL, "--from", "10", "--to", "15", "--step", "2"))[::6]], ["10", "12", "14"])
 with open(COUNCIL, "rb") as it:
@@ -51,6 +56,10 @@ two = put("two.toml", 'quotas = [5, 3]\nmember = [{name = "A", weights = [3, 1]}
 run = sweep("--rule", "2", two)
 # one head or two: AB, AC, BCD; three heads: each three of the four; four: all of them
 same("sweep.py: the second rule", [(it[0], it[4]) for it in rows(run) if it[1] == "A"], [("1", "2/7"), ("2", "2/7"), ("3", "1/4"), ("4", "1/4")])
+
+same("sweep.py: a rule above half keeps two coalitions from winning", run.err, "")
+run = sweep("--rule", "2", put("low.toml", 'quotas = [1, 2]\nmember = [{name = "A", weights = [1, 1]}, {name = "B", weights = [1, 1]}]\n'))
+same("sweep.py: two rules of at most half", run.err, f"sweep.py: quotas up to 1 of rule 2 are at most half of the total, 2{HALF}")
 
 # ---- names of any kind, in the table and in the picture
 hard = put("hard.toml", hostile_game(2))
