@@ -1,29 +1,29 @@
 #!/usr/bin/env python3
-"""A picture of both indices beside the shares of the votes, as an SVG file: bars.py [--decimals N] <REPORT >PICTURE.svg
+"""Draws both indices beside the shares of the votes, as an SVG file: bars.py [OPTIONS] <REPORT >PICTURE.svg
 
-Each member has a bar for its share under each rule, and one for each index. No name is cut.
+Each member has a bar for its share under each rule, and one for each index. No name is cut. With the game file,
+--game FILE, the picture has the names of the rules, and quotas in the unit of the table.
 """
 import sys
 
-from command import Words, run
-from drawing import picture, text, width, wrapped
+from command import Words, comments_in, run, warn_of_low_quotas
+from drawing import INDICES, SHARES, picture, quota_of, share_of, text, width, wrapped
 from report import Report, ignore, rounded
 
-BAR, GAP, LONGEST, SMALL = 9, 9, 460, 9
-SHARES = ["#bbbbbb", "#8f8f8f", "#d9cfa8", "#a9c1b4"]
-INDICES = [("Deegan-Packel index", "#33557f"), ("public good index", "#c06a2b")]
+# the bars of a member are 13 apart, so that a number of 9 has room above and below
+BAR, PITCH, GAP, LONGEST, SMALL = 8, 13, 9, 460, 9
 
 
-def kinds_of(report):
-    """What the bars are: what the legend says of each, and its color."""
-    several = len(report.quotas) > 1
-    for rule, (quota, total) in enumerate(zip(report.quotas, report.totals)):
-        yield f"share of the votes{f', rule {rule + 1}' if several else ''} (quota {quota} of {total})", SHARES[rule]
-    yield from INDICES
+def kinds_of(report, units):
+    """Yields what the bars are: what the legend says of each, and its color."""
+    for rule in range(len(report.quotas)):
+        yield f"{share_of(report, units, rule)}; quota {quota_of(report, units, rule)}", SHARES[rule][0]
+    for kind, color, _ in INDICES:
+        yield kind, color
 
 
-def drawn(report, places):
-    kinds = list(kinds_of(report))
+def drawn(report, places, units):
+    kinds = list(kinds_of(report, units))
     rows = []
     for it in report.members:
         shares = [report.share(it, rule) for rule in range(len(report.quotas))]
@@ -38,16 +38,17 @@ def drawn(report, places):
         wide = max(wide, 16 + width(it, 14))
         y += 18
     for kind, color in kinds:
-        parts.append(f'<rect x="8" y="{y - 9}" width="10" height="10" fill="{color}"/>' + text(22, y, kind))
+        parts.append(f'<rect class="key" x="8" y="{y - 9}" width="10" height="10" fill="{color}"/>' + text(22, y, kind))
+        wide = max(wide, 30 + width(kind, 12))
         y += 16
     y += 4
     for name, values in rows:
-        parts.append(text(left - 8, y + len(kinds) * BAR / 2 + 4, name, anchor="end"))
+        parts.append(text(left - 8, y + len(kinds) * PITCH / 2 + 4, name, anchor="end"))
         for value, (_, color) in zip(values, kinds):
             length = float(value / longest) * LONGEST
-            parts.append(f'<rect x="{left:.2f}" y="{y:.2f}" width="{length:.2f}" height="{BAR - 1}" fill="{color}"/>')
-            parts.append(text(left + length + 4, y + BAR - 1, rounded(value, places), SMALL))
-            y += BAR
+            parts.append(f'<rect class="bar" x="{left:.2f}" y="{y + (PITCH - BAR) / 2:.2f}" width="{length:.2f}" height="{BAR}" fill="{color}"/>')
+            parts.append(text(left + length + 4, y + PITCH - 3.5, rounded(value, places), SMALL))
+            y += PITCH
         y += GAP
     return picture(wide, y + 8, parts, title)
 
@@ -55,9 +56,13 @@ def drawn(report, places):
 def main(words):
     reader = Words(__doc__)
     reader.add_argument("--decimals", metavar="N", type=int, choices=range(1, 13), default=4, help="decimals beside the bars, rounded; else four")
+    reader.add_argument("--game", metavar="FILE", help="the game file of the report, for the names and units of its rules")
     words = reader.parse_args(words)
-    for line in drawn(Report(sys.stdin, ignore), words.decimals):
+    report = Report(sys.stdin, ignore)
+    _, units = comments_in(words.game, report)
+    for line in drawn(report, words.decimals, units):
         print(line)
+    warn_of_low_quotas(report.quotas, report.totals)
 
 
 if __name__ == "__main__":

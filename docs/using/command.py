@@ -1,20 +1,21 @@
-"""What the programs of this folder share: their words, their faults, the files they read, and the program council."""
+"""What the programs of this folder share: their options, their faults, the files they read, and the program council."""
 import argparse
 import os
 import shutil
 import subprocess
 import sys
 
+from game import GAME_FILE, check_same, comments_of, units_of
 from report import Fault, Report, ignore
 
 
 def shown(text):
-    """A text of the user on one line: a blank for each letter that moves a terminal, ends a line or shows nothing."""
+    """Puts a text of the user on one line: each letter that moves a terminal, ends a line or shows nothing is a blank."""
     return "".join(it if it.isprintable() else " " for it in str(text))
 
 
 class Words(argparse.ArgumentParser):
-    """Reads the words of a command line. What is wrong with them is told in one line, with status 2."""
+    """Reads the words of a command line. A fault in them is one line, with status 2."""
 
     def __init__(self, about):
         super().__init__(description=about, formatter_class=argparse.RawDescriptionHelpFormatter, allow_abbrev=False)
@@ -82,7 +83,7 @@ def warn_of_low_quotas(quotas, totals):
 
 
 def report_of(path, take=ignore):
-    """The report in a file; - is standard input. `take` gets its coalitions."""
+    """Reads the report in a file; - is standard input. `take` gets its coalitions."""
     if path == "-":
         return Report(sys.stdin, take)
     with open(path, encoding="utf-8-sig") as it:
@@ -94,14 +95,32 @@ def report_of(path, take=ignore):
             raise Fault(f"{path}: it is not UTF-8") from None
 
 
+def comments_in(path, report):
+    """Returns the comments of the game file of a report, and the units of its rules; none if there is no file."""
+    if path is None:
+        return [], units_of([], len(report.quotas))
+    with open(path, encoding="utf-8-sig") as it:
+        try:
+            text = it.read(GAME_FILE + 1)
+            if len(text) > GAME_FILE:
+                raise Fault(f"the game file is longer than {GAME_FILE} bytes")
+            check_same(text, report)
+        except Fault as fault:
+            raise Fault(f"{path}: {fault}") from None
+        except UnicodeDecodeError:
+            raise Fault(f"{path}: it is not UTF-8") from None
+    comments = comments_of(text)
+    return comments, units_of(comments, len(report.quotas))
+
+
 def built_program():
-    """The program as it is built in a clone, or None."""
+    """Returns the program as it is built in a clone, or None."""
     path = os.path.join(os.path.dirname(os.path.realpath(__file__)), "../../crates/council/out/council")
     return os.path.realpath(path) if os.access(path, os.X_OK) else None
 
 
 def program_at_hand(named=None):
-    """The program council: the one that was named, the one of this clone or archive, or the one on the PATH."""
+    """Returns the program council: the one that was named, the one of this clone or archive, or the one on the PATH."""
     if named:
         path = shutil.which(named)
         if not path:
@@ -117,8 +136,8 @@ def program_at_hand(named=None):
 
 
 def ready(program):
-    """A program that starts at once. The launcher of a clone proves and builds first, where it must; what it built
-    is then run without it."""
+    """Returns a program that starts at once. The launcher of a clone may prove and build first; after that, the program
+    that it built is run without it."""
     with open(program, "rb") as it:
         is_script = it.read(2) == b"#!"
     if not (is_script and os.path.basename(program) == "council"):
@@ -130,7 +149,7 @@ def ready(program):
 
 
 def computed(program, game, *words):
-    """The report of a game, from the bytes of its file. What the program says of a game that it refuses is the fault."""
+    """Computes the report of a game from the bytes of its file. If the program refuses the game, its message is the fault."""
     done = subprocess.run([program, *words], input=game, stdout=subprocess.PIPE, stderr=subprocess.PIPE)
     if done.returncode:
         told = done.stderr.decode("utf-8", "replace").strip().split("\n")[0]

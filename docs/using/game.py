@@ -3,7 +3,7 @@ import re
 
 from report import Fault
 
-MEMBERS, RULES, WEIGHT, NAME, TITLE = 40, 4, 10**12, 64, 200
+MEMBERS, RULES, WEIGHT, NAME, TITLE, GAME_FILE = 40, 4, 10**12, 64, 200, 65536
 
 
 def is_text(text, most):
@@ -70,6 +70,10 @@ class Unit:
         whole, decimals = (digits[: -self.places], "." + digits[-self.places :]) if self.places else (digits, "")
         return f"{int(whole):,}{decimals}" + ("%" if self.percent else "")
 
+    def is_share_of(self, total):
+        """Returns whether the weights are percentages that add up to 100."""
+        return self.percent and total == 100 * 10**self.places
+
 
 def rule_comment(number, name, percent, places, more):
     """Returns the comment that says what the weights of a rule are, and how they were found."""
@@ -101,6 +105,11 @@ def units_of(comments, rules):
     return units
 
 
+def grouped(numbers):
+    """Writes a number for each rule, with commas between thousands and / between the rules."""
+    return "/".join(f"{it:,}" for it in numbers)
+
+
 def comments_of(text):
     """Returns the comments at the beginning of a game file, each without its sign."""
     comments = []
@@ -111,3 +120,22 @@ def comments_of(text):
         if line:
             comments.append(line[1:].strip())
     return comments
+
+
+def check_same(text, report):
+    """Refuses a file that is not the game of a report. A bracket text, and Python before 3.11, tell nothing."""
+    try:
+        import tomllib
+    except ImportError:
+        return
+    if re.match(r"\s*\[\s*\d", text):
+        return
+    try:
+        game = tomllib.loads(text)
+        names = [it["name"] for it in game["member"]]
+        quotas = game["quotas"] if "quotas" in game else [game["quota"]]
+        weights = [it["weights"] if "weights" in it else [it["weight"]] for it in game["member"]]
+    except (ValueError, KeyError, TypeError):
+        raise Fault("this is no game file") from None
+    if (names, quotas, weights) != ([it.name for it in report.members], report.quotas, [it.weights for it in report.members]):
+        raise Fault("this is not the game of the report")

@@ -1,26 +1,29 @@
 #!/usr/bin/env python3
-"""Both indices of a game for each quota of a range, in one long table:
+"""Computes both indices of a game for each quota of a range, in one long table:
 
     sweep.py [OPTIONS] GAME >TABLE
 
 GAME is a game file, or - for standard input. The table has a line for each quota and member: the quota, the member,
-and the two indices as fractions and as decimals, with a TAB between them. Without --from and --to it goes from 1 to
-the total of the rule. --picture draws a line for each member; members whose lines are the same share one.
+and the two indices as fractions and as decimals, separated by TABs. Without --from and --to it goes from 1 to the
+total of the rule. --picture draws a line for each member; members whose lines are the same share one.
 """
+import math
 import sys
 
+from cells import decimals_of
 from command import Words, computed, note, program_at_hand, ready, run, shown
-from drawing import COLORS, DASHES, picture, text, width, wrapped
-from game import game_file
-from report import Fault
+from drawing import COLORS, DASHES, picture, round_step, text, ticks, width, wrapped
+from game import comments_of, game_file, quoted, units_of
+from report import Fault, rounded
 
 MOST = 20000
+LEFT, WIDE, SMALL = 60, 560, 10
 KINDS = {"dp": ("Deegan-Packel index", lambda it: it.deegan_packel), "pg": ("public good index", lambda it: it.public_good)}
 
 
 def sweep(program, start, rule, quotas):
-    """The report of the game for each of these quotas of a rule. The first and the last quota are tried before the
-    others, so that one out of range is told at once."""
+    """Returns the report of the game for each of these quotas of a rule. It tries the first and the last quota before
+    the others, so you hear at once of one that is out of range."""
     names = [it.name for it in start.members]
     weights = [it.weights for it in start.members]
     reports = {}
@@ -42,47 +45,83 @@ def warn_of_half(start, rule, quotas):
         note(f"quotas up to {low[-1]:,}{of} are at most half of the total, {start.totals[rule]:,}: two coalitions without a common member could both win")
 
 
-def drawn(start, rule, reports, kind):
-    """The picture: the quota from left to right, the index upwards."""
+def spread(wanted, heights, first, last):
+    """Returns a place for each label from `first` to `last`, near the wanted ones, and none over another."""
+    order = sorted(range(len(wanted)), key=lambda it: wanted[it])
+    found = {}
+    for at in order:
+        found[at] = max(wanted[at], first)
+        first = found[at] + heights[at]
+    for at in reversed(order):
+        last -= heights[at]
+        found[at] = last = min(found[at], last)
+    return [found[at] for at in range(len(wanted))]
+
+
+class Axes:
+    """The axes of a sweep: the quota from left to right, the index upwards, each with round numbers."""
+
+    def __init__(self, first, last, top, unit, high):
+        self.first, self.last, self.high, self.up, self.unit = first, last, high, 0, unit
+        self.step = round_step(top, 5)
+        self.top = self.step * math.ceil(top / self.step)
+        most = max(1, min(6, int(WIDE / (width(unit.written(last), SMALL) + 14))))
+        self.quotas = [int(it) for it in ticks(first, last, most, whole=True)] or [first]
+
+    def across(self, quota):
+        return LEFT + (WIDE * (quota - self.first) / (self.last - self.first) if self.last > self.first else WIDE / 2)
+
+    def upwards(self, index):
+        return self.up + self.high - self.high * float(index / self.top)
+
+    def place(self, quota, index):
+        return f"{self.across(quota):.2f},{self.upwards(index):.2f}"
+
+    def drawn(self):
+        places = decimals_of(self.step)
+        for at in range(int(self.top / self.step) + 1):
+            y = self.upwards(self.step * at)
+            yield f'<path d="M{LEFT} {y:.2f}h{WIDE}" stroke="#dddddd"/>'
+            yield text(LEFT - 6, y + 4, rounded(self.step * at, places), SMALL, "end", ' class="index"')
+        for it in self.quotas:
+            x = self.across(it)
+            yield f'<path d="M{x:.2f} {self.up + self.high:.2f}v5" stroke="#777777"/>'
+            yield text(x, self.up + self.high + 17, self.unit.written(it), SMALL, "middle", ' class="quota"')
+
+
+def drawn(start, rule, reports, kind, unit):
+    """Draws the picture: a line for each index over the quotas, with the names of its members at its end."""
     title, value = KINDS[kind]
     lines = {}
     for at, it in enumerate(start.members):
         lines.setdefault(tuple(value(report.members[at]) for _, report in reports), []).append(it.name)
-    top = max(map(max, lines))
-    left, wide, high = 60, 560, 360
-    first, last = reports[0][0], reports[-1][0]
-    head = wrapped(start.heading().split(), left + wide + 200, 14)
-    up = 30 + 18 * len(head)
-
-    def place(quota, it):
-        across = wide * (quota - first) / (last - first) if last > first else wide / 2
-        return f"{left + across:.2f},{up + high - high * float(it / top):.2f}"
-
+    labels = [wrapped(names, 260, 12, ", ") for names in lines.values()]
+    heights = [15 * len(it) + 3 for it in labels]
+    axes = Axes(reports[0][0], reports[-1][0], max(map(max, lines)), unit, max(360, sum(heights)))
+    head = wrapped(start.heading().split(), LEFT + WIDE + 200, 14)
+    of = f" of rule {rule + 1}" if len(start.quotas) > 1 else ""
+    of += f", {quoted(unit.name)}" if unit.name else ""
+    what = f"{title}, by the quota{of} (total {unit.written(start.totals[rule])})"
     parts = [text(8, 22 + 18 * at, it, 14, more=' font-weight="bold"') for at, it in enumerate(head)]
-    parts.append(text(8, up - 6, f"{title}, by the quota of rule {rule + 1} (total {start.totals[rule]})"))
-    up += 16
-    for step in range(5):
-        y = up + high - high * step / 4
-        parts.append(f'<path d="M{left} {y:.2f}h{wide}" stroke="#dddddd"/>')
-        parts.append(text(left - 6, y + 4, f"{float(top * step / 4):.4f}", 10, "end"))
-    for step in range(5 if last - first >= 4 else last - first + 1):
-        quota = first + (last - first) * step // (4 if last - first >= 4 else max(last - first, 1))
-        x = float(place(quota, 0).split(",")[0])
-        parts.append(text(x, up + high + 16, str(quota), 10, "middle"))
-    y, right = up + 10, left + wide + 60
-    for at, (values, names) in enumerate(lines.items()):
+    parts.append(text(8, 24 + 18 * len(head), what))
+    axes.up = 46 + 18 * len(head)
+    parts += axes.drawn()
+
+    quotas, right = [quota for quota, _ in reports], LEFT + WIDE + 60
+    ends = [axes.upwards(values[-1]) for values in lines]
+    for at, (values, label, end, y) in enumerate(zip(lines, labels, ends, spread(ends, heights, axes.up, axes.up + axes.high))):
         style = f'stroke="{COLORS[at % len(COLORS)]}" stroke-width="2" stroke-dasharray="{DASHES[at // len(COLORS) % len(DASHES)]}"'
-        points = " ".join(place(quota, it) for (quota, _), it in zip(reports, values))
-        if len(values) == 1:
-            parts.append(f'<circle cx="{points.split(",")[0]}" cy="{points.split(",")[1]}" r="4" fill="{COLORS[at % len(COLORS)]}"/>')
-        parts.append(f'<polyline points="{points}" fill="none" {style}/>')
-        parts.append(f'<path d="M{left + wide + 20} {y - 4}h30" {style}/>')
-        for it in wrapped(names, 260, 12, ", "):
-            parts.append(text(left + wide + 58, y, it))
-            right = max(right, left + wide + 58 + width(it, 12))
-            y += 15
-        y += 4
-    return picture(max(right, *(width(it, 14) for it in head)) + 16, max(up + high + 30, y + 10), parts, start.heading())
+        points = [axes.place(quota, it) for quota, it in zip(quotas, values)]
+        x = axes.across(quotas[-1])
+        if len(points) == 1:
+            parts.append(f'<circle cx="{x:.2f}" cy="{end:.2f}" r="4" fill="{COLORS[at % len(COLORS)]}"/>')
+        parts.append(f'<polyline points="{" ".join(points)}" fill="none" {style}/>')
+        parts.append(f'<path class="leader" d="M{x:.2f} {end:.2f}L{LEFT + WIDE + 40} {y:.2f}h12" fill="none" {style}/>')
+        for row, it in enumerate(label):
+            parts.append(text(LEFT + WIDE + 56, y + 4 + 15 * row, it, more=' class="member"'))
+            right = max(right, LEFT + WIDE + 56 + width(it, 12))
+    wide = max(right, 8 + width(what, 12), *(width(it, 14) for it in head))
+    return picture(wide + 16, axes.up + axes.high + 30, parts, start.heading())
 
 
 def main(words):
@@ -118,7 +157,8 @@ def main(words):
     warn_of_half(start, words.rule - 1, quotas)
     if words.picture:
         with open(words.picture, "w", encoding="utf-8", newline="\n") as it:
-            it.writelines(line + "\n" for line in drawn(start, words.rule - 1, reports, words.index))
+            unit = units_of(comments_of(game.decode("utf-8-sig")), len(start.quotas))[words.rule - 1]
+            it.writelines(line + "\n" for line in drawn(start, words.rule - 1, reports, words.index, unit))
     print("quota", "member", "deegan_packel", "dp", "public_good", "pg", sep="\t")
     # a file gets each name as it is, and a terminal none that moves it
     name_of = shown if sys.stdout.isatty() else str
