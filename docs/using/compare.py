@@ -1,16 +1,16 @@
 #!/usr/bin/env python3
-"""Two games or more side by side, member by member: compare.py [OPTIONS] REPORT REPORT..
+"""Shows two games or more side by side, member by member: compare.py [OPTIONS] REPORT REPORT..
 
-For each game its weights and both indices, and for each but the first what an index has more or less than in the
-first. A member that a game has not stands with a dash there. Members are matched by their names, to the letter; names
-that one game has and another has not, and that look like one, are told on standard error: --same makes them one.
+Each game has its weights and both indices, and each but the first also the differences to the first. A dash means that
+a game does not have the member. Members are matched by their exact names. You are warned of two names that look alike
+if only one game has each of them: --same makes them one.
 """
 import difflib
 import functools
 import unicodedata
 
 from command import Words, note, report_of, run, shown
-from game import in_shell, quoted
+from game import grouped, in_shell, quoted
 from report import Fault, rounded
 
 
@@ -79,7 +79,7 @@ def cells(games, name):
     first = games[0].get(name)
     for at, members in enumerate(games):
         it = members.get(name)
-        yield [it.weight, it.dp_decimals, it.pg_decimals] if it else ["-", "-", "-"]
+        yield [grouped(it.weights), it.dp_decimals, it.pg_decimals] if it else ["-", "-", "-"]
         if at:
             whole = it and first
             yield [signed(it.deegan_packel - first.deegan_packel), signed(it.public_good - first.public_good)] if whole else ["-", "-"]
@@ -125,7 +125,7 @@ def main(words):
         if not any(it.name in (first, other) for report in reports for it in report.members):
             raise Fault(f"--same {in_shell(first)} {in_shell(other)}: no report has one of them", 2)
     for at, it in enumerate(reports, 1):
-        print(f"{at}  {shown(it.heading())}: {it.quota} of {it.total}, minimal winning coalitions: {it.minimal}")
+        print(f"{at}  {shown(it.heading())}: {grouped(it.quotas)} of {grouped(it.totals)}, minimal winning coalitions: {it.minimal:,}")
     print()
     for line in table(games):
         print(line)

@@ -47,8 +47,13 @@ class Column:
     def words(self):
         return HEADINGS[self.kind] + ("" if self.rule is None else f", rule {self.rule + 1}")
 
+    def printed(self, report, member, places):
+        """Returns the cell of a member as people read it: whole numbers have commas between thousands."""
+        text = self.text(report, member, places)
+        return f"{int(text):,}" if self.kind in ("weight", "coalitions") else text
+
     def text(self, report, member, places):
-        """The cell of a member; decimals are rounded where a number of places is given, or as the report has them."""
+        """Returns the cell of a member. Without a number of places, decimals are as the report has them; else rounded."""
         kind, rule = self.kind, self.rule or 0
         if kind == "weight":
             return str(member.weights[rule])
@@ -121,7 +126,7 @@ def latex(report, columns, places):
     for member in report.members:
         cells = []
         for it in columns:
-            text = it.text(report, member, places)
+            text = it.printed(report, member, places)
             cells.append(in_latex(text) if it.kind == "name" else f"${text}$" if it.kind in TEXTS else text)
         yield " & ".join(cells) + " \\\\"
     yield "\\bottomrule"
@@ -135,7 +140,8 @@ def markdown(report, columns, places):
     yield row([it.words() for it in columns])
     yield row([":--" if it.kind == "name" else "--:" for it in columns])
     for member in report.members:
-        yield row([re.sub(r"([!-/:-@\[-`{-~])", r"\\\1", it.text(report, member, places)) if it.kind == "name" else it.text(report, member, places) for it in columns])
+        cells = [(it.kind, it.printed(report, member, places)) for it in columns]
+        yield row([re.sub(r"([!-/:-@\[-`{-~])", r"\\\1", text) if kind == "name" else text for kind, text in cells])
 
 
 def pair(value):
