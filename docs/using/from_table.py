@@ -28,8 +28,8 @@ from report import Fault
 MOST = 1 << 24
 # headings of a column of names
 NAMED = set("name names member members".split())
-# labels that a total often has; without its sum such a row is still no member for sure
-TOTAL = set("total totals sum sums all summe gesamt insgesamt somme ensemble totale suma".split())
+# labels of totals: a row that has one and not the sum may still be no member
+TOTAL = set("total totals sum sums all summe gesamt insgesamt somme ensemble totale suma subtotal subtotals".split())
 
 
 class Quota:
@@ -277,9 +277,26 @@ def total_of(members, decimal):
     if best is not None:
         return best, f"{nearly}the sum of all others"
     for row in [last, 0] if last else []:
-        if members[row].name.casefold().strip(":. ") in TOTAL:
+        if has_name_of_total(members[row]):
             return row, "a total by its name, but not the sum of all others"
     return None, ""
+
+
+def has_name_of_total(member):
+    return member.name.casefold().strip(":. ") in TOTAL
+
+
+def refuse_others(members, words):
+    """Refuses rows that hardly are members: a subtotal by its name, and a first or last row that is the only one with
+    the colon of a source or the star of a note."""
+    if words.all_rows:
+        return
+    doubtful = [it for it in members if has_name_of_total(it)]
+    marked = [it for it in members if ":" in it.name or it.name.startswith("*")]
+    if len(marked) == 1 and len(members) > 1 and marked[0] in (members[0], members[-1]):
+        doubtful += marked
+    for it in doubtful:
+        raise Fault(f"line {it.line}, {quoted(it.name[:40])}, is hardly a member: delete the line, or say --all-rows if it is one")
 
 
 def without_total(members, decimal, words):
@@ -369,6 +386,7 @@ def game_of(data, quotas, words):
     decimal = decimal_of(members, columns, words.decimal)
     left_out += [f"Left out: line {columns.line}, the heading"] if columns.heading else []
     left_out += without_total(members, decimal, words)
+    refuse_others(members, words)
     for it in members:
         if it.fault:
             raise it.fault

@@ -83,6 +83,12 @@ for name, table in [("percent", "A,33%\nB,33%\nC,33%\nx,100%\n"), ("decimals", "
     fault(f"a total of rounded weights: {name}", game("60%", table=table), 1, f'line 4, "x", is nearly the sum of all others: {ASKS}')
 gives("218 seats beside 217 are no total", ["218"], "A,218\nB,217\n", "218", ["218", "217"])
 fault("a total of heads", game("heads:2", "--no-heading", table="A\nB\nTotal\n"), 1, f'line 3, "Total", is a total by its name, but not the sum of all others: {ASKS}')
+HARDLY = "is hardly a member: delete the line, or say --all-rows if it is one"
+for name, table, line, told in [("a source with a comma", "A,5\nB,3\nSource: Smith, 2004\n", 3, "Source: Smith"), ("a title with a comma", "Votes: Europe, 2004.5\nA,5\nB,3\n", 1, "Votes: Europe"),
+                                ("a note with a comma", "A,5\nB,3\n*) estimated, 2004\n", 3, "*) estimated"), ("a subtotal", "A,5\nB,3\nSubtotal,8\nC,2\nD,1\n", 3, "Subtotal")]:
+    fault(f"{name} is hardly a member", game("60%", table=table), 1, f'line {line}, "{told}", {HARDLY}')
+gives("a member with the name of a subtotal", ["60%", "--all-rows"], "A,5\nB,3\nSubtotal,8\nC,2\nD,1\n", "12", ["5", "3", "8", "2", "1"])
+gives("members with colons", ["60%"], "A: x,5\nB: y,3\nC,1\n", "6", ["5", "3", "1"])
 fault("--no-total without a total", game("60%", "--no-total", table="A,5\nB,3\nC,1\n"), 2, "--no-total: neither the first row nor the last is the sum of all others")
 run = game("60%", "--no-total", table="A,5\nB,3\nTotal,9\n")
 case("a total that is none is left out aloud", read(run.out)[1] == ["5", "3"] and run.err == 'from_table.py: line 3, "Total", is left out, and is a total by its name, but not the sum of all others\n', run.err)
