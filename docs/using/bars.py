@@ -6,51 +6,51 @@ Each member has a bar for its share under each rule, and one for each index. No 
 """
 import sys
 
-from command import Words, comments_in, run, warn_of_low_quotas
-from drawing import INDICES, SHARES, picture, quota_of, share_of, text, width, wrapped
-from report import Report, ignore, rounded
+from command import Words, read_comments, run, warn_of_low_quotas
+from drawing import INDICES, SHARES, measure, name_share, wrap, write_picture, write_quota, write_text
+from report import Report, ignore, round_half_up
 
 # the bars of a member are 13 apart, so that a number of 9 has room above and below
 BAR, PITCH, GAP, LONGEST, SMALL = 8, 13, 9, 460, 9
 
 
-def kinds_of(report, units):
+def list_kinds(report, units):
     """Yields what the bars are: what the legend says of each, and its color."""
     for rule in range(len(report.quotas)):
-        yield f"{share_of(report, units, rule)}; quota {quota_of(report, units, rule)}", SHARES[rule][0]
+        yield f"{name_share(report, units, rule)}; quota {write_quota(report, units, rule)}", SHARES[rule][0]
     for kind, color, _ in INDICES:
         yield kind, color
 
 
-def drawn(report, places, units):
-    kinds = list(kinds_of(report, units))
+def draw(report, places, units):
+    kinds = list(list_kinds(report, units))
     rows = []
     for it in report.members:
         shares = [report.share(it, rule) for rule in range(len(report.quotas))]
         rows.append((it.name, [*shares, it.deegan_packel, it.public_good]))
     longest = max(max(values) for _, values in rows)
-    left = max(60.0, *(width(name, 12) for name, _ in rows)) + 16
-    wide = left + LONGEST + 20 + width("0." + "0" * places, SMALL)
+    left = max(60.0, *(measure(name, 12) for name, _ in rows)) + 16
+    wide = left + LONGEST + 20 + measure("0." + "0" * places, SMALL)
     title = report.heading()
     parts, y = [], 22
-    for it in wrapped(title.split(" "), wide - 16, 14):
-        parts.append(text(8, y, it, 14, more=' font-weight="bold"'))
-        wide = max(wide, 16 + width(it, 14))
+    for it in wrap(title.split(" "), wide - 16, 14):
+        parts.append(write_text(8, y, it, 14, more=' font-weight="bold"'))
+        wide = max(wide, 16 + measure(it, 14))
         y += 18
     for kind, color in kinds:
-        parts.append(f'<rect class="key" x="8" y="{y - 9}" width="10" height="10" fill="{color}"/>' + text(22, y, kind))
-        wide = max(wide, 30 + width(kind, 12))
+        parts.append(f'<rect class="key" x="8" y="{y - 9}" width="10" height="10" fill="{color}"/>' + write_text(22, y, kind))
+        wide = max(wide, 30 + measure(kind, 12))
         y += 16
     y += 4
     for name, values in rows:
-        parts.append(text(left - 8, y + len(kinds) * PITCH / 2 + 4, name, anchor="end"))
+        parts.append(write_text(left - 8, y + len(kinds) * PITCH / 2 + 4, name, anchor="end"))
         for value, (_, color) in zip(values, kinds):
             length = float(value / longest) * LONGEST
             parts.append(f'<rect class="bar" x="{left:.2f}" y="{y + (PITCH - BAR) / 2:.2f}" width="{length:.2f}" height="{BAR}" fill="{color}"/>')
-            parts.append(text(left + length + 4, y + PITCH - 3.5, rounded(value, places), SMALL))
+            parts.append(write_text(left + length + 4, y + PITCH - 3.5, round_half_up(value, places), SMALL))
             y += PITCH
         y += GAP
-    return picture(wide, y + 8, parts, title)
+    return write_picture(wide, y + 8, parts, title)
 
 
 def main(words):
@@ -59,8 +59,8 @@ def main(words):
     reader.add_argument("--game", metavar="FILE", help="the game file of the report, for the names and units of its rules")
     words = reader.parse_args(words)
     report = Report(sys.stdin, ignore)
-    _, units = comments_in(words.game, report)
-    for line in drawn(report, words.decimals, units):
+    _, units = read_comments(words.game, report)
+    for line in draw(report, words.decimals, units):
         print(line)
     warn_of_low_quotas(report.quotas, report.totals)
 

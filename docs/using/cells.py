@@ -5,7 +5,7 @@ import math
 import re
 from fractions import Fraction
 
-from game import quoted
+from game import quote
 from report import Fault
 
 BLANKS = " \u00a0\u2007\u2009\u202f"
@@ -29,9 +29,9 @@ class Number:
         self.good = bool(match) and bool(match[1] or match[2]) and digits.isascii() and len(digits) <= 40
         if self.good:
             self.whole, self.rest, self.power = match[1], match[2], int(match[3] or 0)
-            self.good = self.fits(".") or self.fits(",")
+            self.good = self.is_valid_with(".") or self.is_valid_with(",")
 
-    def fits(self, decimal):
+    def is_valid_with(self, decimal):
         """Returns whether it is a number if this letter is the decimal sign, and the other one separates thousands."""
         groups, _, decimals = self.rest.partition(decimal)
         if decimal in decimals or OTHER[decimal] in decimals:
@@ -43,7 +43,7 @@ class Number:
 
     def decimal(self):
         """Returns its decimal sign; None if it has none, or if both readings make a number."""
-        point, comma = self.fits("."), self.fits(",")
+        point, comma = self.is_valid_with("."), self.is_valid_with(",")
         return None if point and comma else "." if point else ","
 
     def is_open(self):
@@ -57,7 +57,7 @@ class Number:
         return Fraction(int(digits)) * Fraction(10) ** (self.power - len(decimals))
 
 
-def decimals_of(value):
+def count_decimals(value):
     """Returns how many decimals a value has, which is a whole number over a power of ten."""
     places = 0
     while (value * 10**places).denominator != 1:
@@ -65,7 +65,7 @@ def decimals_of(value):
     return places
 
 
-def plain(value):
+def write_plain(value):
     """Writes a value with its decimals, cut off after six, and with commas between thousands."""
     places = 0
     while places < 6 and (value * 10**places).denominator != 1:
@@ -81,18 +81,18 @@ class Table:
 
     def __init__(self, data, encoding):
         self.rows, self.delimiter = [], None
-        text = decoded(data, encoding)
+        text = decode(data, encoding)
         first, _, rest = text.partition("\n")
         said = re.fullmatch(r"sep=(.)\r?", first)
         self.skipped = 0
         if said:
             self.skipped, self.delimiter, text = 1, said[1], rest
         else:
-            self.delimiter = max("\t;,", key=lambda it: sum(len(row) > 1 for _, row in rows_of(text, it, quiet=True)))
-        self.rows = [(line + self.skipped, row) for line, row in rows_of(text, self.delimiter, self.skipped)]
+            self.delimiter = max("\t;,", key=lambda it: sum(len(row) > 1 for _, row in read_rows(text, it, quiet=True)))
+        self.rows = [(line + self.skipped, row) for line, row in read_rows(text, self.delimiter, self.skipped)]
 
 
-def decoded(data, encoding):
+def decode(data, encoding):
     """Returns the text of a table. A byte order mark tells UTF-8 and UTF-16; without one, zeros tell UTF-16."""
     if data[:4] == b"PK\x03\x04" or data[:8] == b"\xd0\xcf\x11\xe0\xa1\xb1\x1a\xe1":
         raise Fault("this is the file of a spreadsheet itself: export it as CSV, and give that")
@@ -109,10 +109,10 @@ def decoded(data, encoding):
         line = data.count(b"\n", 0, it.start) + 1
         raise Fault(f"line {line} is not {encoding}: export the table as UTF-8, or say --encoding cp1252 or what it is") from None
     except (LookupError, ValueError):
-        raise Fault(f"there is no encoding {quoted(encoding)}", 2) from None
+        raise Fault(f"there is no encoding {quote(encoding)}", 2) from None
 
 
-def rows_of(text, delimiter, skipped=0, quiet=False):
+def read_rows(text, delimiter, skipped=0, quiet=False):
     """Yields the rows that are not empty, each with the line in which it begins."""
     reader = csv.reader(io.StringIO(text, newline=""), delimiter=delimiter, strict=True)
     begun = 1

@@ -5,11 +5,11 @@ import shutil
 import subprocess
 import sys
 
-from game import GAME_FILE, check_same, comments_of, units_of
+from game import GAME_FILE, check_same, find_comments, read_units
 from report import Fault, Report, ignore
 
 
-def shown(text):
+def make_printable(text):
     """Puts a text of the user on one line: each letter that moves a terminal, ends a line or shows nothing is a blank."""
     return "".join(it if it.isprintable() else " " for it in str(text))
 
@@ -56,7 +56,7 @@ def run(main):
 def tell(text, status):
     """Says a line on standard error, if that takes it; returns the status."""
     try:
-        print(f"{os.path.basename(sys.argv[0])}: {shown(text)}", file=sys.stderr, flush=True)
+        print(f"{os.path.basename(sys.argv[0])}: {make_printable(text)}", file=sys.stderr, flush=True)
     except OSError:
         drop(sys.stderr)
     return status
@@ -82,7 +82,7 @@ def warn_of_low_quotas(quotas, totals):
         note(f"the quota {quotas[rule]:,}{of} is at most half of the total, {totals[rule]:,}{both}")
 
 
-def report_of(path, take=ignore):
+def read_report(path, take=ignore):
     """Reads the report in a file; - is standard input. `take` gets its coalitions."""
     if path == "-":
         return Report(sys.stdin, take)
@@ -95,10 +95,10 @@ def report_of(path, take=ignore):
             raise Fault(f"{path}: it is not UTF-8") from None
 
 
-def comments_in(path, report):
+def read_comments(path, report):
     """Returns the comments of the game file of a report, and the units of its rules; none if there is no file."""
     if path is None:
-        return [], units_of([], len(report.quotas))
+        return [], read_units([], len(report.quotas))
     with open(path, encoding="utf-8-sig") as it:
         try:
             text = it.read(GAME_FILE + 1)
@@ -109,17 +109,17 @@ def comments_in(path, report):
             raise Fault(f"{path}: {fault}") from None
         except UnicodeDecodeError:
             raise Fault(f"{path}: it is not UTF-8") from None
-    comments = comments_of(text)
-    return comments, units_of(comments, len(report.quotas))
+    comments = find_comments(text)
+    return comments, read_units(comments, len(report.quotas))
 
 
-def built_program():
+def find_built_program():
     """Returns the program as it is built in a clone, or None."""
     path = os.path.join(os.path.dirname(os.path.realpath(__file__)), "../../crates/council/out/council")
     return os.path.realpath(path) if os.access(path, os.X_OK) else None
 
 
-def program_at_hand(named=None):
+def find_program(named=None):
     """Returns the program council: the one that was named, the one of this clone or archive, or the one on the PATH."""
     if named:
         path = shutil.which(named)
@@ -135,7 +135,7 @@ def program_at_hand(named=None):
     return path
 
 
-def ready(program):
+def prepare(program):
     """Returns a program that starts at once. The launcher of a clone may prove and build first; after that, the program
     that it built is run without it."""
     with open(program, "rb") as it:
@@ -145,10 +145,10 @@ def ready(program):
     status = subprocess.run([program, "--version"], stdin=subprocess.DEVNULL, stdout=subprocess.DEVNULL).returncode
     if status:
         raise Fault(f"{program} ended with status {status}")
-    return built_program() or program
+    return find_built_program() or program
 
 
-def computed(program, game, *words):
+def compute(program, game, *words):
     """Computes the report of a game from the bytes of its file. If the program refuses the game, its message is the fault."""
     done = subprocess.run([program, *words], input=game, stdout=subprocess.PIPE, stderr=subprocess.PIPE)
     if done.returncode:

@@ -22,8 +22,8 @@ import tempfile
 import unicodedata
 
 from command import Words, run
-from game import quoted
-from report import Fault, Report, ignore, rounded
+from game import quote
+from report import Fault, Report, ignore, round_half_up
 
 FORMATS = ["csv", "json", "latex", "markdown"]
 HEADINGS = {
@@ -44,29 +44,29 @@ class Column:
     def heading(self):
         return self.kind if self.rule is None else f"{self.kind}_{self.rule + 1}"
 
-    def words(self):
+    def title(self):
         return HEADINGS[self.kind] + ("" if self.rule is None else f", rule {self.rule + 1}")
 
-    def printed(self, report, member, places):
+    def write_for_people(self, report, member, places):
         """Returns the cell of a member as people read it: whole numbers have commas between thousands."""
-        text = self.text(report, member, places)
+        text = self.write(report, member, places)
         return f"{int(text):,}" if self.kind in ("weight", "coalitions") else text
 
-    def text(self, report, member, places):
+    def write(self, report, member, places):
         """Returns the cell of a member. Without a number of places, decimals are as the report has them; else rounded."""
         kind, rule = self.kind, self.rule or 0
         if kind == "weight":
             return str(member.weights[rule])
         if kind == "share":
-            return rounded(report.share(member, rule), 6 if places is None else places)
+            return round_half_up(report.share(member, rule), 6 if places is None else places)
         if kind == "dp":
-            return member.dp_decimals if places is None else rounded(member.deegan_packel, places)
+            return member.dp_decimals if places is None else round_half_up(member.deegan_packel, places)
         if kind == "pg":
-            return member.pg_decimals if places is None else rounded(member.public_good, places)
+            return member.pg_decimals if places is None else round_half_up(member.public_good, places)
         return {"name": member.name, "coalitions": str(member.coalitions), "deegan_packel": member.dp_fraction, "public_good": member.pg_fraction}[kind]
 
 
-def columns_of(report, kinds):
+def choose_columns(report, kinds):
     several = len(report.quotas) > 1
     for kind in kinds:
         if several and kind in ("weight", "share"):
@@ -75,19 +75,19 @@ def columns_of(report, kinds):
             yield Column(kind)
 
 
-def csv(report, columns, places):
+def write_csv(report, columns, places):
     yield ",".join(it.heading() for it in columns)
     for member in report.members:
         cells = []
         for it in columns:
-            text = it.text(report, member, places)
+            text = it.write(report, member, places)
             if it.kind == "name" and text.lstrip()[:1] in tuple("=+-@\t\r＝＋－＠"):
                 text = "'" + text
             cells.append('"' + text.replace('"', '""') + '"' if it.kind in TEXTS else text)
         yield ",".join(cells)
 
 
-def in_latex(text):
+def escape_latex(text):
     """A text as LaTeX prints it, letter by letter."""
     names = {"\\": "textbackslash", "~": "textasciitilde", "^": "textasciicircum", "<": "textless", ">": "textgreater", "|": "textbar"}
     text = unicodedata.normalize("NFC", text)
@@ -110,7 +110,7 @@ def in_latex(text):
     return "".join(letters)
 
 
-def latex(report, columns, places):
+def write_latex(report, columns, places):
     if report.title:
         yield f"% {report.title}"
     yield "% \\usepackage{booktabs}, and \\usepackage[T1]{fontenc} for letters with accents"
@@ -121,38 +121,38 @@ def latex(report, columns, places):
             yield f"\\ifcsname {name}\\else\\expandafter\\def\\csname {name}{{[U+{ord(it):04X}]}}\\fi"
     yield "\\begin{tabular}{" + "".join("l" if it.kind == "name" else "r" for it in columns) + "}"
     yield "\\toprule"
-    yield " & ".join(it.words() for it in columns) + " \\\\"
+    yield " & ".join(it.title() for it in columns) + " \\\\"
     yield "\\midrule"
     for member in report.members:
         cells = []
         for it in columns:
-            text = it.printed(report, member, places)
-            cells.append(in_latex(text) if it.kind == "name" else f"${text}$" if it.kind in TEXTS else text)
+            text = it.write_for_people(report, member, places)
+            cells.append(escape_latex(text) if it.kind == "name" else f"${text}$" if it.kind in TEXTS else text)
         yield " & ".join(cells) + " \\\\"
     yield "\\bottomrule"
     yield "\\end{tabular}"
 
 
-def markdown(report, columns, places):
-    def row(cells):
+def write_markdown(report, columns, places):
+    def write_row(cells):
         return "| " + " | ".join(cells) + " |"
 
-    yield row([it.words() for it in columns])
-    yield row([":--" if it.kind == "name" else "--:" for it in columns])
+    yield write_row([it.title() for it in columns])
+    yield write_row([":--" if it.kind == "name" else "--:" for it in columns])
     for member in report.members:
-        cells = [(it.kind, it.printed(report, member, places)) for it in columns]
-        yield row([re.sub(r"([!-/:-@\[-`{-~])", r"\\\1", text) if kind == "name" else text for kind, text in cells])
+        cells = [(it.kind, it.write_for_people(report, member, places)) for it in columns]
+        yield write_row([re.sub(r"([!-/:-@\[-`{-~])", r"\\\1", text) if kind == "name" else text for kind, text in cells])
 
 
-def pair(value):
+def make_pair(value):
     return [value.numerator, value.denominator]
 
 
-def whole(report, places):
+def describe(report, places):
     """The whole report but for its coalitions, as one value."""
 
-    def index(value, decimals):
-        return {"fraction": pair(value), "decimals": float(decimals if places is None else rounded(value, places))}
+    def describe_index(value, decimals):
+        return {"fraction": make_pair(value), "decimals": float(decimals if places is None else round_half_up(value, places))}
 
     return {
         "title": report.title or None,
@@ -164,8 +164,8 @@ def whole(report, places):
                 "name": it.name,
                 "weights": it.weights,
                 "coalitions": it.coalitions,
-                "deegan_packel": index(it.deegan_packel, it.dp_decimals),
-                "public_good": index(it.public_good, it.pg_decimals),
+                "deegan_packel": describe_index(it.deegan_packel, it.dp_decimals),
+                "public_good": describe_index(it.public_good, it.pg_decimals),
             }
             for it in report.members
         ],
@@ -186,7 +186,7 @@ def write_json(lines, places):
             coalitions.write(next(between) + text({"members": it.names, "weights": it.weights}).replace("\n", "\n  "))
 
         report = Report(lines, take)
-        head = text(whole(report, places))
+        head = text(describe(report, places))
         if report.listed:
             sys.stdout.write(head[: -len("\n}")] + ',\n "coalitions": [')
             coalitions.seek(0)
@@ -204,22 +204,22 @@ def main(words):
     reader.add_argument("--mark", action="store_true", help="a byte order mark in front of csv, by which Excel knows UTF-8")
     words = reader.parse_args(words)
     if words.format not in FORMATS:
-        said = f"{quoted(words.format)} is no format" if words.format else "say a format"
+        said = f"{quote(words.format)} is no format" if words.format else "say a format"
         raise Fault(f"{said}: csv, json, latex or markdown", 2)
     kinds = words.columns.split(",") if words.columns is not None else IN_CSV if words.format == "csv" else IN_PRINT
     for it in kinds:
         if it not in HEADINGS:
-            raise Fault(f"{quoted(it)} is no column: {', '.join(HEADINGS)}", 2)
+            raise Fault(f"{quote(it)} is no column: {', '.join(HEADINGS)}", 2)
     if words.format == "json":
         write_json(sys.stdin, words.decimals)
         return
     report = Report(sys.stdin, ignore)
-    columns = list(columns_of(report, kinds))
+    columns = list(choose_columns(report, kinds))
     if words.format == "csv":
-        lines = csv(report, columns, words.decimals)
+        lines = write_csv(report, columns, words.decimals)
         sys.stdout.write("\ufeff" if words.mark else "")
     else:
-        lines = {"latex": latex, "markdown": markdown}[words.format](report, columns, words.decimals or 4)
+        lines = {"latex": write_latex, "markdown": write_markdown}[words.format](report, columns, words.decimals or 4)
     for it in lines:
         print(it)
 

@@ -20,9 +20,9 @@ import re
 import sys
 from fractions import Fraction
 
-from cells import Number, Table, decimals_of, plain
+from cells import Number, Table, count_decimals, write_plain
 from command import Words, note, run, warn_of_low_quotas
-from game import MEMBERS, NAME, RULES, WEIGHT, game_file, is_text, quoted, rule_comment
+from game import MEMBERS, NAME, RULES, WEIGHT, is_text, quote, write_game, write_rule_comment
 from report import Fault
 
 MOST = 1 << 24
@@ -46,18 +46,18 @@ class Quota:
         self.share = Fraction(int(match[1]), int(match[2])) if match and int(match[2]) else None
         self.number = None if match else Number(rest)
         if (match and not self.share) or (self.number and not self.number.good):
-            raise Fault(f"the quota {quoted(text)} is no number, no percentage as 65% or '>50%', and no fraction as 2/3", 2)
+            raise Fault(f"the quota {quote(text)} is no number, no percentage as 65% or '>50%', and no fraction as 2/3", 2)
 
-    def of(self, total, scale, decimal):
+    def make_whole(self, total, scale, decimal):
         """Returns the quota as a whole number, and how it was found. The weights were multiplied by `scale`, and add
         up to `total`."""
         share = self.share
         if share is None:
             if self.number.is_open() and decimal is None:
-                raise Fault(f"the quota {quoted(self.text)} may have decimals or thousands: say --decimal . or --decimal ,", 2)
+                raise Fault(f"the quota {quote(self.text)} may have decimals or thousands: say --decimal . or --decimal ,", 2)
             decimal = decimal or self.number.decimal() or "."
-            if not self.number.fits(decimal):
-                raise Fault(f"the quota {quoted(self.text)} is no number with {quoted(decimal)} before its decimals", 2)
+            if not self.number.is_valid_with(decimal):
+                raise Fault(f"the quota {quote(self.text)} is no number with {quote(decimal)} before its decimals", 2)
             value = self.number.value(decimal)
             share = value / 100 if self.number.percent else None
             if share is None and 0 < value < 1:
@@ -65,40 +65,40 @@ class Quota:
         exact = value * scale if share is None else share * total
         quota = math.floor(exact) + 1 if self.more else math.ceil(exact)
         if not 1 <= quota <= total:
-            raise Fault(f"the quota {quoted(self.text)} comes to {quota:,}, and must be from 1 to {total:,}, the total", 2)
+            raise Fault(f"the quota {quote(self.text)} comes to {quota:,}, and must be from 1 to {total:,}, the total", 2)
         words = "more than" if self.more else "at least"
         of = "" if share is None else f"{share.numerator}/{share.denominator} of {total:,}, which is "
-        return quota, f"{words} {of}{plain(exact)}" + ("" if exact == quota else f", so {quota:,}")
+        return quota, f"{words} {of}{write_plain(exact)}" + ("" if exact == quota else f", so {quota:,}")
 
     def refuse_small(self, value):
         """Refuses 0.85, with which each member would win alone, and says how to write the share."""
-        share = ("heads:" if self.heads else "") + (">" if self.more else "") + plain(value * 100) + "%"
+        share = ("heads:" if self.heads else "") + (">" if self.more else "") + write_plain(value * 100) + "%"
         word = f"'{share}'" if self.more else share
-        raise Fault(f"the quota {quoted(self.text)} is less than 1: write {word} for a share of all", 2)
+        raise Fault(f"the quota {quote(self.text)} is less than 1: write {word} for a share of all", 2)
 
 
-def at(line, column, text):
+def name_cell(line, column, text):
     """Names a cell: its place, and what it holds."""
     told = text if len(text) <= 40 else text[:40] + ".."
-    return f"line {line}, column {column + 1}: {quoted(told)}"
+    return f"line {line}, column {column + 1}: {quote(told)}"
 
 
 def is_number(word):
     return word.isascii() and word.isdigit()
 
 
-def cells_of(row):
+def find_cells(row):
     """Returns the cells of a row that are not empty."""
     return [it.strip() for it in row if it.strip()]
 
 
 def is_note(row):
     """Returns whether a row has a single cell, with a text: a title, or a source."""
-    cells = cells_of(row)
+    cells = find_cells(row)
     return len(cells) == 1 and not Number(cells[0]).good
 
 
-def without_notes(rows, weighed, words):
+def drop_notes(rows, weighed, words):
     """Leaves out rows with a single cell above and below all others, and says so. Returns the other rows, and the
     comments."""
     above = next((at for at, (_, row) in enumerate(rows) if not is_note(row)), len(rows))
@@ -111,12 +111,12 @@ def without_notes(rows, weighed, words):
         doubtful = [it for it in notes if not (words.heading and it is rows[0])]
         if doubtful and not words.all_rows:
             line, row = doubtful[-1]
-            raise Fault(f"line {line} has a single cell, {quoted(cells_of(row)[0][:60])}, and others have more: "
+            raise Fault(f"line {line} has a single cell, {quote(find_cells(row)[0][:60])}, and others have more: "
                         "delete the line, or say --all-rows if it is a member")
         return rows, []
     comments = []
     for line, row in notes:
-        text = quoted(cells_of(row)[0][:200])
+        text = quote(find_cells(row)[0][:200])
         note(f"line {line} has a single cell and is left out: {text}" + ("" if line < rows[above][0] else " (if it is a member, write 0 as its weight)"))
         comments.append(f"Left out: line {line}, {text}")
     return rows[above : len(rows) - below], comments
@@ -131,7 +131,7 @@ class Columns:
         chosen = words.weight or []
         named = [it for it in [words.name, *chosen] if it is not None and not is_number(it)]
         if named and words.no_heading:
-            raise Fault(f"--no-heading: the column {quoted(named[0])} is chosen by its heading", 2)
+            raise Fault(f"--no-heading: the column {quote(named[0])} is chosen by its heading", 2)
         self.name = self.place(words.name, 0)
         self.weights = [self.place(it, None) for it in chosen] or [self.name + 1 + it for it in range(rules)]
         if len(self.weights) != rules:
@@ -155,8 +155,8 @@ class Columns:
                 raise Fault(f"there is no column {word[:9]}: they are counted from 1", 2)
             return int(word) - 1
         if self.first.count(word) != 1:
-            has = ", ".join(quoted(it) for it in self.first)
-            raise Fault(f"there is no column {quoted(word)}, or two of them; the first row has {has}", 2)
+            has = ", ".join(quote(it) for it in self.first)
+            raise Fault(f"there is no column {quote(word)}, or two of them; the first row has {has}", 2)
         return self.first.index(word)
 
     def cell(self, column):
@@ -179,7 +179,7 @@ class Columns:
                 return True
             if False in told and True not in told and not is_named:
                 return False
-        raise Fault(f"line {self.line}, {quoted(self.cell(self.name)[:40])}, may be a heading or a member: say --heading or --no-heading")
+        raise Fault(f"line {self.line}, {quote(self.cell(self.name)[:40])}, may be a heading or a member: say --heading or --no-heading")
 
     def is_over_numbers(self, column, below):
         """Returns whether the first row has a title over a column of numbers (True), or one more number (False)."""
@@ -220,11 +220,11 @@ class Member:
             text = row[column].strip() if column < len(row) else ""
             it = Number(text)
             if text[:1] in tuple("-−–") and Number(text[1:]).good:
-                raise Fault(f"{at(line, column, text)} is negative")
+                raise Fault(f"{name_cell(line, column, text)} is negative")
             if text and not it.good:
-                raise Fault(f"{at(line, column, text)} is no number (--heading, --name and --weight say which cell is what)")
+                raise Fault(f"{name_cell(line, column, text)} is no number (--heading, --name and --weight say which cell is what)")
             if not text:
-                fault = Fault(f"line {line}, column {column + 1} is empty: write 0 if {quoted(self.name[:40])} is a member without weight")
+                fault = Fault(f"line {line}, column {column + 1} is empty: write 0 if {quote(self.name[:40])} is a member without weight")
                 if not at_edge:
                     raise fault
                 # a total may have empty cells, and is looked for first
@@ -232,20 +232,20 @@ class Member:
             self.numbers.append(it if text else None)
 
 
-def decimal_of(members, columns, said):
+def find_decimal(members, columns, said):
     """Returns the decimal sign of the whole table, as its numbers tell it; None if none has any."""
     decimal, told = said, None
     numbers = [(it, number, column) for it in members for number, column in zip(it.numbers, columns.weights) if number]
     for it, number, column in numbers:
         here = number.decimal() if number.rest else None
-        if decimal and not number.fits(decimal):
+        if decimal and not number.is_valid_with(decimal):
             where = f"; {told} has another" if told else ""
-            raise Fault(f"{at(it.line, column, number.text)} is no number with {quoted(decimal)} before its decimals{where}")
+            raise Fault(f"{name_cell(it.line, column, number.text)} is no number with {quote(decimal)} before its decimals{where}")
         if here and not decimal:
-            decimal, told = here, at(it.line, column, number.text)
+            decimal, told = here, name_cell(it.line, column, number.text)
     for it, number, column in numbers:
         if decimal is None and number.is_open():
-            raise Fault(f"{at(it.line, column, number.text)} may have decimals or thousands: say --decimal . or --decimal ,")
+            raise Fault(f"{name_cell(it.line, column, number.text)} may have decimals or thousands: say --decimal . or --decimal ,")
     return decimal
 
 
@@ -258,14 +258,14 @@ def is_sum(numbers, row, decimal):
     wanted = sum(values)
     if not wanted or value == wanted:
         return 2 if wanted else 0
-    places = max(map(decimals_of, [value, *values]))
+    places = max(map(count_decimals, [value, *values]))
     slack = Fraction(len(numbers), 2 * 10**places)
     # shares are often rounded; other numbers come so near by chance, unless they are large
     many = 20 if places or any(it.percent for it in numbers) else 1000
     return int(abs(value - wanted) <= slack and slack * many <= wanted)
 
 
-def total_of(members, decimal):
+def find_total(members, decimal):
     """Returns the last or the first row if it is a total, and why: it has the sum of all others in a column of weights,
     or else the label of a total."""
     last = len(members) - 1
@@ -296,24 +296,24 @@ def refuse_others(members, words):
     if len(marked) == 1 and len(members) > 1 and marked[0] in (members[0], members[-1]):
         doubtful += marked
     for it in doubtful:
-        raise Fault(f"line {it.line}, {quoted(it.name[:40])}, is hardly a member: delete the line, or say --all-rows if it is one")
+        raise Fault(f"line {it.line}, {quote(it.name[:40])}, is hardly a member: delete the line, or say --all-rows if it is one")
 
 
-def without_total(members, decimal, words):
+def drop_total(members, decimal, words):
     """Leaves out a row that is a total if the user says so; asks if nobody did. Returns the comment."""
     if words.all_rows:
         return []
-    row, told = total_of(members, decimal)
+    row, told = find_total(members, decimal)
     if row is None:
         if words.no_total:
             raise Fault("--no-total: neither the first row nor the last is the sum of all others", 2)
         return []
     it = members[row]
     if not words.no_total:
-        raise Fault(f"line {it.line}, {quoted(it.name[:40])}, is {told}: say --no-total to leave it out, or --all-rows if it is a member")
+        raise Fault(f"line {it.line}, {quote(it.name[:40])}, is {told}: say --no-total to leave it out, or --all-rows if it is a member")
     if not told.startswith("the sum"):
-        note(f"line {it.line}, {quoted(it.name[:40])}, is left out, and is {told}")
-    return [f"Left out: line {it.line}, {quoted(members.pop(row).name)}, {told}"]
+        note(f"line {it.line}, {quote(it.name[:40])}, is left out, and is {told}")
+    return [f"Left out: line {it.line}, {quote(members.pop(row).name)}, {told}"]
 
 
 def check_names(members, words):
@@ -323,9 +323,9 @@ def check_names(members, words):
         if not it.name:
             raise Fault(f"line {it.line}: there is no name")
         if not is_text(it.name, NAME):
-            raise Fault(f"line {it.line}: the name {quoted(it.name[:20])}.. has more than {NAME} bytes, or a letter that is none to read")
+            raise Fault(f"line {it.line}: the name {quote(it.name[:20])}.. has more than {NAME} bytes, or a letter that is none to read")
         if it.name in lines and not words.sum:
-            raise Fault(f"line {it.line}: the name {quoted(it.name)} stands in line {lines[it.name]} too (--sum adds their weights)")
+            raise Fault(f"line {it.line}: the name {quote(it.name)} stands in line {lines[it.name]} too (--sum adds their weights)")
         lines.setdefault(it.name, it.line)
         if len(lines) > MEMBERS:
             raise Fault(f"line {it.line}: this is member {MEMBERS + 1}, and a game has at most {MEMBERS}")
@@ -336,31 +336,31 @@ def merge(members, columns):
     rows = {}
     for row, it in enumerate(members):
         rows.setdefault(it.name, []).append(row)
-    comments = [f"Added: lines {', '.join(str(members[row].line) for row in its)}, {quoted(name)}" for name, its in rows.items() if len(its) > 1]
+    comments = [f"Added: lines {', '.join(str(members[row].line) for row in its)}, {quote(name)}" for name, its in rows.items() if len(its) > 1]
     for values in columns:
         values[:] = [sum(values[row] for row in its) for its in rows.values()]
     members[:] = [members[its[0]] for its in rows.values()]
     return comments
 
 
-def column_of(members, index, column, decimal, rounded):
+def read_column(members, index, column, decimal, places):
     """Returns the exact values of a column, whether they are percentages, and what was done to read them."""
     numbers = [it.numbers[index] for it in members]
     values = [it.value(decimal or ".") for it in numbers]
     percent = [it.percent for it, value in zip(numbers, values) if value]
     if len(set(percent)) > 1:
         other = next(it for it, value in zip(members, values) if value and it.numbers[index].percent != percent[0])
-        raise Fault(f"{at(other.line, column, other.numbers[index].text)}: some weights of this column have a percent sign, and some have none")
+        raise Fault(f"{name_cell(other.line, column, other.numbers[index].text)}: some weights of this column have a percent sign, and some have none")
     done = []
-    if rounded is not None and max(map(decimals_of, values)) > rounded:
-        values = [Fraction(math.floor(it * 10**rounded + Fraction(1, 2)), 10**rounded) for it in values]
-        done.append(f"rounded to {rounded} decimals")
+    if places is not None and max(map(count_decimals, values)) > places:
+        values = [Fraction(math.floor(it * 10**places + Fraction(1, 2)), 10**places) for it in values]
+        done.append(f"rounded to {places} decimals")
     return values, True in percent, done
 
 
-def scaled(values, members, column):
+def scale_column(values, members, column):
     """Returns the values times a power of ten, as whole numbers, and the exponent of that power."""
-    places = max(map(decimals_of, values))
+    places = max(map(count_decimals, values))
     whole = [int(it * 10**places) for it in values]
     for it, weight in zip(members, whole):
         if weight > WEIGHT:
@@ -369,7 +369,7 @@ def scaled(values, members, column):
     return whole, places
 
 
-def game_of(data, quotas, words):
+def make_game(data, quotas, words):
     """Returns the game file of a table."""
     table = Table(data, words.encoding)
     if not table.rows:
@@ -377,29 +377,29 @@ def game_of(data, quotas, words):
     weighed = sum(not it.heads for it in quotas)
     if words.name is None and not weighed:
         refuse_row_numbers([row for _, row in table.rows[1:]])
-    rows, left_out = without_notes(table.rows, weighed, words)
+    rows, left_out = drop_notes(table.rows, weighed, words)
     columns = Columns(rows, words, weighed)
     below = rows[columns.heading :]
     members = [Member(line, row, columns, at in (0, len(below) - 1)) for at, (line, row) in enumerate(below)]
     if not members:
         raise Fault("there is a heading, and no row below it")
-    decimal = decimal_of(members, columns, words.decimal)
+    decimal = find_decimal(members, columns, words.decimal)
     left_out += [f"Left out: line {columns.line}, the heading"] if columns.heading else []
-    left_out += without_total(members, decimal, words)
+    left_out += drop_total(members, decimal, words)
     refuse_others(members, words)
     for it in members:
         if it.fault:
             raise it.fault
-    read = [column_of(members, index, column, decimal, words.round) for index, column in enumerate(columns.weights)]
+    read = [read_column(members, index, column, decimal, words.round) for index, column in enumerate(columns.weights)]
     check_names(members, words)
     lines = {it.line for it in members}
-    left_out += unused([row for line, row in below if line in lines], columns, words)
+    left_out += find_unused([row for line, row in below if line in lines], columns, words)
     left_out += merge(members, [values for values, _, _ in read])
 
     number = "1 member" if len(members) == 1 else f"{len(members)} members"
-    comments = [f"From a table of {number}, by from_table.py; {quoted(table.delimiter)} separates the columns"]
+    comments = [f"From a table of {number}, by from_table.py; {quote(table.delimiter)} separates the columns"]
     if decimal:
-        comments[0] += f", and {quoted(decimal)} is the decimal sign"
+        comments[0] += f", and {quote(decimal)} is the decimal sign"
     if words.source:
         comments.insert(0, f"Source: {' '.join(words.source.split())}")
     rules, used = [], iter(range(len(read)))
@@ -407,7 +407,7 @@ def game_of(data, quotas, words):
         rules.append(Rule(rule, quota, members) if quota.heads else Rule(rule, quota, members, columns, next(used), read, decimal))
         comments.append(rules[-1].comment)
     weights = list(zip(*(it.weights for it in rules)))
-    text = game_file([it.name for it in members], [it.quota for it in rules], weights, words.title or "", comments + left_out)
+    text = write_game([it.name for it in members], [it.quota for it in rules], weights, words.title or "", comments + left_out)
     warn_of_low_quotas([it.quota for it in rules], [sum(it.weights) for it in rules])
     return text
 
@@ -420,16 +420,16 @@ class Rule:
         if columns:
             column = columns.weights[index]
             values, percent, done = read[index]
-            self.weights, places = scaled(values, members, column)
+            self.weights, places = scale_column(values, members, column)
             name = " ".join(columns.cell(column).split()) if columns.heading else ""
             what = [f"column {column + 1}", *done, *([f"times {10**places}"] if places else [])]
         if sum(self.weights) == 0:
             raise Fault(f"{what[0]}: all weights are 0")
-        self.quota, how = quota.of(sum(self.weights), 10**places, decimal)
-        self.comment = rule_comment(number, name, percent, places, f"{', '.join(what)}; the quota {quoted(quota.text)} is {how}")
+        self.quota, how = quota.make_whole(sum(self.weights), 10**places, decimal)
+        self.comment = write_rule_comment(number, name, percent, places, f"{', '.join(what)}; the quota {quote(quota.text)} is {how}")
 
 
-def unused(rows, columns, words):
+def find_unused(rows, columns, words):
     """Returns which columns are left out. One of numbers, which may be of a rule without a quota, is a fault, unless
     the columns are chosen by name."""
     said, used = [], [columns.name, *columns.weights]
@@ -469,7 +469,7 @@ def main(words):
     data = sys.stdin.buffer.read(MOST + 1)
     if len(data) > MOST:
         raise Fault("the table is longer than 16 MiB: keep the rows of the members, and the columns that you need")
-    sys.stdout.write(game_of(data, quotas, words))
+    sys.stdout.write(make_game(data, quotas, words))
 
 
 if __name__ == "__main__":

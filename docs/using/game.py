@@ -11,7 +11,7 @@ def is_text(text, most):
     return len(text.encode("utf-8")) <= most and all(it >= " " and it != "\x7f" for it in text)
 
 
-def quoted(text):
+def quote(text):
     """Puts a text in quotes, as TOML reads it. Letters that end a line or move a terminal are written by number."""
     letters = []
     for it in text:
@@ -24,7 +24,7 @@ def quoted(text):
     return '"' + "".join(letters) + '"'
 
 
-def in_shell(text):
+def quote_for_shell(text):
     """Writes a text as one word for bash or zsh."""
     if text.isprintable():
         return "'" + text.replace("'", "'\\''") + "'"
@@ -35,7 +35,7 @@ def in_shell(text):
     return "$'" + "".join(parts) + "'"
 
 
-def game_file(names, quotas, weights, title="", comments=()):
+def write_game(names, quotas, weights, title="", comments=()):
     """Returns a game file: the comments, one a line, the quota of each rule, and for each member its name and its
     weight under each rule."""
     if not 1 <= len(names) <= MEMBERS:
@@ -44,11 +44,11 @@ def game_file(names, quotas, weights, title="", comments=()):
         raise Fault(f"the title has more than {TITLE} bytes, or a letter that is none to read")
     parts = ["".join(f"# {it}\n" for it in comments)]
     if title:
-        parts.append(f"title = {quoted(title)}\n")
+        parts.append(f"title = {quote(title)}\n")
     one = len(quotas) == 1
     parts.append(f"quota = {quotas[0]}\n" if one else f"quotas = {list(quotas)}\n")
     for name, its in zip(names, weights):
-        parts.append(f"\n[[member]]\nname = {quoted(name)}\n")
+        parts.append(f"\n[[member]]\nname = {quote(name)}\n")
         parts.append(f"weight = {its[0]}\n" if one else f"weights = {list(its)}\n")
     return "".join(parts)
 
@@ -64,7 +64,7 @@ class Unit:
     def __init__(self, name="", percent=False, places=0):
         self.name, self.percent, self.places = name, percent, places
 
-    def written(self, weight):
+    def write(self, weight):
         """Writes a weight as a person reads it: 1650 is 16.50%, and 1234567 is 1,234,567."""
         digits = str(weight).rjust(self.places + 1, "0")
         whole, decimals = (digits[: -self.places], "." + digits[-self.places :]) if self.places else (digits, "")
@@ -75,42 +75,42 @@ class Unit:
         return self.percent and total == 100 * 10**self.places
 
 
-def rule_comment(number, name, percent, places, more):
+def write_rule_comment(number, name, percent, places, more):
     """Returns the comment that says what the weights of a rule are, and how they were found."""
-    parts = [quoted(name)] if name else []
+    parts = [quote(name)] if name else []
     parts += ["percent"] if percent else []
     parts += [f"{places} decimal{'' if places == 1 else 's'}"] if places else []
     return f"Rule {number}: " + "; ".join([*([", ".join(parts)] if parts else []), more])
 
 
-def unquoted(text):
+def unquote(text):
     """Reads a text that `quoted` has written, without the quotes round it."""
-    return re.sub(r"\\(?:u([0-9A-Fa-f]{4})|U([0-9A-Fa-f]{8})|(.))", letter_of, text)
+    return re.sub(r"\\(?:u([0-9A-Fa-f]{4})|U([0-9A-Fa-f]{8})|(.))", decode_letter, text)
 
 
-def letter_of(match):
+def decode_letter(match):
     if match[3]:
         return match[3]
     number = int(match[1] or match[2], 16)
     return chr(number) if number <= 0x10FFFF and not 0xD800 <= number <= 0xDFFF else "\ufffd"
 
 
-def units_of(comments, rules):
+def read_units(comments, rules):
     """Returns the unit of each rule, as the comments of its game file tell it."""
     units = [Unit() for _ in range(rules)]
     for it in comments:
         match = RULE.fullmatch("# " + it)
         if match and int(match[1]) <= rules:
-            units[int(match[1]) - 1] = Unit(unquoted(match[2] or ""), bool(match[3]), min(int(match[4] or 0), 18))
+            units[int(match[1]) - 1] = Unit(unquote(match[2] or ""), bool(match[3]), min(int(match[4] or 0), 18))
     return units
 
 
-def grouped(numbers):
+def write_grouped(numbers):
     """Writes a number for each rule, with commas between thousands and / between the rules."""
     return "/".join(f"{it:,}" for it in numbers)
 
 
-def comments_of(text):
+def find_comments(text):
     """Returns the comments at the beginning of a game file, each without its sign."""
     comments = []
     for line in text.split("\n"):

@@ -13,10 +13,10 @@ import re
 import shutil
 import subprocess
 
-from command import Words, built_program, comments_in, program_at_hand, report_of, run, warn_of_low_quotas
-from drawing import INDICES, SHARES, quota_of, share_of, xml
-from game import game_file
-from report import Fault, rounded
+from command import Words, find_built_program, find_program, read_comments, read_report, run, warn_of_low_quotas
+from drawing import INDICES, SHARES, escape_xml, name_share, write_quota
+from game import write_game
+from report import Fault, round_half_up
 
 MOST = 1000
 # comments that from_table.py writes, a line each; others are a text that may be wrapped
@@ -92,89 +92,89 @@ SOURCES = [
 ]
 
 
-def name(text):
+def write_name(text):
     """Writes a name, whose direction of writing stays its own."""
-    return f"<bdi>{xml(text)}</bdi>"
+    return f"<bdi>{escape_xml(text)}</bdi>"
 
 
-def fraction(value):
+def write_fraction(value):
     return f'<span class="fraction">{value.numerator}<u>/</u><i>{value.denominator}</i></span>'
 
 
-def keys(values):
+def rank(values):
     """Returns the place of each value among all: by it a column is sorted, exactly."""
     places = {it: at for at, it in enumerate(sorted(set(values)))}
     return [places[it] for it in values]
 
 
-def columns(report, units):
+def make_columns(report, units):
     """Yields the columns of the table: the heading, the values to sort by, and the cells. Fractions, which may be
     long, come last."""
     members, several = report.members, len(report.quotas) > 1
     dp, pg = [it.deegan_packel for it in members], [it.public_good for it in members]
-    yield "Member", [it.name.casefold() for it in members], [name(it.name) for it in members]
-    yield "Deegan-Packel", dp, [rounded(it, 6) for it in dp]
-    yield "Public good", pg, [rounded(it, 6) for it in pg]
+    yield "Member", [it.name.casefold() for it in members], [write_name(it.name) for it in members]
+    yield "Deegan-Packel", dp, [round_half_up(it, 6) for it in dp]
+    yield "Public good", pg, [round_half_up(it, 6) for it in pg]
     for rule, unit in enumerate(units):
         weights = [it.weights[rule] for it in members]
         of = f", rule&nbsp;{rule + 1}" if several else ""
-        yield (name(unit.name) if unit.name else f"Weight{of}"), weights, [unit.written(it) for it in weights]
+        yield (write_name(unit.name) if unit.name else f"Weight{of}"), weights, [unit.write(it) for it in weights]
         if not unit.is_share_of(report.totals[rule]):
-            yield (f"{name(unit.name)}, of all" if unit.name else f"Share{of}"), weights, [rounded(report.share(it, rule), 4) for it in members]
+            yield (f"{write_name(unit.name)}, of all" if unit.name else f"Share{of}"), weights, [round_half_up(report.share(it, rule), 4) for it in members]
     counts = [it.coalitions for it in members]
     yield "Coalitions", counts, [f"{it:,}" for it in counts]
-    yield "Deegan-Packel, exactly", dp, [fraction(it) for it in dp]
-    yield "Public good, exactly", pg, [fraction(it) for it in pg]
+    yield "Deegan-Packel, exactly", dp, [write_fraction(it) for it in dp]
+    yield "Public good, exactly", pg, [write_fraction(it) for it in pg]
 
 
-def table(report, units):
-    its = list(columns(report, units))
+def write_table(report, units):
+    its = list(make_columns(report, units))
     yield '<div class="wide" tabindex="0" role="region" aria-label="Members"><table class="members"><thead><tr>'
     yield "".join(f'<th scope="col"><button type="button">{title}</button></th>' for title, _, _ in its)
     yield "</tr></thead><tbody>"
-    for cells in zip(*(zip(keys(values), texts) for _, values, texts in its)):
+    for cells in zip(*(zip(rank(values), texts) for _, values, texts in its)):
         yield "<tr>" + "".join(f'<td data-key="{key}">{it}</td>' for key, it in cells) + "</tr>"
     yield "</tbody></table></div>"
 
 
-def bars(report, units):
-    kinds = [(f"s{rule}", share_of(report, units, rule)) for rule in range(len(units))]
+def write_bars(report, units):
+    kinds = [(f"s{rule}", name_share(report, units, rule)) for rule in range(len(units))]
     kinds += [("dp", INDICES[0][0]), ("pg", INDICES[1][0])]
     rows = [(it.name, [*(report.share(it, rule) for rule in range(len(units))), it.deegan_packel, it.public_good]) for it in report.members]
     longest = max(max(values) for _, values in rows)
-    yield '<ul class="keys">' + "".join(f'<li><span class="key" style="background: var(--{it})"></span>{xml(what)}</li>' for it, what in kinds) + "</ul>"
+    yield '<ul class="keys">' + "".join(f'<li><span class="key" style="background: var(--{it})"></span>{escape_xml(what)}</li>' for it, what in kinds) + "</ul>"
     yield '<div class="bars">'
     for who, values in rows:
-        yield f"<div>{name(who)}</div><div>"
+        yield f"<div>{write_name(who)}</div><div>"
         for (it, what), value in zip(kinds, values):
             # the longest bar leaves room for its number
             long = f"calc((100% - 3.4rem) * {float(value / longest):.4f})"
-            yield f'<div class="track" title="{xml(what)}"><span class="bar" style="width: {long}; background: var(--{it})"></span><span class="value">{rounded(value, 4)}</span></div>'
+            yield f'<div class="track" title="{escape_xml(what)}"><span class="bar" style="width: {long}; background: var(--{it})"></span><span class="value">{round_half_up(value, 4)}</span></div>'
         yield "</div>"
     yield "</div>"
 
 
-def wins(report, units):
+def write_quotas(report, units):
     """Says when a coalition wins, in the units of the rules and in percent of the total."""
     its = []
     for rule, unit in enumerate(units):
         of = f" under rule {rule + 1}" if len(units) > 1 else ""
-        of += f" ({name(unit.name)})" if unit.name else ""
-        its.append(quota_of(report, units, rule) + of)
+        of += f" ({write_name(unit.name)})" if unit.name else ""
+        its.append(write_quota(report, units, rule) + of)
     yield f"<p>A coalition wins with a weight of at least {' and '.join(its)}. Members: {len(report.members)}. Minimal winning coalitions: {report.minimal:,}.</p>"
     if all(2 * quota <= total for quota, total in zip(report.quotas, report.totals)):
         yield "<p><b>At most half of the total wins, so two coalitions without a common member could both win.</b></p>"
 
 
-def source_of(report):
+def write_source(report):
     """Shows where the data come from, as --source or the game file tells."""
     told = [it[len("Source:") :].strip() for it in report.comments if it.startswith("Source:")]
     source = report.source or "; ".join(told)
     if source:
-        yield f'<p class="source">Source of the data: {xml(source)}</p>'
+        yield f'<p class="source">Source of the data: {escape_xml(source)}</p>'
 
 
-def about(comments):
+def write_comments(comments):
     """Shows the comments of the game file."""
     if not comments:
         return
@@ -183,12 +183,12 @@ def about(comments):
     for it in comments:
         (items if ITEM.fullmatch(it) else text).append(it)
     if text:
-        yield f"<p>{xml(' '.join(text))}</p>"
+        yield f"<p>{escape_xml(' '.join(text))}</p>"
     if items:
-        yield "<ul>" + "".join(f"<li>{xml(it)}</li>" for it in items) + "</ul>"
+        yield "<ul>" + "".join(f"<li>{escape_xml(it)}</li>" for it in items) + "</ul>"
 
 
-def coalitions(report):
+def write_coalitions(report):
     has = report.listed
     if not has:
         return
@@ -196,33 +196,33 @@ def coalitions(report):
     yield f"<h2>Minimal winning coalitions{some}</h2>"
     yield f"<details{' open' if has <= 100 else ''}><summary>{min(has, MOST):,} coalitions, with their weights</summary><ol class=\"coalitions\">"
     for it in report.coalitions:
-        yield f"<li>{', '.join(map(name, it.names))} <small>({' / '.join(unit.written(weight) for unit, weight in zip(report.units, it.weights))})</small></li>"
+        yield f"<li>{', '.join(map(write_name, it.names))} <small>({' / '.join(unit.write(weight) for unit, weight in zip(report.units, it.weights))})</small></li>"
     yield "</ol></details>"
 
 
-def section(report, at, level):
-    title, units = xml(report.heading()), report.units
+def write_section(report, at, level):
+    title, units = escape_xml(report.heading()), report.units
     yield f'<section id="game{at}"><h{level}>{title}</h{level}>'
-    yield from wins(report, units)
-    yield from source_of(report)
-    yield from table(report, units)
+    yield from write_quotas(report, units)
+    yield from write_source(report)
+    yield from write_table(report, units)
     yield "<h2>Both indices beside the shares of the votes</h2>"
-    yield from bars(report, units)
-    yield from coalitions(report)
-    yield from about(report.comments)
+    yield from write_bars(report, units)
+    yield from write_coalitions(report)
+    yield from write_comments(report.comments)
     yield "<h2>The game</h2><p>This file, put in as <code>council --tally FILE</code>, gives the numbers above again:</p>"
-    text = game_file([it.name for it in report.members], report.quotas, [it.weights for it in report.members], report.title, report.comments)
-    yield f"<details><summary>the game file</summary><pre>{xml(text)}</pre></details></section>"
+    text = write_game([it.name for it in report.members], report.quotas, [it.weights for it in report.members], report.title, report.comments)
+    yield f"<details><summary>the game file</summary><pre>{escape_xml(text)}</pre></details></section>"
 
 
-def version_of(named):
+def find_version(named):
     """Returns the program at hand and what it was proved with, or None. It asks no launcher that would build first."""
     beside = os.path.realpath(os.path.join(os.path.dirname(os.path.realpath(__file__)), "../../council"))
     if named:
-        path = program_at_hand(named)
+        path = find_program(named)
     else:
         is_program = os.path.isfile(beside) and open(beside, "rb").read(4) == b"\x7fELF"
-        path = built_program() or (beside if is_program else shutil.which("council"))
+        path = find_built_program() or (beside if is_program else shutil.which("council"))
     if not path:
         return None
     try:
@@ -233,24 +233,24 @@ def version_of(named):
     return ", ".join(it for it in lines if it) if done.returncode == 0 and lines[0].startswith("council ") else None
 
 
-def page(reports, version):
+def write_page(reports, version):
     titles = [it.heading() for it in reports]
     title = titles[0] if len(reports) == 1 else f"{len(reports)} games"
     hashed = base64.b64encode(hashlib.sha256(SCRIPT.encode()).digest()).decode()
     yield '<!DOCTYPE html>\n<html lang="en"><head><meta charset="utf-8"><meta name="viewport" content="width=device-width, initial-scale=1">'
     yield f"<meta http-equiv=\"Content-Security-Policy\" content=\"default-src 'none'; style-src 'unsafe-inline'; script-src 'sha256-{hashed}'\">"
-    yield f"<title>{xml(title)}: power indices</title><style>{STYLE}</style></head><body><main>"
+    yield f"<title>{escape_xml(title)}: power indices</title><style>{STYLE}</style></head><body><main>"
     if len(reports) > 1:
         yield f"<h1>Power indices of {len(reports)} games</h1><ul>"
-        yield "".join(f'<li><a href="#game{at}">{xml(it)}</a></li>' for at, it in enumerate(titles, 1)) + "</ul>"
+        yield "".join(f'<li><a href="#game{at}">{escape_xml(it)}</a></li>' for at, it in enumerate(titles, 1)) + "</ul>"
     for at, it in enumerate(reports, 1):
-        yield from section(it, at, 1 if len(reports) == 1 else 2)
+        yield from write_section(it, at, 1 if len(reports) == 1 else 2)
     yield "<footer><h2>What the indices are</h2>"
     yield ("<p>A minimal winning coalition wins, and loses without any one of its members. The <b>Deegan-Packel index</b> of a member is the share that it "
            "gets where each minimal winning coalition is as likely as another and divides one unit equally among its members (Deegan and Packel 1978). "
            "The <b>public good index</b> is the member's share of all memberships in minimal winning coalitions (Holler 1982; Holler and Packel 1983).</p>")
     yield "<h2>How they were computed</h2>"
-    at_hand = f"The program at hand when this page was made: {xml(version)}." if version else "Which version of it made the report this page cannot tell."
+    at_hand = f"The program at hand when this page was made: {escape_xml(version)}." if version else "Which version of it made the report this page cannot tell."
     yield (f"<p>By the program <code>council</code>, which finds the minimal winning coalitions and gives both indices as exact fractions. {at_hand} "
            "Decimals on this page are rounded from the fractions, a half upwards.</p><h2>Sources</h2><ul>")
     yield "".join(f"<li>{it}</li>" for it in SOURCES)
@@ -260,9 +260,9 @@ def page(reports, version):
 def read(path, game, source):
     """Reads the report in a file, with as many of its coalitions as the page shows, and the comments of its game file."""
     first = []
-    report = report_of(path, lambda it: first.append(it) if len(first) < MOST else None)
+    report = read_report(path, lambda it: first.append(it) if len(first) < MOST else None)
     report.coalitions, report.source = first, source
-    report.comments, report.units = comments_in(game, report)
+    report.comments, report.units = read_comments(game, report)
     return report
 
 
@@ -277,7 +277,7 @@ def main(words):
         raise Fault(f"give --game once for each report: there are {len(words.reports)} reports, and {len(words.game)} game files", 2)
     games = words.game or [None] * len(words.reports)
     reports = [read(path, game, words.source) for path, game in zip(words.reports, games)]
-    for line in page(reports, version_of(words.program)):
+    for line in write_page(reports, find_version(words.program)):
         print(line)
     for it in reports:
         warn_of_low_quotas(it.quotas, it.totals)

@@ -11,24 +11,24 @@ class Fault(Exception):
         self.status = status
 
 
-def number(text):
+def read_number(text):
     """A number of a report: digits alone."""
     if not (text.isascii() and text.isdigit()):
         raise ValueError(text)
     return int(text)
 
 
-def numbers(text):
+def read_numbers(text):
     """A field that has one number for each rule, with / between them."""
-    return [number(it) for it in text.split("/")]
+    return [read_number(it) for it in text.split("/")]
 
 
-def fraction(text):
+def read_fraction(text):
     top, bottom = text.split("/")
-    return Fraction(number(top), number(bottom))
+    return Fraction(read_number(top), read_number(bottom))
 
 
-def rounded(value, places):
+def round_half_up(value, places):
     """A value of at least 0 as a text with this number of decimals, a half rounded upwards, from the exact fraction."""
     digits = str(math.floor(value * 10**places + Fraction(1, 2))).rjust(places + 1, "0")
     return digits[:-places] + "." + digits[-places:] if places else digits
@@ -36,20 +36,20 @@ def rounded(value, places):
 
 class Member:
     def __init__(self, name, weight, coalitions, *indices):
-        self.name, self.weight, self.coalitions = name, weight, number(coalitions)
+        self.name, self.weight, self.coalitions = name, weight, read_number(coalitions)
         # one number for each rule
-        self.weights = numbers(weight)
+        self.weights = read_numbers(weight)
         # the fractions and the decimals as the report has them
         self.dp_fraction, self.dp_decimals, self.pg_fraction, self.pg_decimals = indices
-        self.deegan_packel = fraction(self.dp_fraction)
-        self.public_good = fraction(self.pg_fraction)
+        self.deegan_packel = read_fraction(self.dp_fraction)
+        self.public_good = read_fraction(self.pg_fraction)
 
 
 class Coalition:
     def __init__(self, size, weight, *names):
-        self.weights = numbers(weight)
+        self.weights = read_numbers(weight)
         self.names = list(names)
-        if number(size) != len(names):
+        if read_number(size) != len(names):
             raise ValueError(size)
 
 
@@ -88,9 +88,9 @@ class Report:
         try:
             self.title = one.get("title", "")
             self.quota, self.total = one["quota"], one["total"]
-            self.quotas, self.totals = numbers(self.quota), numbers(self.total)
-            self.minimal = number(one["minimal"])
-            whole = number(one["members"]) == len(self.members) and self.listed <= self.minimal
+            self.quotas, self.totals = read_numbers(self.quota), read_numbers(self.total)
+            self.minimal = read_number(one["minimal"])
+            whole = read_number(one["members"]) == len(self.members) and self.listed <= self.minimal
         except (KeyError, ValueError):
             whole = False
         if not (whole and self.is_sound()):

@@ -10,11 +10,11 @@ total of the rule. --picture draws a line for each member; members whose lines a
 import math
 import sys
 
-from cells import decimals_of
-from command import Words, computed, note, program_at_hand, ready, run, shown
-from drawing import COLORS, DASHES, picture, round_step, text, ticks, width, wrapped
-from game import comments_of, game_file, quoted, units_of
-from report import Fault, rounded
+from cells import count_decimals
+from command import Words, compute, find_program, make_printable, note, prepare, run
+from drawing import COLORS, DASHES, find_round_step, find_ticks, measure, wrap, write_picture, write_text
+from game import find_comments, quote, read_units, write_game
+from report import Fault, round_half_up
 
 MOST = 20000
 LEFT, WIDE, SMALL = 60, 560, 10
@@ -30,7 +30,7 @@ def sweep(program, start, rule, quotas):
     for quota in dict.fromkeys([quotas[0], quotas[-1], *quotas]):
         its = [*start.quotas[:rule], quota, *start.quotas[rule + 1 :]]
         try:
-            reports[quota] = computed(program, game_file(names, its, weights).encode("utf-8"), "--tally")
+            reports[quota] = compute(program, write_game(names, its, weights).encode("utf-8"), "--tally")
         except Fault as it:
             raise Fault(f"quota {quota}: {it}", it.status) from None
     return [(quota, reports[quota]) for quota in quotas]
@@ -63,65 +63,65 @@ class Axes:
 
     def __init__(self, first, last, top, unit, high):
         self.first, self.last, self.high, self.up, self.unit = first, last, high, 0, unit
-        self.step = round_step(top, 5)
+        self.step = find_round_step(top, 5)
         self.top = self.step * math.ceil(top / self.step)
-        most = max(1, min(6, int(WIDE / (width(unit.written(last), SMALL) + 14))))
-        self.quotas = [int(it) for it in ticks(first, last, most, whole=True)] or [first]
+        most = max(1, min(6, int(WIDE / (measure(unit.write(last), SMALL) + 14))))
+        self.quotas = [int(it) for it in find_ticks(first, last, most, whole=True)] or [first]
 
-    def across(self, quota):
+    def find_x(self, quota):
         return LEFT + (WIDE * (quota - self.first) / (self.last - self.first) if self.last > self.first else WIDE / 2)
 
-    def upwards(self, index):
+    def find_y(self, index):
         return self.up + self.high - self.high * float(index / self.top)
 
-    def place(self, quota, index):
-        return f"{self.across(quota):.2f},{self.upwards(index):.2f}"
+    def find_point(self, quota, index):
+        return f"{self.find_x(quota):.2f},{self.find_y(index):.2f}"
 
-    def drawn(self):
-        places = decimals_of(self.step)
+    def draw(self):
+        places = count_decimals(self.step)
         for at in range(int(self.top / self.step) + 1):
-            y = self.upwards(self.step * at)
+            y = self.find_y(self.step * at)
             yield f'<path d="M{LEFT} {y:.2f}h{WIDE}" stroke="#dddddd"/>'
-            yield text(LEFT - 6, y + 4, rounded(self.step * at, places), SMALL, "end", ' class="index"')
+            yield write_text(LEFT - 6, y + 4, round_half_up(self.step * at, places), SMALL, "end", ' class="index"')
         for it in self.quotas:
-            x = self.across(it)
+            x = self.find_x(it)
             yield f'<path d="M{x:.2f} {self.up + self.high:.2f}v5" stroke="#777777"/>'
-            yield text(x, self.up + self.high + 17, self.unit.written(it), SMALL, "middle", ' class="quota"')
+            yield write_text(x, self.up + self.high + 17, self.unit.write(it), SMALL, "middle", ' class="quota"')
 
 
-def drawn(start, rule, reports, kind, unit):
+def draw(start, rule, reports, kind, unit):
     """Draws the picture: a line for each index over the quotas, with the names of its members at its end."""
     title, value = KINDS[kind]
     lines = {}
     for at, it in enumerate(start.members):
         lines.setdefault(tuple(value(report.members[at]) for _, report in reports), []).append(it.name)
-    labels = [wrapped(names, 260, 12, ", ") for names in lines.values()]
+    labels = [wrap(names, 260, 12, ", ") for names in lines.values()]
     heights = [15 * len(it) + 3 for it in labels]
     axes = Axes(reports[0][0], reports[-1][0], max(map(max, lines)), unit, max(360, sum(heights)))
-    head = wrapped(start.heading().split(), LEFT + WIDE + 200, 14)
+    head = wrap(start.heading().split(), LEFT + WIDE + 200, 14)
     of = f" of rule {rule + 1}" if len(start.quotas) > 1 else ""
-    of += f", {quoted(unit.name)}" if unit.name else ""
-    what = f"{title}, by the quota{of} (total {unit.written(start.totals[rule])})"
-    parts = [text(8, 22 + 18 * at, it, 14, more=' font-weight="bold"') for at, it in enumerate(head)]
-    parts.append(text(8, 24 + 18 * len(head), what))
+    of += f", {quote(unit.name)}" if unit.name else ""
+    what = f"{title}, by the quota{of} (total {unit.write(start.totals[rule])})"
+    parts = [write_text(8, 22 + 18 * at, it, 14, more=' font-weight="bold"') for at, it in enumerate(head)]
+    parts.append(write_text(8, 24 + 18 * len(head), what))
     axes.up = 46 + 18 * len(head)
-    parts += axes.drawn()
+    parts += axes.draw()
 
     quotas, right = [quota for quota, _ in reports], LEFT + WIDE + 60
-    ends = [axes.upwards(values[-1]) for values in lines]
+    ends = [axes.find_y(values[-1]) for values in lines]
     for at, (values, label, end, y) in enumerate(zip(lines, labels, ends, spread(ends, heights, axes.up, axes.up + axes.high))):
         style = f'stroke="{COLORS[at % len(COLORS)]}" stroke-width="2" stroke-dasharray="{DASHES[at // len(COLORS) % len(DASHES)]}"'
-        points = [axes.place(quota, it) for quota, it in zip(quotas, values)]
-        x = axes.across(quotas[-1])
+        points = [axes.find_point(quota, it) for quota, it in zip(quotas, values)]
+        x = axes.find_x(quotas[-1])
         if len(points) == 1:
             parts.append(f'<circle cx="{x:.2f}" cy="{end:.2f}" r="4" fill="{COLORS[at % len(COLORS)]}"/>')
         parts.append(f'<polyline points="{" ".join(points)}" fill="none" {style}/>')
         parts.append(f'<path class="leader" d="M{x:.2f} {end:.2f}L{LEFT + WIDE + 40} {y:.2f}h12" fill="none" {style}/>')
         for row, it in enumerate(label):
-            parts.append(text(LEFT + WIDE + 56, y + 4 + 15 * row, it, more=' class="member"'))
-            right = max(right, LEFT + WIDE + 56 + width(it, 12))
-    wide = max(right, 8 + width(what, 12), *(width(it, 14) for it in head))
-    return picture(wide + 16, axes.up + axes.high + 30, parts, start.heading())
+            parts.append(write_text(LEFT + WIDE + 56, y + 4 + 15 * row, it, more=' class="member"'))
+            right = max(right, LEFT + WIDE + 56 + measure(it, 12))
+    wide = max(right, 8 + measure(what, 12), *(measure(it, 14) for it in head))
+    return write_picture(wide + 16, axes.up + axes.high + 30, parts, start.heading())
 
 
 def main(words):
@@ -140,8 +140,8 @@ def main(words):
     else:
         with open(words.game, "rb") as it:
             game = it.read()
-    program = ready(program_at_hand(words.program))
-    start = computed(program, game, "--tally")
+    program = prepare(find_program(words.program))
+    start = compute(program, game, "--tally")
     if not 1 <= words.rule <= len(start.quotas):
         raise Fault(f"there is no rule {words.rule}: the game has {len(start.quotas)}", 2)
     first = 1 if words.first is None else words.first
@@ -157,14 +157,14 @@ def main(words):
     warn_of_half(start, words.rule - 1, quotas)
     if words.picture:
         with open(words.picture, "w", encoding="utf-8", newline="\n") as it:
-            unit = units_of(comments_of(game.decode("utf-8-sig")), len(start.quotas))[words.rule - 1]
-            it.writelines(line + "\n" for line in drawn(start, words.rule - 1, reports, words.index, unit))
+            unit = read_units(find_comments(game.decode("utf-8-sig")), len(start.quotas))[words.rule - 1]
+            it.writelines(line + "\n" for line in draw(start, words.rule - 1, reports, words.index, unit))
     print("quota", "member", "deegan_packel", "dp", "public_good", "pg", sep="\t")
     # a file gets each name as it is, and a terminal none that moves it
-    name_of = shown if sys.stdout.isatty() else str
+    write_name = make_printable if sys.stdout.isatty() else str
     for quota, report in reports:
         for it in report.members:
-            print(quota, name_of(it.name), it.dp_fraction, it.dp_decimals, it.pg_fraction, it.pg_decimals, sep="\t")
+            print(quota, write_name(it.name), it.dp_fraction, it.dp_decimals, it.pg_fraction, it.pg_decimals, sep="\t")
 
 
 if __name__ == "__main__":

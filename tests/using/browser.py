@@ -58,7 +58,7 @@ def put(name, text):
     return f"{TEMP}/{name}"
 
 
-def shown(frames, scheme):
+def show(frames, scheme):
     """Returns what Chromium shows of each frame, (kind, width, text); None if it shows nothing."""
     parts = [f'<iframe data-kind="{kind}" width="{width}" height="1200" srcdoc="{html.escape(text)}"></iframe>' for kind, width, text in frames]
     path = put("look.html", LOOK.replace("FRAMES", "".join(parts)))
@@ -72,29 +72,29 @@ def shown(frames, scheme):
     return json.loads(html.unescape(text[1])) if text else None
 
 
-def light_of(color):
+def measure_light(color):
     """Returns a color of a style as three numbers from 0 to 1 that are proportional to light."""
     its = [int(it) / 255 for it in re.findall(r"\d+", color)[:3]]
     return [it / 12.92 if it <= 0.04045 else ((it + 0.055) / 1.055) ** 2.4 for it in its]
 
 
-def contrast(one, other):
+def measure_contrast(one, other):
     """Returns the contrast of two colors, as the WCAG define it: 1 to 21."""
-    low, high = sorted(sum(part * it for part, it in zip((0.2126, 0.7152, 0.0722), light_of(color))) + 0.05 for color in (one, other))
+    low, high = sorted(sum(part * it for part, it in zip((0.2126, 0.7152, 0.0722), measure_light(color))) + 0.05 for color in (one, other))
     return high / low
 
 
-def difference(one, other):
+def measure_difference(one, other):
     """Returns how different two colors look: their distance in CIELAB, of which 2 is hardly seen."""
     def lab(color):
-        red, green, blue = light_of(color)
+        red, green, blue = measure_light(color)
         its = [(0.4124 * red + 0.3576 * green + 0.1805 * blue) / 0.9505, 0.2126 * red + 0.7152 * green + 0.0722 * blue, (0.0193 * red + 0.1192 * green + 0.9505 * blue) / 1.089]
         x, y, z = [it ** (1 / 3) if it > 0.008856 else 7.787 * it + 16 / 116 for it in its]
         return 116 * y - 16, 500 * (x - y), 200 * (y - z)
     return sum((a - b) ** 2 for a, b in zip(lab(one), lab(other))) ** 0.5
 
 
-def apart(one, other):
+def are_apart(one, other):
     """Returns whether two rectangles do not touch; a thousandth of a pixel is none."""
     return one[1] <= other[0] + 0.001 or other[1] <= one[0] + 0.001 or one[3] <= other[2] + 0.001 or other[3] <= one[2] + 0.001
 
@@ -115,8 +115,8 @@ for name, words in [("one rule", []), ("two rules", ["--rule", "2", "--from", "1
         PICTURES[f"sweep, {name}"] = it.read()
 
 FRAMES = [("page", width, text) for text in PAGES.values() for width in WIDTHS]
-seen = {scheme: shown(FRAMES, scheme) for scheme in SCHEMES} if CHROMIUM else {}
-drawn = shown([("picture", 1400, text) for text in PICTURES.values()], "light") if CHROMIUM else None
+seen = {scheme: show(FRAMES, scheme) for scheme in SCHEMES} if CHROMIUM else {}
+drawn = show([("picture", 1400, text) for text in PICTURES.values()], "light") if CHROMIUM else None
 if not CHROMIUM or not all(seen.values()) or not drawn:
     for it in ["pages", "pictures"]:
         skipped(f"in a browser: {it}", "Chromium shows no page here" if CHROMIUM else "this machine has no chromium")
@@ -138,10 +138,10 @@ for scheme, its in seen.items():
             if width == 1280 and name != "four rules":
                 case(f"{here}: all columns are visible", all(cell["seen"] and cell["right"] <= most for cell in first), first[-1])
             inside = all(bar["value"][1] <= most and bar["bar"][1] <= bar["value"][0] and bar["value"][1] - bar["value"][0] > 15 for bar in it["bars"])
-            clear = all(apart(one["value"], other["bar"]) and apart(one["value"], other["value"]) for one, other in zip(it["bars"], it["bars"][1:]))
+            clear = all(are_apart(one["value"], other["bar"]) and are_apart(one["value"], other["value"]) for one, other in zip(it["bars"], it["bars"][1:]))
             case(f"{here}: each bar has its number, and no other bar touches that", inside and clear and all(re.fullmatch(r"[01]\.\d{4}", bar["text"]) for bar in it["bars"]), it["bars"][:2])
-            worst = min(difference(one, other) for one, other in combinations(it["colors"], 2))
-            faint = min(contrast(color, it["ground"]) for color in it["colors"])
+            worst = min(measure_difference(one, other) for one, other in combinations(it["colors"], 2))
+            faint = min(measure_contrast(color, it["ground"]) for color in it["colors"])
             case(f"{here}: colors can be told apart", worst >= 20 and faint >= 3, (worst, faint, it["colors"]))
             case(f"{here}: fractions are drawn, and come last", it["stacked"] and "exactly" in it["heads"][-1] and "exactly" in it["heads"][-2], it["heads"])
             if name == "one rule":
@@ -159,8 +159,8 @@ for name, it in zip(PICTURES, drawn):
     texts = [text for text in it["texts"] if text["box"][1] > text["box"][0]]
     inside = [text for text in texts if text["box"][0] < it["all"][0] or text["box"][1] > it["all"][1] or text["box"][3] > it["all"][3]]
     case(f"in a browser: {name}: all texts are in the picture", texts and not inside, inside)
-    touching = [(one["text"], other["text"]) for one, other in combinations(texts, 2) if not apart(one["box"], other["box"])]
-    touching += [one["text"] for one in texts for bar in it["bars"] if bar[1] > bar[0] and not apart(one["box"], bar)]
+    touching = [(one["text"], other["text"]) for one, other in combinations(texts, 2) if not are_apart(one["box"], other["box"])]
+    touching += [one["text"] for one in texts for bar in it["bars"] if bar[1] > bar[0] and not are_apart(one["box"], bar)]
     case(f"in a browser: {name}: no text touches another, or a bar", not touching, touching)
 same("in a browser: pages and pictures", (len(seen["dark"]), len(drawn)), (len(FRAMES), len(PICTURES)))
 done()

@@ -95,10 +95,10 @@ def report(game, *words):
 
 def hostile_game(rules=1):
     """A game file whose members have the hostile names, under a number of rules."""
-    from game import game_file
+    from game import write_game
     weights = [[at % 5 + 1] + [1] * (rules - 1) for at in range(len(HOSTILE))]
     quotas = [sum(it[0] for it in weights) - 4] + [len(HOSTILE) - 2] * (rules - 1)
-    return game_file(HOSTILE, quotas, weights, 'A <title> & "more" \\ % = $x$')
+    return write_game(HOSTILE, quotas, weights, 'A <title> & "more" \\ % = $x$')
 
 
 def done():

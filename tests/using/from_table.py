@@ -6,7 +6,7 @@
 import re
 
 from cases import HOSTILE, Run, case, done, fault, report, same
-from game import comments_of, units_of
+from game import find_comments, read_units
 
 TOOL = "from_table.py"
 
@@ -149,13 +149,13 @@ gives("names that are numbers", ["60%"], "1,5\n2,3\n", "5", ["5", "3"])
 
 # ---- names and units of rules, as other programs read them
 run = game("85%", "heads:2", "--source", "a\nbook", table="Holder,Share of votes\nA,16.50%\nB,40.25%\nC,43.25%\n")
-comments = comments_of(run.out)
+comments = find_comments(run.out)
 same("the comment of the source", comments[0], "Source: a book")
 same("the comment of a rule", comments[2], 'Rule 1: "Share of votes", percent, 2 decimals; column 2, times 100; the quota "85%" is at least 17/20 of 10,000, which is 8,500')
-units = units_of(comments, 2)
+units = read_units(comments, 2)
 same("the names of the rules", [it.name for it in units], ["Share of votes", "heads"])
-same("their weights as people read them", [it.written(weight) for it, weight in zip(units, (1650, 1))], ["16.50%", "1"])
-hard = [units_of(comments_of(game("1", table=f'name,"votes {it}"\nA,1\n').out), 1)[0].name for it in (each.replace('"', '""') for each in HOSTILE)]
+same("their weights as people read them", [it.write(weight) for it, weight in zip(units, (1650, 1))], ["16.50%", "1"])
+hard = [read_units(find_comments(game("1", table=f'name,"votes {it}"\nA,1\n').out), 1)[0].name for it in (each.replace('"', '""') for each in HOSTILE)]
 same("hostile headings are read back", hard, [" ".join(f"votes {it}".split()) for it in HOSTILE])
 
 # ---- what was done stands in comments, and cannot be taken for a part of the file
