@@ -1,8 +1,11 @@
 #!/usr/bin/env python3
-"""Draws both indices beside the shares of the votes, as an SVG file: bars.py [OPTIONS] <REPORT >PICTURE.svg
+"""Draws both indices beside the shares of the votes, as an SVG file:
 
-Each member has a bar for its share under each rule, and one for each index. No name is cut. With the game file,
---game FILE, the picture has the names of the rules, and quotas in the unit of the table.
+    bars.py [OPTIONS] <REPORT >PICTURE.svg
+
+Each member has a bar for its share under each rule, and one for each index. No name is cut. With
+the game file, --game FILE, the picture has the names of the rules, and quotas in the unit of the
+table.
 """
 import sys
 

@@ -1,4 +1,5 @@
-"""Reads the rows of a table, and its numbers: with a point or a comma, thousands separators and percent signs."""
+"""Reads the rows of a table, and its numbers: with a point or a comma, thousands separators and
+percent signs."""
 import csv
 import io
 import math
@@ -32,7 +33,8 @@ class Number:
             self.good = self.is_valid_with(".") or self.is_valid_with(",")
 
     def is_valid_with(self, decimal):
-        """Returns whether it is a number if this letter is the decimal sign, and the other one separates thousands."""
+        """Returns whether it is a number with this decimal sign; the other sign separates
+        thousands."""
         groups, _, decimals = self.rest.partition(decimal)
         if decimal in decimals or OTHER[decimal] in decimals:
             return False
@@ -47,7 +49,8 @@ class Number:
         return None if point and comma else "." if point else ","
 
     def is_open(self):
-        """Returns whether it is two different numbers by the point and by the comma: 1,000 is a thousand, or one."""
+        """Returns whether it is two different numbers by the point and by the comma: 1,000 is a
+        thousand, or one."""
         return bool(self.rest) and self.decimal() is None
 
     def value(self, decimal):
@@ -93,7 +96,8 @@ class Table:
 
 
 def decode(data, encoding):
-    """Returns the text of a table. A byte order mark tells UTF-8 and UTF-16; without one, zeros tell UTF-16."""
+    """Returns the text of a table. A byte order mark tells UTF-8 and UTF-16; without one, zeros
+    tell UTF-16."""
     if data[:4] == b"PK\x03\x04" or data[:8] == b"\xd0\xcf\x11\xe0\xa1\xb1\x1a\xe1":
         raise Fault("this is the file of a spreadsheet itself: export it as CSV, and give that")
     if encoding is None:

@@ -1,4 +1,5 @@
-"""What the programs of this folder share: their options, their faults, the files they read, and the program council."""
+"""What the programs of this folder share: their options, their faults, the files they read, and
+the program council."""
 import argparse
 import os
 import shutil
@@ -10,7 +11,8 @@ from report import Fault, Report, ignore
 
 
 def make_printable(text):
-    """Puts a text of the user on one line: each letter that moves a terminal, ends a line or shows nothing is a blank."""
+    """Puts a text of the user on one line: each letter that moves a terminal, ends a line or shows
+    nothing is a blank."""
     return "".join(it if it.isprintable() else " " for it in str(text))
 
 
@@ -25,7 +27,8 @@ class Words(argparse.ArgumentParser):
 
 
 def run(main):
-    """Runs a program on the words of its command line. Each fault is one line and a status, never a traceback."""
+    """Runs a program on the words of its command line. Each fault is one line and a status, never a
+    traceback."""
     status = 0
     try:
         sys.stdin = sys.stdin or open(os.devnull, encoding="utf-8")
@@ -73,8 +76,8 @@ def note(text):
 
 
 def warn_of_low_quotas(quotas, totals):
-    """Warns of each quota that is at most half of its total: of 0.85 read as one vote, and of a game in which two
-    coalitions without a common member both win."""
+    """Warns of each quota that is at most half of its total: of 0.85 read as one vote, and of a
+    game in which two coalitions without a common member both win."""
     low = [rule for rule, (quota, total) in enumerate(zip(quotas, totals)) if 2 * quota <= total]
     both = ": two coalitions without a common member could both win" if len(low) == len(quotas) else ""
     for rule in low:
@@ -96,7 +99,8 @@ def read_report(path, take=ignore):
 
 
 def read_comments(path, report):
-    """Returns the comments of the game file of a report, and the units of its rules; none if there is no file."""
+    """Returns the comments of the game file of a report, and the units of its rules; none if there
+    is no file."""
     if path is None:
         return [], read_units([], len(report.quotas))
     with open(path, encoding="utf-8-sig") as it:
@@ -120,7 +124,8 @@ def find_built_program():
 
 
 def find_program(named=None):
-    """Returns the program council: the one that was named, the one of this clone or archive, or the one on the PATH."""
+    """Returns the program council: the one that was named, the one of this clone or archive, or the
+    one on the PATH."""
     if named:
         path = shutil.which(named)
         if not path:
@@ -136,8 +141,8 @@ def find_program(named=None):
 
 
 def prepare(program):
-    """Returns a program that starts at once. The launcher of a clone may prove and build first; after that, the program
-    that it built is run without it."""
+    """Returns a program that starts at once. The launcher of a clone may prove and build first;
+    after that, the program that it built is run without it."""
     with open(program, "rb") as it:
         is_script = it.read(2) == b"#!"
     if not (is_script and os.path.basename(program) == "council"):
@@ -149,7 +154,8 @@ def prepare(program):
 
 
 def compute(program, game, *words):
-    """Computes the report of a game from the bytes of its file. If the program refuses the game, its message is the fault."""
+    """Computes the report of a game from the bytes of its file. If the program refuses the game,
+    its message is the fault."""
     done = subprocess.run([program, *words], input=game, stdout=subprocess.PIPE, stderr=subprocess.PIPE)
     if done.returncode:
         told = done.stderr.decode("utf-8", "replace").strip().split("\n")[0]

@@ -1,9 +1,12 @@
 #!/usr/bin/env python3
-"""Shows two games or more side by side, member by member: compare.py [OPTIONS] REPORT REPORT..
+"""Shows two games or more side by side, member by member:
 
-Each game has its weights and both indices, and each but the first also the differences to the first. A dash means that
-a game does not have the member. Members are matched by their exact names. You are warned of two names that look alike
-if only one game has each of them: --same makes them one.
+    compare.py [OPTIONS] REPORT REPORT..
+
+Each game has its weights and both indices, and each but the first also the differences to the
+first. A dash means that a game does not have the member. Members are matched by their exact
+names. You are warned of two names that look alike if only one game has each of them: --same makes
+them one.
 """
 import difflib
 import functools
@@ -15,7 +18,7 @@ from report import Fault, round_half_up
 
 
 def write_signed(value):
-    """A difference with six decimals, rounded from the fractions."""
+    """Writes a difference with its sign and six decimals, rounded."""
     digits = round_half_up(abs(value), 6)
     sign = "" if float(digits) == 0 else "-" if value < 0 else "+"
     return sign + digits
@@ -23,19 +26,19 @@ def write_signed(value):
 
 @functools.cache
 def fold(name):
-    """A name without accents, capitals and signs, as words."""
+    """Returns the words of a name, without accents, capitals and signs."""
     letters = unicodedata.normalize("NFKD", name.casefold())
     return "".join(it if it.isalnum() else " " for it in letters if not unicodedata.combining(it)).split()
 
 
 @functools.cache
 def make_matcher(text):
-    """What compares other texts with this one; it keeps what it counts of this one."""
+    """Returns a matcher that compares other texts with this one, and counts this one only once."""
     return difflib.SequenceMatcher(None, "", text)
 
 
 def is_near(one, other):
-    """Whether two names may be of one member: Czechia and Czech Republic, Germany and Germany (West)."""
+    """Returns whether two names may be of one member, as Czechia and Czech Republic."""
     one, other = fold(one), fold(other)
     short, long = sorted((" ".join(one), " ".join(other)), key=len)
     if not short or short == long:
@@ -52,7 +55,7 @@ def is_near(one, other):
 
 
 def warn(games):
-    """Tells of names that only one game has, and that are near to a name that only another has."""
+    """Warns of a name that only one game has if it is near to a name that only another has."""
     told = set()
     for at, one in enumerate(games, 1):
         for number, other in enumerate(games[at:], at + 1):
@@ -64,7 +67,7 @@ def warn(games):
 
 
 def find_members(report, same):
-    """The members by name; where two names are to be one, by the first of them."""
+    """Returns the members by name. Two names that --same makes one are the first of them."""
     members = {}
     for it in report.members:
         name = next((first for first, other in same if it.name == other), it.name)
@@ -75,7 +78,7 @@ def find_members(report, same):
 
 
 def make_cells(games, name):
-    """A row: the groups of cells of each game, and of each difference to the first."""
+    """Yields the cells of a row: a group for each game, and for each difference to the first."""
     first = games[0].get(name)
     for at, members in enumerate(games):
         it = members.get(name)
@@ -90,7 +93,7 @@ def measure(text):
 
 
 def write_table(games):
-    """The lines of the table. A heading stands over each group."""
+    """Yields the lines of the table, with a heading over each group."""
     names = list(dict.fromkeys(name for members in games for name in members))
     over = ["1"]
     for at in range(2, len(games) + 1):

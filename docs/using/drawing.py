@@ -1,4 +1,5 @@
-"""What pages and pictures share: text in XML, how wide it can be, round numbers for axes, and colors."""
+"""What pages and pictures share: text in XML, how wide it can be, round numbers for axes, and
+colors."""
 import math
 import re
 import unicodedata
@@ -12,7 +13,7 @@ from report import round_half_up
 REFUSED = re.compile("[^\t\n\r -\ud7ff\ue000-\ufffd\U00010000-\U0010ffff]|[\x7f-\x9f\u200e\u200f\u202a-\u202e\u2066-\u2069]|[\ufdd0-\ufdef]")
 COLORS = ["#33557f", "#c06a2b", "#3c8a4e", "#a03a5b", "#6b5ca5", "#8a7a1f", "#2a8a9a", "#7a4a2a", "#d0589a", "#5a5a5a"]
 DASHES = ["", "7 3", "2 3", "9 3 2 3"]
-# the share of the votes under each rule, and both indices: on white, and on the dark ground of a page
+# the share under each rule, and both indices: on white, and on the dark ground of a page
 SHARES = [("#858585", "#92979e"), ("#3f8f5b", "#62b37e"), ("#8a66b5", "#b094dc"), ("#9a8219", "#d0b84a")]
 INDICES = [("Deegan-Packel index", "#33557f", "#6f9fe0"), ("public good index", "#c06a2b", "#ee9a57")]
 
@@ -38,7 +39,8 @@ def measure(text, size):
 
 
 def wrap(words, most, size, between=" "):
-    """Puts words into lines of at most this width. A wider word has a line of its own, and is not cut."""
+    """Puts words into lines of at most this width. A wider word has a line of its own, and is not
+    cut."""
     lines = []
     for it in words:
         if lines and measure(lines[-1] + between + it, size) <= most:
@@ -65,7 +67,8 @@ def write_picture(wide, high, lines, title):
 
 
 def find_round_step(span, most):
-    """Returns the least of 1, 2, 5, 10, .. and 0.5, 0.2, 0.1, .. of which `most` make the span or more."""
+    """Returns the least of 1, 2, 5, 10, .. and 0.5, 0.2, 0.1, .. of which `most` make the span or
+    more."""
     power = Fraction(10) ** (math.floor(math.log10(span / most)) - 1)
     return next(it for it in (power * factor * ten for ten in (1, 10, 100) for factor in (1, 2, 5)) if it * most >= span)
 

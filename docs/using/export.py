@@ -1,17 +1,18 @@
 #!/usr/bin/env python3
-"""A report of council as CSV, JSON, LaTeX or Markdown:
+"""Writes a report of council as CSV, JSON, LaTeX or Markdown:
 
     export.py csv|json|latex|markdown [OPTIONS] <REPORT
 
-csv       A line for each member, with a heading. Names and fractions stand in quotes; a name that a spreadsheet
-          would take for a formula has an apostrophe in front.
-json      The whole report: numbers as numbers, fractions as two integers, and the coalitions where they are listed.
-latex     A table for the package booktabs. Letters that pdflatex has not stand by their numbers.
-markdown  A table, in which no letter of a name has a meaning of its own.
+    csv       A line for each member, with a heading. Names and fractions are in quotes; a name that
+              a spreadsheet would take for a formula has an apostrophe in front.
+    json      The whole report: numbers as numbers, fractions as two integers, and the coalitions if
+              they are listed.
+    latex     A table for the package booktabs. Letters that pdflatex does not have are numbers.
+    markdown  A table, in which no letter of a name has a meaning of its own.
 
-The columns of a table are name, weight, share (of the votes), coalitions, dp and pg (the Deegan-Packel index and
-the public good index as decimals), deegan_packel and public_good (the same as fractions). With several rules there
-is a weight and a share for each.
+The columns of a table are name, weight, share (of the votes), coalitions, dp and pg (the
+Deegan-Packel index and the public good index as decimals), deegan_packel and public_good (the
+same as fractions). With several rules there is a weight and a share for each.
 """
 import itertools
 import json
@@ -36,7 +37,7 @@ TEXTS = ["name", "deegan_packel", "public_good"]
 
 
 class Column:
-    """A column: what it has, and of which rule where there are several."""
+    """A column: its content, and its rule if there are several."""
 
     def __init__(self, kind, rule=None):
         self.kind, self.rule = kind, rule
@@ -48,12 +49,14 @@ class Column:
         return HEADINGS[self.kind] + ("" if self.rule is None else f", rule {self.rule + 1}")
 
     def write_for_people(self, report, member, places):
-        """Returns the cell of a member as people read it: whole numbers have commas between thousands."""
+        """Returns the cell of a member as people read it: whole numbers have commas between
+        thousands."""
         text = self.write(report, member, places)
         return f"{int(text):,}" if self.kind in ("weight", "coalitions") else text
 
     def write(self, report, member, places):
-        """Returns the cell of a member. Without a number of places, decimals are as the report has them; else rounded."""
+        """Returns the cell of a member. Without a number of places, decimals are as the report has
+        them; else rounded."""
         kind, rule = self.kind, self.rule or 0
         if kind == "weight":
             return str(member.weights[rule])
@@ -88,7 +91,7 @@ def write_csv(report, columns, places):
 
 
 def escape_latex(text):
-    """A text as LaTeX prints it, letter by letter."""
+    """Writes a text so that LaTeX prints it letter by letter."""
     names = {"\\": "textbackslash", "~": "textasciitilde", "^": "textasciicircum", "<": "textless", ">": "textgreater", "|": "textbar"}
     text = unicodedata.normalize("NFC", text)
     letters = []
@@ -149,7 +152,7 @@ def make_pair(value):
 
 
 def describe(report, places):
-    """The whole report but for its coalitions, as one value."""
+    """Returns the whole report, except its coalitions, as one value."""
 
     def describe_index(value, decimals):
         return {"fraction": make_pair(value), "decimals": float(decimals if places is None else round_half_up(value, places))}

@@ -3,17 +3,18 @@
 
     from_table.py [OPTIONS] QUOTA.. <TABLE >GAME
 
-The table has a row for each member: the name, and a weight for each rule. Commas, semicolons or TABs separate the
-columns. Weights may have decimals, with a point or a comma, thousands separators and percent signs. They are
-multiplied by a power of ten until they are whole; comments of the game file say what was done. If a row may be a
-member or something else, such as a total or a heading, nothing is written, and the message names the options.
+The table has a row for each member: the name, and a weight for each rule. Commas, semicolons or
+TABs separate the columns. Weights may have decimals, with a point or a comma, thousands
+separators and percent signs. They are multiplied by a power of ten until they are whole; comments
+of the game file say what was done. If a row may be a member or something else, such as a total or
+a heading, nothing is written, and the message names the options.
 
 Give a QUOTA for each rule, in quotes if it has a >:
 
     255        that many, in the unit of the table      '>49.5'    more than that
     65%        at least that share of all weights       '>50%'     more than that share
     2/3        the same                                 '>2/3'     the same
-    heads:15   a rule under which each member weighs 1; it takes no column. heads:55% and 'heads:>1/2' likewise
+    heads:15   a rule under which each member weighs 1; it takes no column (also heads:55%, 'heads:>1/2')
 """
 import math
 import re
@@ -28,12 +29,13 @@ from report import Fault
 MOST = 1 << 24
 # headings of a column of names
 NAMED = set("name names member members".split())
-# labels of totals: a row that has one and not the sum may still be no member
+# labels of totals, which also stop a row that is not the sum of the others
 TOTAL = set("total totals sum sums all summe gesamt insgesamt somme ensemble totale suma subtotal subtotals".split())
 
 
 class Quota:
-    """A quota as the user writes it: of heads or of weights, at least or more than, a number or a share of the total."""
+    """A quota as the user writes it: of heads or of weights, at least or more than, a number or a
+    share of the total."""
 
     def __init__(self, text):
         self.text = text
@@ -49,8 +51,8 @@ class Quota:
             raise Fault(f"the quota {quote(text)} is no number, no percentage as 65% or '>50%', and no fraction as 2/3", 2)
 
     def make_whole(self, total, scale, decimal):
-        """Returns the quota as a whole number, and how it was found. The weights were multiplied by `scale`, and add
-        up to `total`."""
+        """Returns the quota as a whole number, and how it was found. The weights were multiplied by
+        `scale`, and add up to `total`."""
         share = self.share
         if share is None:
             if self.number.is_open() and decimal is None:
@@ -99,8 +101,8 @@ def is_note(row):
 
 
 def drop_notes(rows, weighed, words):
-    """Leaves out rows with a single cell above and below all others, and says so. Returns the other rows, and the
-    comments."""
+    """Leaves out rows with a single cell above and below all others, and says so. Returns the other
+    rows, and the comments."""
     above = next((at for at, (_, row) in enumerate(rows) if not is_note(row)), len(rows))
     below = next((at for at, (_, row) in enumerate(reversed(rows)) if not is_note(row)), len(rows))
     notes = rows[:above] + rows[len(rows) - below :]
@@ -123,7 +125,8 @@ def drop_notes(rows, weighed, words):
 
 
 class Columns:
-    """Which column has the names, and which the weights of each rule; and whether the first row is a heading."""
+    """Which column has the names, and which the weights of each rule; and whether the first row is
+    a heading."""
 
     def __init__(self, rows, words, rules):
         self.line = rows[0][0]
@@ -163,14 +166,15 @@ class Columns:
         return self.first[column] if column < len(self.first) else ""
 
     def is_heading(self, below):
-        """Returns whether the first row is a heading, as its cells tell; if they do not, it asks."""
+        """Returns whether the first row is a heading, as its cells tell; if they do not, it
+        asks."""
         is_named = self.cell(self.name).casefold() in NAMED
         if self.weights:
             cells = [self.cell(it) for it in self.weights]
             has_numbers = any(Number(it).good for it in cells)
             if all(map(is_title, cells)) or (is_named and all(cells) and not has_numbers):
                 return True
-            # a row that cannot be a heading is read as a member; what is wrong with it is told then
+            # a row that cannot be a heading is read as a member, which says what is wrong with it
             if not (is_named or (below and all(map(is_year, cells)))) or not all(Number(it).good for it in cells):
                 return False
         else:
@@ -182,7 +186,8 @@ class Columns:
         raise Fault(f"line {self.line}, {quote(self.cell(self.name)[:40])}, may be a heading or a member: say --heading or --no-heading")
 
     def is_over_numbers(self, column, below):
-        """Returns whether the first row has a title over a column of numbers (True), or one more number (False)."""
+        """Returns whether the first row has a title over a column of numbers (True), or one more
+        number (False)."""
         cells = [row[column].strip() for row in below if column < len(row) and row[column].strip()]
         first = self.cell(column)
         if not cells or not all(Number(it).good for it in cells) or not first or is_year(first):
@@ -191,7 +196,8 @@ class Columns:
 
 
 def is_title(cell):
-    """Returns whether a cell over weights is a word, or one of the letters that mean weight or quantity."""
+    """Returns whether a cell over weights is a word, or one of the letters that mean weight or
+    quantity."""
     if cell.casefold() in ("nan", "none", "null"):
         return False
     return bool(re.search(r"[^\W\d_]{3}", cell)) or (cell != "" and not re.search(r"\d", cell) and cell in "%wWqQ")
@@ -202,7 +208,8 @@ def is_year(cell):
 
 
 def refuse_row_numbers(rows):
-    """Refuses a first column that counts rows, as R and pandas write it, and says which option helps."""
+    """Refuses a first column that counts rows, as R and pandas write it, and says which option
+    helps."""
     counted = [row[0].strip() for row in rows if row[0].strip()]
     names = [row[1].strip() if len(row) > 1 else "" for row in rows]
     if counted and all(map(is_number, counted)) and all(it and not Number(it).good for it in names):
@@ -250,7 +257,8 @@ def find_decimal(members, columns, said):
 
 
 def is_sum(numbers, row, decimal):
-    """Returns whether a row has the sum of all others: 2 if it has, 1 if nearly, as rounding explains, else 0."""
+    """Returns whether a row has the sum of all others: 2 if it has, 1 if nearly, as rounding
+    explains, else 0."""
     if None in numbers:
         return 0
     values = [it.value(decimal or ".") for it in numbers]
@@ -266,8 +274,8 @@ def is_sum(numbers, row, decimal):
 
 
 def find_total(members, decimal):
-    """Returns the last or the first row if it is a total, and why: it has the sum of all others in a column of weights,
-    or else the label of a total."""
+    """Returns the last or the first row if it is a total, and why: it has the sum of all others in
+    a column of weights, or else the label of a total."""
     last = len(members) - 1
     best, score = None, 0
     for row in [last, 0] if last else []:
@@ -287,8 +295,8 @@ def has_name_of_total(member):
 
 
 def refuse_others(members, words):
-    """Refuses rows that hardly are members: a subtotal by its name, and a first or last row that is the only one with
-    the colon of a source or the star of a note."""
+    """Refuses rows that hardly are members: a subtotal by its name, and a first or last row that is
+    the only one with the colon of a source or the star of a note."""
     if words.all_rows:
         return
     doubtful = [it for it in members if has_name_of_total(it)]
@@ -300,7 +308,8 @@ def refuse_others(members, words):
 
 
 def drop_total(members, decimal, words):
-    """Leaves out a row that is a total if the user says so; asks if nobody did. Returns the comment."""
+    """Leaves out a row that is a total if the user says so; asks if nobody did. Returns the
+    comment."""
     if words.all_rows:
         return []
     row, told = find_total(members, decimal)
@@ -317,7 +326,8 @@ def drop_total(members, decimal, words):
 
 
 def check_names(members, words):
-    """Refuses names that a game cannot have, and a name in two rows unless --sum adds their weights."""
+    """Refuses names that a game cannot have, and a name in two rows unless --sum adds their
+    weights."""
     lines = {}
     for it in members:
         if not it.name:
@@ -325,7 +335,7 @@ def check_names(members, words):
         if not is_text(it.name, NAME):
             raise Fault(f"line {it.line}: the name {quote(it.name[:20])}.. has more than {NAME} bytes, or a letter that is none to read")
         if it.name in lines and not words.sum:
-            raise Fault(f"line {it.line}: the name {quote(it.name)} stands in line {lines[it.name]} too (--sum adds their weights)")
+            raise Fault(f"line {it.line}: the name {quote(it.name)} is in line {lines[it.name]} too (--sum adds their weights)")
         lines.setdefault(it.name, it.line)
         if len(lines) > MEMBERS:
             raise Fault(f"line {it.line}: this is member {MEMBERS + 1}, and a game has at most {MEMBERS}")
@@ -344,7 +354,8 @@ def merge(members, columns):
 
 
 def read_column(members, index, column, decimal, places):
-    """Returns the exact values of a column, whether they are percentages, and what was done to read them."""
+    """Returns the exact values of a column, whether they are percentages, and what was done to read
+    them."""
     numbers = [it.numbers[index] for it in members]
     values = [it.value(decimal or ".") for it in numbers]
     percent = [it.percent for it, value in zip(numbers, values) if value]
@@ -430,8 +441,8 @@ class Rule:
 
 
 def find_unused(rows, columns, words):
-    """Returns which columns are left out. One of numbers, which may be of a rule without a quota, is a fault, unless
-    the columns are chosen by name."""
+    """Returns which columns are left out. One of numbers, which may be of a rule without a quota,
+    is a fault, unless the columns are chosen by name."""
     said, used = [], [columns.name, *columns.weights]
     for column in range(max(len(row) for row in rows)):
         cells = [row[column].strip() if column < len(row) else "" for row in rows]

@@ -7,12 +7,14 @@ MEMBERS, RULES, WEIGHT, NAME, TITLE, GAME_FILE = 40, 4, 10**12, 64, 200, 65536
 
 
 def is_text(text, most):
-    """Returns whether a game file may have this text as a name or a title of at most `most` bytes."""
+    """Returns whether a game file may have this text as a name or a title of at most `most`
+    bytes."""
     return len(text.encode("utf-8")) <= most and all(it >= " " and it != "\x7f" for it in text)
 
 
 def quote(text):
-    """Puts a text in quotes, as TOML reads it. Letters that end a line or move a terminal are written by number."""
+    """Puts a text in quotes, as TOML reads it. Letters that end a line or move a terminal are
+    written by number."""
     letters = []
     for it in text:
         if it in '"\\':
@@ -36,8 +38,8 @@ def quote_for_shell(text):
 
 
 def write_game(names, quotas, weights, title="", comments=()):
-    """Returns a game file: the comments, one a line, the quota of each rule, and for each member its name and its
-    weight under each rule."""
+    """Returns a game file: the comments, one a line, the quota of each rule, and for each member
+    its name and its weight under each rule."""
     if not 1 <= len(names) <= MEMBERS:
         raise Fault(f"there are {len(names)} members, and a game has 1 to {MEMBERS}")
     if not is_text(title, TITLE):
@@ -53,13 +55,13 @@ def write_game(names, quotas, weights, title="", comments=()):
     return "".join(parts)
 
 
-# how a comment names a rule and the unit of its weights: # Rule 1: "Share", percent, 2 decimals; column 2, ..
+# a comment that names a rule and its unit: # Rule 1: "Share", percent, 2 decimals; column 2, ..
 RULE = re.compile(r'# Rule ([1-4]): (?:"((?:[^"\\]|\\.)*)"(?:, |(?=;|$)))?(?:(percent)(?:, |(?=;|$)))?(?:(\d{1,2}) decimals?)?(?:;.*)?')
 
 
 class Unit:
-    """What the weights of a rule are: their name, whether they are percentages, and how many of their last digits are
-    decimals."""
+    """What the weights of a rule are: their name, whether they are percentages, and how many of
+    their last digits are decimals."""
 
     def __init__(self, name="", percent=False, places=0):
         self.name, self.percent, self.places = name, percent, places
@@ -84,7 +86,7 @@ def write_rule_comment(number, name, percent, places, more):
 
 
 def unquote(text):
-    """Reads a text that `quoted` has written, without the quotes round it."""
+    """Reads a text that `quote` has written, without the quotes round it."""
     return re.sub(r"\\(?:u([0-9A-Fa-f]{4})|U([0-9A-Fa-f]{8})|(.))", decode_letter, text)
 
 
@@ -123,7 +125,8 @@ def find_comments(text):
 
 
 def check_same(text, report):
-    """Refuses a file that is not the game of a report. A bracket text, and Python before 3.11, tell nothing."""
+    """Refuses a file that is not the game of a report. A bracket text, and Python before 3.11, tell
+    nothing."""
     try:
         import tomllib
     except ImportError:

@@ -1,10 +1,13 @@
 #!/usr/bin/env python3
-"""Makes one page of HTML from reports of council, to send, open or print: page.py [OPTIONS] REPORT.. >page.html
+"""Makes one page of HTML from reports of council, to send, open or print:
 
-REPORT is a file, or - for standard input. The page has the title, the quotas, a table that a click sorts, bars, the
-coalitions if the report lists them (--list), what the indices are, and how to compute them again. With the game file,
---game FILE, it also has the names of the rules, weights in the unit of the table, and the comments of the file, such
-as the source of the data. It loads nothing from elsewhere.
+    page.py [OPTIONS] REPORT.. >page.html
+
+REPORT is a file, or - for standard input. The page has the title, the quotas, a table that a
+click sorts, bars, the coalitions if the report lists them (--list), what the indices are, and how
+to compute them again. With the game file, --game FILE, it also has the names of the rules,
+weights in the unit of the table, and the comments of the file, such as the source of the data. It
+loads nothing from elsewhere.
 """
 import base64
 import hashlib
@@ -108,8 +111,8 @@ def rank(values):
 
 
 def make_columns(report, units):
-    """Yields the columns of the table: the heading, the values to sort by, and the cells. Fractions, which may be
-    long, come last."""
+    """Yields the columns of the table: the heading, the values to sort by, and the cells.
+    Fractions, which may be long, come last."""
     members, several = report.members, len(report.quotas) > 1
     dp, pg = [it.deegan_packel for it in members], [it.public_good for it in members]
     yield "Member", [it.name.casefold() for it in members], [write_name(it.name) for it in members]
@@ -216,7 +219,8 @@ def write_section(report, at, level):
 
 
 def find_version(named):
-    """Returns the program at hand and what it was proved with, or None. It asks no launcher that would build first."""
+    """Returns the program at hand and what it was proved with, or None. It asks no launcher that
+    would build first."""
     beside = os.path.realpath(os.path.join(os.path.dirname(os.path.realpath(__file__)), "../../council"))
     if named:
         path = find_program(named)
@@ -258,7 +262,8 @@ def write_page(reports, version):
 
 
 def read(path, game, source):
-    """Reads the report in a file, with as many of its coalitions as the page shows, and the comments of its game file."""
+    """Reads the report in a file, with as many of its coalitions as the page shows, and the
+    comments of its game file."""
     first = []
     report = read_report(path, lambda it: first.append(it) if len(first) < MOST else None)
     report.coalitions, report.source = first, source

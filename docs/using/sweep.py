@@ -3,9 +3,10 @@
 
     sweep.py [OPTIONS] GAME >TABLE
 
-GAME is a game file, or - for standard input. The table has a line for each quota and member: the quota, the member,
-and the two indices as fractions and as decimals, separated by TABs. Without --from and --to it goes from 1 to the
-total of the rule. --picture draws a line for each member; members whose lines are the same share one.
+GAME is a game file, or - for standard input. The table has a line for each quota and member: the
+quota, the member, and the two indices as fractions and as decimals, separated by TABs. Without
+--from and --to it goes from 1 to the total of the rule. --picture draws a line for each member;
+members whose lines are the same share one.
 """
 import math
 import sys
@@ -22,8 +23,8 @@ KINDS = {"dp": ("Deegan-Packel index", lambda it: it.deegan_packel), "pg": ("pub
 
 
 def sweep(program, start, rule, quotas):
-    """Returns the report of the game for each of these quotas of a rule. It tries the first and the last quota before
-    the others, so you hear at once of one that is out of range."""
+    """Returns the report of the game for each of these quotas of a rule. It tries the first and the
+    last quota before the others, so you hear at once of one that is out of range."""
     names = [it.name for it in start.members]
     weights = [it.weights for it in start.members]
     reports = {}
@@ -37,7 +38,8 @@ def sweep(program, start, rule, quotas):
 
 
 def warn_of_half(start, rule, quotas):
-    """Warns of quotas of the sweep with which two coalitions without a common member could both win."""
+    """Warns of quotas of the sweep with which two coalitions without a common member could both
+    win."""
     low = [it for it in quotas if 2 * it <= start.totals[rule]]
     others = [2 * quota <= total for quota, total in zip(start.quotas, start.totals)]
     if low and all(others[:rule] + others[rule + 1 :]):
@@ -46,7 +48,8 @@ def warn_of_half(start, rule, quotas):
 
 
 def spread(wanted, heights, first, last):
-    """Returns a place for each label from `first` to `last`, near the wanted ones, and none over another."""
+    """Returns a place for each label from `first` to `last`, near the wanted ones, and none over
+    another."""
     order = sorted(range(len(wanted)), key=lambda it: wanted[it])
     found = {}
     for at in order:
@@ -59,7 +62,8 @@ def spread(wanted, heights, first, last):
 
 
 class Axes:
-    """The axes of a sweep: the quota from left to right, the index upwards, each with round numbers."""
+    """The axes of a sweep: the quota from left to right, the index upwards, each with round
+    numbers."""
 
     def __init__(self, first, last, top, unit, high):
         self.first, self.last, self.high, self.up, self.unit = first, last, high, 0, unit
@@ -90,7 +94,8 @@ class Axes:
 
 
 def draw(start, rule, reports, kind, unit):
-    """Draws the picture: a line for each index over the quotas, with the names of its members at its end."""
+    """Draws the picture: a line for each index over the quotas, with the names of its members at
+    its end."""
     title, value = KINDS[kind]
     lines = {}
     for at, it in enumerate(start.members):

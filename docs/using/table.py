@@ -1,5 +1,5 @@
 #!/usr/bin/env python3
-"""A table of both indices from a report of council: table.py <REPORT"""
+"""Prints a table of both indices from a report of council: table.py <REPORT"""
 import sys
 
 from command import make_printable, run

@@ -15,7 +15,7 @@ TOOL = "bars.py"
 
 
 def drawn(data):
-    """The picture of a report: its root and its texts."""
+    """Returns the root and the texts of the picture of a report."""
     run = Run(TOOL, input=data)
     root = ElementTree.fromstring(run.out)
     return root, root.findall("{*}text")

@@ -1,9 +1,11 @@
 #!/usr/bin/env python3
-"""What a browser shows of the pages and pictures of docs/using: at 390, 768 and 1280 pixels, light and dark.
+"""What a browser shows of the pages and pictures of docs/using: at 390, 768 and 1280 pixels,
+light and dark.
 
     tests/using/browser.py PROGRAM
 
-Chromium lays out each page in a frame of that width; a script in it tells the rectangles of cells, bars and numbers.
+Chromium lays out each page in a frame of that width; a script in it tells the rectangles of
+cells, bars and numbers.
 """
 import html
 import json
@@ -85,7 +87,8 @@ def measure_contrast(one, other):
 
 
 def measure_difference(one, other):
-    """Returns how different two colors look: their distance in CIELAB, of which 2 is hardly seen."""
+    """Returns how different two colors look: their distance in CIELAB, of which 2 is hardly
+    seen."""
     def lab(color):
         red, green, blue = measure_light(color)
         its = [(0.4124 * red + 0.3576 * green + 0.1805 * blue) / 0.9505, 0.2126 * red + 0.7152 * green + 0.0722 * blue, (0.0193 * red + 0.1192 * green + 0.9505 * blue) / 1.089]

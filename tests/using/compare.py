@@ -1,5 +1,6 @@
 #!/usr/bin/env python3
-"""docs/using/compare.py: two reports or more side by side, differences, and names that look like one.
+"""docs/using/compare.py: two reports or more side by side, differences, and names that look like
+one.
 
     tests/using/compare.py PROGRAM
 """

@@ -92,7 +92,7 @@ gives("members with colons", ["60%"], "A: x,5\nB: y,3\nC,1\n", "6", ["5", "3", "
 fault("--no-total without a total", game("60%", "--no-total", table="A,5\nB,3\nC,1\n"), 2, "--no-total: neither the first row nor the last is the sum of all others")
 run = game("60%", "--no-total", table="A,5\nB,3\nTotal,9\n")
 case("a total that is none is left out aloud", read(run.out)[1] == ["5", "3"] and run.err == 'from_table.py: line 3, "Total", is left out, and is a total by its name, but not the sum of all others\n', run.err)
-case("what is left out stands in a comment", "\n# Left out: line 3, \"Total\", a total by its name, but not the sum of all others\n" in run.out, run.out)
+case("what is left out is in a comment", "\n# Left out: line 3, \"Total\", a total by its name, but not the sum of all others\n" in run.out, run.out)
 
 # ---- a first row that may be a heading: the user says whether, unless other columns tell
 for first in ["Executive Director", "Fraktion", "Gesellschafter", "Member state", "Country", "合計"]:
@@ -131,7 +131,7 @@ for name, pad in [("alone", ""), ("with the commas of a spreadsheet", ",")]:
     same(f"titles and sources {name} are left out", read(run.out), ("6", ["5", "3", "1"]))
     told = [f"from_table.py: line {line} has a single cell and is left out: {text}" for line, text in [(1, '"Votes of 2019"'), (7, '"Source: a book"'), (8, '"*) estimated"')]]
     same(f"titles and sources {name} are told", run.err, "\n".join([told[0], *(it + " (if it is a member, write 0 as its weight)" for it in told[1:]), ""]))
-    case(f"titles and sources {name} stand in comments", '# Left out: line 1, "Votes of 2019"\n# Left out: line 7, "Source: a book"\n' in run.out, run.out)
+    case(f"titles and sources {name} are in comments", '# Left out: line 1, "Votes of 2019"\n# Left out: line 7, "Source: a book"\n' in run.out, run.out)
 gives("titles above columns that are chosen", ["60%", "--weight", "votes"], NOTES.format(""), "6", ["5", "3", "1"])
 fault("a single cell beside heads", game("heads:2", table="who,votes\nA,5\nB,3\nSource: a book\n"), 1,
       'line 4 has a single cell, "Source: a book", and others have more: delete the line, or say --all-rows if it is a member')
@@ -141,7 +141,7 @@ gives("a single cell of a member", ["heads:2", "--all-rows"], "who,votes\nA,5\nB
 gives("--sum", ["60%", "--sum"], "A,5\nB,3\nA,1.5\n", "57", ["65", "30"])
 gives("--sum of two columns", ["60%", "1", "--sum"], "A,5,1\nB,3,1\nA,1,3\n", "[6, 1]", ["[6, 4]", "[3, 1]"])
 gives("--sum of 41 rows", ["60%", "--sum"], "A,60\n" + "".join(f"m{it % 20},1\n" for it in range(40)), "60", ["60"] + ["2"] * 20)
-case("--sum stands in a comment", '\n# Added: lines 1, 3, "A"\n' in game("60%", "--sum", table="A,5\nB,3\nA,1\n").out)
+case("--sum is in a comment", '\n# Added: lines 1, 3, "A"\n' in game("60%", "--sum", table="A,5\nB,3\nA,1\n").out)
 for name, words, table in [("R", ["60%"], '"","holder","votes"\n"1","A",5\n"2","B",3\n'), ("pandas", ["60%"], ",holder,votes\n0,A,5\n1,B,3\n"), ("pandas, of heads", ["heads:2"], ",holder\n0,A\n1,B\n")]:
     fault(f"row numbers of {name}", game(*words, table=table), 1, "column 1 has row numbers, and column 2 the names: say --name 2")
 gives("row numbers", ["60%", "--name", "2"], '"","holder","votes"\n"1","A",5\n"2","B",3\n', "5", ["5", "3"])
@@ -158,7 +158,7 @@ same("their weights as people read them", [it.write(weight) for it, weight in zi
 hard = [read_units(find_comments(game("1", table=f'name,"votes {it}"\nA,1\n').out), 1)[0].name for it in (each.replace('"', '""') for each in HOSTILE)]
 same("hostile headings are read back", hard, [" ".join(f"votes {it}".split()) for it in HOSTILE])
 
-# ---- what was done stands in comments, and cannot be taken for a part of the file
+# ---- comments say what was done, and no text of the table ends them
 run = game("51", "--title", "T", "--name", "n\n[[member]]", "--weight", "2", table='"n\n[[member]]","quota = 1\nx"\nA,50.5\nB,50\n')
 comments = [it for it in run.out.split("\n") if it.startswith("#")]
 case("comments tell what was done", len(comments) == 3 and "times 10" in comments[1] and "line 1, the heading" in comments[2], run.out)
@@ -200,7 +200,7 @@ for name, words, table, status, text in [
     ("percent signs here and there", ["1"], "A,2%\nB,1\n", 1, f'{AT}: "1": some weights of this column have a percent sign, and some have none'),
     ("a total that is none", ["1"], "A,1\nB,2\nTotal,4\n", 1,
      'line 3, "Total", is a total by its name, but not the sum of all others: say --no-total to leave it out, or --all-rows if it is a member'),
-    ("a name twice", ["1"], "A,1\nB,2\nA,2\n", 1, 'line 3: the name "A" stands in line 1 too (--sum adds their weights)'),
+    ("a name twice", ["1"], "A,1\nB,2\nA,2\n", 1, 'line 3: the name "A" is in line 1 too (--sum adds their weights)'),
     ("a long name", ["1"], "é" * 33 + ",1\n", 1, f'line 1: the name "{"é" * 20}".. has more than 64 bytes, or a letter that is none to read'),
     ("a name that rings a bell", ["1"], "A\x07,1\n", 1, 'line 1: the name "A\\u0007".. has more than 64 bytes, or a letter that is none to read'),
     ("no name", ["1"], ",1\n", 1, "line 1: there is no name"),

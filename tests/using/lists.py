@@ -1,5 +1,6 @@
 #!/usr/bin/env python3
-"""The programs of docs/using on a report that lists many coalitions: they keep few of them, or none.
+"""The programs of docs/using on a report that lists many coalitions: they keep few of them, or
+none.
 
     tests/using/lists.py PROGRAM
 """

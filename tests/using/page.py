@@ -11,7 +11,7 @@ from cases import HOSTILE, PROGRAM, TEMP, TOP, Run, case, done, fault, hostile_g
 
 TOOL = "page.py"
 VOID = ["meta", "br"]
-# what the page shows in place of a letter that it must not have
+# a page shows U+FFFD instead of letters that it must not have
 SHOWN = [re.sub("[\ufffe\u202e\u0085]", "\ufffd", it) for it in HOSTILE]
 
 
