@@ -61,6 +61,7 @@ fund = Run("from_table.py", "85%", input="Holder,Share held\nA,16.50%\nB,40.25%\
 run_of_fund = sweep("-", "--from", "5001", "--step", "500", "--picture", f"{TEMP}/fund.svg", input=fund)
 fund = ElementTree.parse(f"{TEMP}/fund.svg").getroot()
 same("sweep.py: quotas in the unit of the table", axis(fund, "quota"), ["60.00%", "70.00%", "80.00%", "90.00%"])
+same("sweep.py: the axis ends above the greatest index, 1/3", axis(fund, "index"), ["0.0", "0.1", "0.2", "0.3", "0.4"])
 case("sweep.py: the name of the rule", 'public good index, by the quota, "Share held" (total 100.00%)' in [it.text for it in fund.findall("{*}text")])
 
 # ---- quotas of at most half
