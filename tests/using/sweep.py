@@ -49,6 +49,8 @@ def axis(root, kind):
 
 same("sweep.py: round indices at the axis", axis(drawn, "index"), ["0.00", "0.05", "0.10", "0.15", "0.20", "0.25"])
 same("sweep.py: round quotas at the axis", axis(drawn, "quota"), ["5", "10", "15"])
+sweep(COUNCIL, "--from", "17", "--picture", f"{TEMP}/all.svg")
+same("sweep.py: the axis ends above the greatest index, 1/6", axis(ElementTree.parse(f"{TEMP}/all.svg").getroot(), "index"), ["0.00", "0.05", "0.10", "0.15", "0.20"])
 ends = [it.get("points").split()[-1].replace(",", " ") for it in drawn.findall("{*}polyline")]
 leaders = [re.fullmatch(r"M(\S+ \S+)L\S+ (\S+)h12", it.get("d")) for it in drawn.findall("{*}path") if it.get("class") == "leader"]
 same("sweep.py: each line is led to a label", [it[1] for it in leaders], ends)
@@ -61,7 +63,6 @@ fund = Run("from_table.py", "85%", input="Holder,Share held\nA,16.50%\nB,40.25%\
 run_of_fund = sweep("-", "--from", "5001", "--step", "500", "--picture", f"{TEMP}/fund.svg", input=fund)
 fund = ElementTree.parse(f"{TEMP}/fund.svg").getroot()
 same("sweep.py: quotas in the unit of the table", axis(fund, "quota"), ["60.00%", "70.00%", "80.00%", "90.00%"])
-same("sweep.py: the axis ends above the greatest index, 1/3", axis(fund, "index"), ["0.0", "0.1", "0.2", "0.3", "0.4"])
 case("sweep.py: the name of the rule", 'public good index, by the quota, "Share held" (total 100.00%)' in [it.text for it in fund.findall("{*}text")])
 
 # ---- quotas of at most half
