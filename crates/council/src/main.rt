@@ -64,7 +64,12 @@ fn hint(rt: &impl Eprint, cause: Cause) {
 const LONGEST_PATH: usize = 4096;
 
 /// Says why the file could not be opened.
-fn not_opened(rt: &impl Eprint, arguments: &Arguments<'_>, path: &str, error: &io::Error) -> ExitCode {
+fn not_opened(
+    rt: &impl Eprint,
+    arguments: &Arguments<'_>,
+    path: &str,
+    error: &io::Error,
+) -> ExitCode {
     let _ = eprintln!(rt; "council: the game file cannot be opened");
     if arguments.explain {
         let path = sanitize(path, LONGEST_PATH);
@@ -74,12 +79,7 @@ fn not_opened(rt: &impl Eprint, arguments: &Arguments<'_>, path: &str, error: &i
 }
 
 /// Executes what the arguments ask for: a run or a tally.
-fn execute<
-    R: AllocGlobal + Threads + Wait + Sync,
-    I: io::Read,
-    G: Gate + Sync,
-    W: io::Write,
->(
+fn execute<R: AllocGlobal + Threads + Wait + Sync, I: io::Read, G: Gate + Sync, W: io::Write>(
     rt: &R,
     arguments: &Arguments<'_>,
     reader: &mut I,
@@ -130,7 +130,11 @@ fn report_outcome(
 /// Returns how many slices there are, unless the game has very few members.
 fn slices_of(arguments: &Arguments<'_>) -> u16 {
     let bits = arguments.options.bits;
-    if arguments.tally { slice_count(bits.max(LEAST_BITS)) } else { slice_count(bits) }
+    if arguments.tally {
+        slice_count(bits.max(LEAST_BITS))
+    } else {
+        slice_count(bits)
+    }
 }
 
 /// Runs on what is read, and writes to standard output; `terminal` tells whether standard error is a
@@ -170,12 +174,12 @@ fn run_on_file<R: AllocGlobal + Files + Input + Print + Eprint + Clock + Threads
 }
 
 fn main(rt: HostRuntime) -> ExitCode {
-    let words = match command_line(&rt) {
+    let words = match collect_words(&rt) {
         Ok(words) => words,
         Err(status) => return status,
     };
-    match wanted(&rt, words.as_slice()) {
-        Ok(wanted) => {
+    match parse_arguments(&rt, words.as_slice()) {
+        Ok(arguments) => {
             if arguments.file.is_none() && rt.stdin().is_terminal() {
                 let _ = eprintln!(&rt;
                     "council: a game is read from standard input, up to its end"
