@@ -12,13 +12,9 @@ are_wrong o = nat_lt COALITIONS o.most || o.tally && (o.list || nat_lt 0 o.most)
 abbrev pub most_of : CouncilOptions → ℕ
 most_of o = if o.most == 0 then 1000000 else o.most
 
--- a tally takes any number of them, and a list at most so many
-abbrev pub limit : Bool → ℕ → Option ℕ
-limit tally most = if tally then None else Some most
-
--- the limit that these options set
+-- a tally takes any number of them
 abbrev pub limit_of : CouncilOptions → Option ℕ
-limit_of o = limit o.tally (most_of o)
+limit_of o = if o.tally then None else Some (most_of o)
 
 -- the optional lines of the report
 abbrev pub lines_of_call : CouncilOptions → ReportLines

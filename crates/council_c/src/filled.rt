@@ -1,10 +1,10 @@
 //! A report in a buffer.
-ghost use Rattle.std.specs.Prelude.{◌≡◌, IfErr, IfOk, OnErr, OnOk, false, length, true};
+ghost use Rattle.std.specs.Prelude.{◌≡◌, ℕ, IfErr, IfOk, List, None, Ok, OnErr, OnOk, Option, Some, false, length};
 ghost use Rattle.coalitions.specs.Options.{lines_of};
 ghost use Rattle.council_report.specs.Report.{report};
-ghost use Rattle.council_run.specs.Found.{IsFound};
+ghost use Rattle.council_run.specs.Found.{Finds, IsFound};
+ghost use Rattle.council_run.specs.Run.{Holds};
 ghost use Rattle.council_c.specs.Answer.{FillsBy, Reports, Shows, StopsCall, StopsOn};
-ghost use Rattle.council_c.specs.Asked.{limit};
 
 use crate::fault::Fault;
 use crate::options::CouncilOptions;
@@ -17,6 +17,23 @@ use council_report::ReportFault;
 use council_run::{Found, RunFault, count_by_walk, list_by_walk};
 use std::alloc::Global;
 use std::io;
+
+/// Returns how long the report of a game is.
+fn write_length(
+    alloc: Global,
+    game: &Game,
+    found: &Found,
+    lines: ReportLines,
+) -> Result<u64, Memory>
+    requires { IsFound game.now lines found.now }
+    ensures { IfOk result (λ len. len ≡ length (report lines game.now)) }
+{
+    match found.write(alloc, game, lines, &mut io::sink()) {
+        Ok(length) => Ok(length),
+        // memory: a sink takes every write, so a report into one stops for nothing else
+        Err(_) => Err(Memory),
+    }
+}
 
 /// Puts the report of a game into a buffer, as much of it as fits, and returns how long it is.
 fn put_report(
@@ -35,11 +52,7 @@ fn put_report(
     let length = match found.write(alloc, game, lines, &mut page) {
         Ok(length) => length,
         Err(ReportFault::Write { .. }) if page.bytes().len() == room.len() => {
-            match found.write(alloc, game, lines, &mut io::sink()) {
-                Ok(length) => length,
-                // memory: a sink takes every write, so a report into one stops for nothing else
-                Err(_) => return Err(Memory),
-            }
+            write_length(alloc, game, found, lines)?
         }
         // memory: a page with room left fails where it cannot grow
         Err(_) => return Err(Memory),
@@ -48,29 +61,60 @@ fn put_report(
     Ok(length)
 }
 
-/// Reads a game, finds its coalitions, and puts its report into a buffer. It returns how long the
-/// report is.
-fn report_bytes(
+/// Puts the report of a game into a buffer, if its coalitions were found.
+fn put_found(
+    alloc: Global,
+    game: &Game,
+    found: Result<Found, RunFault>,
+    lines: ReportLines,
+    room: &mut [u8],
+) -> Result<u64, RunFault>
+    requires { IfOk found (IsFound game.now lines) }
+    ensures ok { (limit : Option ℕ) (bytes : List ℕ) → Finds limit lines game.now found
+        → Holds bytes (Ok game.now)
+        → IfOk result (FillsBy (report lines) limit bytes room.old room.new) }
+    ensures err { (limit : Option ℕ) (bytes : List ℕ) → Finds limit lines game.now found
+        → Holds bytes (Ok game.now)
+        → IfErr result (λ fault. StopsOn (report lines) limit bytes fault.cause) }
+    ensures kept { OnErr result (room.new ≡ room.old) }
+{
+    let found = found?;
+    Ok(put_report(alloc, game, &found, lines, room)?)
+}
+
+/// Puts the report of a game with its coalitions into a buffer.
+fn put_list(
     alloc: Global,
     bytes: &[u8],
     options: &Options,
-    tally: bool,
     room: &mut [u8],
 ) -> Result<u64, RunFault>
-    requires { tally ≡ true → options.now.list ≡ false }
-    ensures ok { IfOk result (FillsBy (report (lines_of options.now)) (limit tally options.now.most)
+    ensures ok { IfOk result (FillsBy (report (lines_of options.now)) (Some options.now.most)
         bytes.now room.old room.new) }
     ensures err { IfErr result (λ fault. StopsOn (report (lines_of options.now))
-        (limit tally options.now.most) bytes.now fault.cause) }
+        (Some options.now.most) bytes.now fault.cause) }
     ensures kept { OnErr result (room.new ≡ room.old) }
 {
     let game = parse_game(alloc, bytes)?;
-    let found = if tally {
-        count_by_walk(alloc, &game)?
-    } else {
-        list_by_walk(alloc, &game, options.most)?
-    };
-    Ok(put_report(alloc, &game, &found, options.lines(), room)?)
+    let found = list_by_walk(alloc, &game, options.most);
+    put_found(alloc, &game, found, options.lines(), room)
+}
+
+/// Puts the report of a game without its coalitions into a buffer.
+fn put_tally(
+    alloc: Global,
+    bytes: &[u8],
+    options: &Options,
+    room: &mut [u8],
+) -> Result<u64, RunFault>
+    requires { options.now.list ≡ false }
+    ensures ok { IfOk result (FillsBy (report (lines_of options.now)) None bytes.now room.old room.new) }
+    ensures err { IfErr result (λ fault. StopsOn (report (lines_of options.now)) None bytes.now fault.cause) }
+    ensures kept { OnErr result (room.new ≡ room.old) }
+{
+    let game = parse_game(alloc, bytes)?;
+    let found = count_by_walk(alloc, &game);
+    put_found(alloc, &game, found, options.lines(), room)
 }
 
 /// Puts the report of the game in some bytes into a buffer, as much of it as fits. It returns how long
@@ -93,7 +137,12 @@ pub(crate) fn fill(
     let Some(options) = call.options() else {
         return Err(Fault::Options);
     };
-    match report_bytes(alloc, bytes, &options, call.tally, room) {
+    let filled = if call.tally {
+        put_tally(alloc, bytes, &options, room)
+    } else {
+        put_list(alloc, bytes, &options, room)
+    };
+    match filled {
         Ok(length) => Ok(length),
         Err(fault) => Err(Fault::Run(fault.cause)),
     }

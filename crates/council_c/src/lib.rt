@@ -9,7 +9,6 @@
 mod call;
 mod fault;
 mod filled;
-mod found;
 mod options;
 mod page;
 mod put;

@@ -1,5 +1,5 @@
 //! The options of a call.
-ghost use Rattle.std.specs.Prelude.{◌≡◌, MatchOption, true};
+ghost use Rattle.std.specs.Prelude.{◌≡◌, MatchOption, false, true};
 ghost use Rattle.coalitions.specs.Options.{lines_of};
 ghost use Rattle.council_c.specs.Asked.{are_wrong, lines_of_call, most_of};
 
@@ -28,7 +28,8 @@ impl CouncilOptions {
     /// Returns the options of a run in one thread; none if no call takes them.
     pub(crate) fn options(&self) -> Option<Options>
         ensures { MatchOption result (are_wrong self.now ≡ true)
-            (λ o. (o.most ≡ most_of self.now) × (lines_of o ≡ lines_of_call self.now)) }
+            (λ o. (o.most ≡ most_of self.now) × (lines_of o ≡ lines_of_call self.now)
+            × (self.now.tally ≡ true → o.list ≡ false)) }
     {
         if self.most > limits::COALITIONS || self.tally && (self.list || self.most > 0) {
             return None;

@@ -1,1 +1,1 @@
-mod Finding
+pub mod Shared
