@@ -1,9 +1,9 @@
 -- The end of gathering.
 use Rattle.mwc_gather.proofs.Imports.{common_steps, nat_tests, ◌≡◌, ℕ, ◌<◌, ◌≤◌, Bool, true, false, List, [], ◌∷◌, ◌++◌, Option, Some, None}
-use Rattle.mwc_gather.proofs.Imports.{IsPart, Part, GatherFault, Memory, Desk, Deal, view_of, views_of, cond, All, IsPartOfDesk, all_total}
 use Rattle.mwc_gather.proofs.Imports.{IsComplete, get_or-map, IsStrictlyIncreasing, TooMany, shares, IsWell, All-head, All-tail, Slicing}
 use Rattle.mwc_gather.proofs.Imports.{sum_by, sum_by-cons, coalition_count, DeskView, IsFresh, DealsTo, given_slices, AreDealt, first_of}
 use Rattle.mwc_gather.proofs.Imports.{length, map, refl, AllZip, get_or, append_assoc, ap, subst, arith, sym, ◌∙◌, length-map, map_push}
+use Rattle.mwc_gather.proofs.Imports.{IsPart, Part, GatherFault, Memory, Desk, Deal, view_of, views_of, All, IsPartOfDesk, all_total}
 use Rattle.mwc_gather.proofs.Readings.{length-joined}
 use Rattle.std.proofs.{Common.slice_get, lemmas.Slice.Zip.AllZip-long}
 use Rattle.mwc_gather.specs.declared.fault.GatherFault.TheVariants.{Start, Ring}

@@ -1,9 +1,8 @@
 -- Workers that are joined, one after another.
 use Rattle.mwc_gather.specs.Inner.Fault.{first_of_all}
 use Rattle.mwc_gather.proofs.Imports.{TooMany, Part, GatherFault, Desk, Deal, IsOf, AllOf, CanEndWith, IsPartOfDesk, ◌≡◌, ℕ, ◌<◌, ◌≤◌, Bool}
-use Rattle.mwc_gather.proofs.Imports.{true, false, List, [], ◌∷◌, ◌++◌, Option, Some, None, All, length, refl, is_some, AllZip, ap, subst}
-use Rattle.mwc_gather.proofs.Imports.{arith, sym, ◌∙◌, false≢true, append-nil, Slicing, coalition_count, DealsTo, all_total, IsComplete}
-use Rattle.mwc_gather.proofs.Imports.{first_of, Memory}
+use Rattle.mwc_gather.proofs.Imports.{List, [], ◌∷◌, ◌++◌, Option, Some, None, All, length, refl, is_some, AllZip, ap, subst, arith, sym}
+use Rattle.mwc_gather.proofs.Imports.{◌∙◌, append-nil, Slicing, coalition_count, DealsTo, all_total, IsComplete, first_of, Memory}
 use Rattle.std.proofs.lemmas.{List.Elements.All-rest, Slice.Zip.all_zipped_more}
 use Rattle.mwc_gather.proofs.Ends.{first_is_many, head_of, one_done, desks_within, completes}
 

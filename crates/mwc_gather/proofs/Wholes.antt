@@ -1,8 +1,8 @@
 -- All slices of a game, each once, and their coalitions.
+use Rattle.mwc_gather.proofs.Imports.{all_total, All-weaker, range_with_len, HasPieces, slicing, GameView, ◌<◌, Bool, cond, [], ◌∷◌, shares}
 use Rattle.mwc_gather.proofs.Imports.{count_by, refl, flat_map, eqb, sum_by, nat_tests, common_steps, sum_by-append, sum_by-cons, times_in}
 use Rattle.mwc_gather.proofs.Imports.{arith, ◌≡◌, ℕ, ◌≤◌, List, length, All, ap, sym, ◌∙◌, votes_of, slices-joined, Slicing, IsPart, Part}
-use Rattle.mwc_gather.proofs.Imports.{all_total, All-weaker, range_with_len, HasPieces, slicing, GameView, ◌<◌, Bool, cond, [], ◌∷◌}
-use Rattle.mwc_gather.proofs.Imports.{shares, AreDealt, ◌+◌, ◌++◌, map, map-append}
+use Rattle.mwc_gather.proofs.Imports.{AreDealt, ◌+◌, ◌++◌, map, map-append}
 use Rattle.mwc_gather.proofs.{Firsts.dealt_once, Readings.length-joined, Readings.piece_is}
 use Rattle.std.proofs.{Common.◌^◌, Common.lt-ltb, lemmas.List.Folds.flat_map-map, lemmas.List.FromFn.map-range_with_len_more}
 use Rattle.council_game.specs.Votes.{minimal_coalitions}

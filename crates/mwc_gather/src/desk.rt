@@ -218,7 +218,8 @@ fn ring_fault(draft: &Draft) -> GatherFault
     }
 }
 
-/// Puts a task into the ring, sleeps at its own bell while the ring is full, and then rings the other.
+/// Puts a task into the ring, sleeps at its own bell while the ring is full, and then rings the
+/// other.
 fn put<R: Wait>(rt: &R, tasks: &mut RingIn, mut task: Word, pair: BellPair<'_>)
     ensures ring { tasks.new.ring ≡ tasks.old.ring }
     ensures accepted { tasks.new.accepted ≡ tasks.old.accepted ++ task ∷ [] }

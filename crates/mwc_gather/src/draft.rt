@@ -75,8 +75,8 @@ impl Draft {
         }
     }
 
-    /// Keeps the words of a row, for whose coalitions room is made once, and returns what they tell of
-    /// the worker.
+    /// Keeps the words of a row, for whose coalitions room is made once, and returns what they
+    /// tell of the worker.
     pub fn hear_row(&mut self, row: &[Word]) -> News
         ensures hears { Hears self.old row.now self.new }
         ensures full { LosesForWantOfRoom self.old (length row.now) self.new }

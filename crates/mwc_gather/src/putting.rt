@@ -12,7 +12,8 @@ pub(crate) struct Came {
     pub refused: bool,
 }
 
-/// How the words of a row are put into a pipe, one behind the other, up to the first that is refused.
+/// How the words of a row are put into a pipe, one behind the other, up to the first that is
+/// refused.
 pub(crate) trait PutsRows<P: PipeIn<Word>> {
     /// Puts the row in, as far as there is room.
     fn put_row(out: &mut P, words: &[Word]) -> Came

@@ -52,8 +52,8 @@ pub(crate) fn send<W: PutsRows<P>, R: Wait, P: PipeIn<Word>>(
     unreachable!()
 }
 
-/// Adds the word to the parcel, which is sent first if it is full. Returns false if the pipe refuses
-/// a word for good.
+/// Adds the word to the parcel, which is sent first if it is full. Returns false if the pipe
+/// refuses a word for good.
 #[tactic(auto, using(std::proofs::lemmas::Grind::common_steps))]
 fn add<W: PutsRows<P>, R: Wait, P: PipeIn<Word>>(
     rt: &R,
@@ -133,9 +133,9 @@ pub fn send_slice<R: Wait, P: PipeIn<Word>, G: Gate>(
     send_behind::<WordByWord, _, _, _>(rt, guarded, bits, slice, worker, left, out, pair)
 }
 
-/// Sends a slice as `send_slice` does, and informs the gate how far it has come. Only here a gate is
-/// passed: whatever sends a slice comes by. It rings the other bell for what it has put in, and
-/// sleeps at its own.
+/// Sends a slice as `send_slice` does, and informs the gate how far it has come. Only here a gate
+/// is passed: whatever sends a slice comes by. It rings the other bell for what it has put in,
+/// and sleeps at its own.
 pub(crate) fn send_behind<W: PutsRows<P>, R: Wait, P: PipeIn<Word>, G: SliceObserver>(
     rt: &R,
     guarded: &Guarded<'_, G>,

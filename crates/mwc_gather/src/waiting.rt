@@ -1,9 +1,9 @@
 //! Waiting that yields the processor.
 //!
-//! A thread that finds nothing to do looks again a few times, says that it is about to sleep, looks
-//! once more, and sleeps until it is woken. After each sleep it looks an eighth less often, and after
-//! a look that found something twice as often. No contract depends on this. A lost wake-up costs one
-//! millisecond, the longest sleep.
+//! A thread that finds nothing to do looks again a few times, says that it is about to sleep,
+//! looks once more, and sleeps until it is woken. After each sleep it looks an eighth less often,
+//! and after a look that found something twice as often. No contract depends on this. A lost
+//! wake-up costs one millisecond, the longest sleep.
 ghost use Rattle.std.specs.Prelude.{◌<◌};
 ghost use Rattle.coalitions.specs.declared.limits.TheConstants.{WORKERS};
 

@@ -68,8 +68,8 @@ fn finish<R: Wait>(
 /// it has sent coalition number `most + 1`; then sends End and closes. It hands back the end that
 /// the tasks came from. It takes no memory.
 ///
-/// There are at most 10 bits, and no more than members; `worker` is below 16, `most` 1 to 4,000,000.
-/// Both ends are new: `out` has accepted no word, and none was taken from `tasks`.
+/// There are at most 10 bits, and no more than members; `worker` is below 16, `most` 1 to
+/// 4,000,000. Both ends are new: `out` has accepted no word, and none was taken from `tasks`.
 ///
 /// # Errors
 ///

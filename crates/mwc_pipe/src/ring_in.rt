@@ -62,10 +62,10 @@ impl RingIn {
         }
     }
 
-    /// Puts the words of a row in, as many of them as there is room for, in their order, and says how
-    /// many. It stops short only where the ring is full as far as this end knows; the first `capacity`
-    /// words of a ring are taken in at once. However many they are, they come in by one store. It
-    /// takes no memory.
+    /// Puts the words of a row in, as many of them as there is room for, in their order, and says
+    /// how many. It stops short only where the ring is full as far as this end knows; the first
+    /// `capacity` words of a ring are taken in at once. However many they are, they come in by
+    /// one store. It takes no memory.
     pub fn put_some(&mut self, words: &[Word]) -> usize
         ensures count { result ≤ length words.now }
         ensures ring { (self.new.ring ≡ self.old.ring) × (self.new.capacity ≡ self.old.capacity) }

@@ -42,9 +42,9 @@ impl RingOut {
         self.consumer.pop().ok()
     }
 
-    /// Takes the oldest words into the front of a row, as many as are known and the row has room for,
-    /// and says how many. The rest of the row stays. It stops short only where no further word is
-    /// known. However many they are, they go by one store. It takes no memory.
+    /// Takes the oldest words into the front of a row, as many as are known and the row has room
+    /// for, and says how many. The rest of the row stays. It stops short only where no further
+    /// word is known. However many they are, they go by one store. It takes no memory.
     #[tactic(auto, using(crate::proofs::Counting::takes))]
     pub fn take_some(&mut self, into: &mut [Word]) -> usize
         ensures count { result ≤ length into.old }

@@ -29,8 +29,9 @@ pub struct Trace<T> {
     pub closed: bool,
 }
 
-/// Serves the steps, one after another, by a new pipe with room for 1 to 2^23 items. The items that came
-/// out, and after them those inside, are the items that went in, in their order; after a close none did.
+/// Serves the steps, one after another, by a new pipe with room for 1 to 2^23 items. The items
+/// that came out, and after them those inside, are the items that went in, in their order; after
+/// a close none did.
 ///
 /// # Errors
 ///

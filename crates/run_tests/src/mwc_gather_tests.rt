@@ -85,7 +85,8 @@ fn gathered<R: Threads + Wait + Abort + Sync, G: Gate + Sync>(
     gather(rt, alloc, &Guarded::new(game, gate), bits, workers, most)
 }
 
-/// The coalitions of these masks, five or fewer, are gathered behind the gate at most five, in that order.
+/// The coalitions of these masks, five or fewer, are gathered behind the gate at most five, in
+/// that order.
 fn lists<R: Threads + Wait + Abort + Sync, G: Gate + Sync>(
     rt: &R,
     alloc: Global,

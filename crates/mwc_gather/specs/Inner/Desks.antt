@@ -1,5 +1,5 @@
 -- What the workers of some desks were given.
-use Rattle.std.specs.Prelude.{◌≡◌, ◌≢◌, ◌⊎◌, ℕ, ◌<◌, ◌≤◌, ◌^◌, Bool, true, List, Option, Some, None, All, length, map, replicate}
+use Rattle.std.specs.Prelude.{◌≡◌, ◌≢◌, ℕ, ◌<◌, ◌≤◌, ◌^◌, Bool, true, List, Option, Some, None, All, length, map, replicate}
 use Rattle.std.specs.List.{AllWithin}
 use Rattle.mwc_gather.specs.Slicing.{Slicing}
 use Rattle.mwc_gather.specs.Inner.Settled.{IsPart}

@@ -71,7 +71,8 @@ impl Gate for Seen {
     }
 }
 
-/// What each gate saw are the slices of the parts, and each worker began with that of its own number.
+/// What each gate saw are the slices of the parts, and each worker began with that of its own
+/// number.
 #[test]
 fn gates_see_the_slices_of_the_parts(rt: HostRuntime) {
     let game = game(&rt, rt.alloc(), 7, &[1; 12]);
@@ -105,7 +106,8 @@ fn gates_see_the_slices_of_the_parts(rt: HostRuntime) {
     }
 }
 
-/// What all calls of `inform` tell of adds up to all that was found, about 1,048,576 prefixes a call.
+/// What all calls of `inform` tell of adds up to all that was found, about 1,048,576 prefixes a
+/// call.
 #[test]
 fn informs_add_up(rt: HostRuntime) {
     let game = game(&rt, rt.alloc(), 11, &[1; 22]);

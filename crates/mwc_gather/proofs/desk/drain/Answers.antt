@@ -6,8 +6,7 @@ pub loop-word-preserved : goal.loop-word-preserved
 loop-word-preserved c =
     let i = c.loop-word.invariant in
     let done : List Word = i.0 in
-    let word : Word = c.in-Some.word in
-    (
+    let word : Word = c.in-Some.word in (
       done ++ word ∷ [],
       append_assoc done (word ∷ []) c.next.new.self ∙ ap (λ (w : List Word). done ++ w) (sym c.in-Some.ensures) ∙ i.1,
       hears_more i.2 c.hear.ensures.hears,

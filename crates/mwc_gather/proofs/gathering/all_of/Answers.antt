@@ -20,13 +20,15 @@ returns-clause-answers g c =
     let parts : List Part = c.args.parts.items in
     let sum = complete_sum complete in
     let all = all_total_is job.guarded job.bits job.bits_fit.0 job.bits_fit.1 in
-    let items = ap (sum_by (λ (p : Part). length p.got.items)) c.as_slice.ensures.value in
-    (record {
-      a_part_each = complete.a_part_each;
-      slices = c.slice_count.ensures;
-      ascend = end_increases parts complete.dealt;
-      pieces = all_pieces game parts complete.are_parts;
-      begins = complete.begins;
-      few = omega arith;
-      whole = rw c.slice_count.ensures (slices-joined (votes_of job.guarded) job.bits job.bits_fit.0 job.bits_fit.1);
-    }, λ e. cc)
+    let items = ap (sum_by (λ (p : Part). length p.got.items)) c.as_slice.ensures.value in (
+      record {
+        a_part_each = complete.a_part_each;
+        slices = c.slice_count.ensures;
+        ascend = end_increases parts complete.dealt;
+        pieces = all_pieces game parts complete.are_parts;
+        begins = complete.begins;
+        few = omega arith;
+        whole = rw c.slice_count.ensures (slices-joined (votes_of job.guarded) job.bits job.bits_fit.0 job.bits_fit.1);
+      },
+      λ e. cc,
+    )

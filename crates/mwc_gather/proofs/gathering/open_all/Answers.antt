@@ -1,5 +1,4 @@
-use Rattle.mwc_gather.proofs.Imports.{common_steps, List, subst, sym, arith, rules, All, All-push, IsFresh, Slicing, slices_of, Desk}
-use Rattle.mwc_gather.proofs.Imports.{views_of, IsOf, AllOf}
+use Rattle.mwc_gather.proofs.Imports.{List, subst, sym, rules, All, All-push, IsFresh, Slicing, slices_of, Desk, views_of, IsOf, AllOf}
 use Rattle.mwc_gather.proofs.Ends.{fresh_push}
 use Rattle.mwc_gather.proofs.gathering.open_all.Goals as goal
 

@@ -1,4 +1,4 @@
-use Rattle.mwc_gather.proofs.Imports.{ℕ, List, length, drop, subst, ap, sym, ◌∙◌, arith, Bool, is_some, Desk, slices_of, DealsTo}
+use Rattle.mwc_gather.proofs.Imports.{ℕ, List, length, drop, subst, ap, sym, arith, Bool, is_some, Desk, slices_of, DealsTo}
 use Rattle.std.proofs.Common.{take_at, pow_mono}
 use Rattle.mwc_gather.proofs.Wholes.{all_total_is}
 use Rattle.mwc_gather.proofs.gathering.run.Goals as goal

@@ -1,4 +1,4 @@
-use Rattle.mwc_gather.proofs.{FirstWords.first_more, Imports.common_steps, Imports.drop, Imports.arith}
+use Rattle.mwc_gather.proofs.{FirstWords.first_more, Imports.drop}
 use Rattle.mwc_gather.proofs.send.send.Goals as goal
 
 pub returns-then-came-clause-refused : goal.returns-then-came-clause-refused

@@ -1,4 +1,4 @@
-use Rattle.mwc_gather.proofs.Imports.{common_steps, ◌≡◌, ◌<◌, ℕ, length, subst, arith, slices_of, DealsFirst}
+use Rattle.mwc_gather.proofs.Imports.{◌≡◌, ◌<◌, ℕ, length, subst, arith, slices_of, DealsFirst}
 use Rattle.mwc_gather.proofs.Deals.{first_of_place, deal_starts}
 use Rattle.mwc_gather.proofs.dealing.Deal.deal_first.Goals as goal
 

@@ -1,4 +1,4 @@
-use Rattle.mwc_gather.proofs.Imports.{◌≡◌, true, All, subst, common_steps, ◌<◌, length, arith, slices_of, take_all}
+use Rattle.mwc_gather.proofs.Imports.{◌≡◌, true, All, subst, ◌<◌, length, arith, slices_of, take_all}
 use Rattle.std.proofs.lemmas.List.Elements.{All-nil}
 use Rattle.mwc_gather.proofs.Deals.{turn_of, ended_more}
 use Rattle.mwc_gather.proofs.dealing.Deal.read_all.Goals as goal
