@@ -1,12 +1,11 @@
 -- How many coalitions of a game are one of each of two games together, and the tallies of them.
 use Rattle.mwc_sums.proofs.Imports.{◌≡◌, ◌∙◌, ◌==◌, ◌&&◌, ℕ, ◌+◌, ◌-◌, ◌*◌, ◌^◌, ◌<◌, ◌≤◌, Bool, List, [], ◌∷◌, length, get_or, filter, sym}
+use Rattle.mwc_sums.proofs.Imports.{arith, nat_tests, sum_by, range_with_len, sum_by-range-more, has, minimal_coalitions, GameView, ap, leb}
+use Rattle.mwc_sums.proofs.Imports.{true, contains, met, sum_by-cons, sum-range, sum-filter, minimal, down, minimal_of_member_size, Tables}
 use Rattle.mwc_sums.proofs.Imports.{IsGame, votes_of, size_of, minimal-few, AreChambersOf, minimal_of_size, sum-plus, filter-both, refl}
-use Rattle.mwc_sums.proofs.Imports.{arith, nat_tests, sum_by, range_with_len, sum_by-range-more, has, minimal_coalitions, GameView, ap}
-use Rattle.mwc_sums.proofs.Imports.{leb, true, contains, met, sum_by-cons, sum-range, sum-filter, minimal, down}
-use Rattle.mwc_sums.specs.{Chambers.paired, Chambers.minimal_of_member_size, declared.counted_game.CountedGame.CountedGame}
-use Rattle.power_index.specs.Tables.{Tables, table_of_member_size, table_of_size}
+use Rattle.mwc_sums.specs.{Chambers.paired, declared.counted_game.CountedGame.CountedGame}
+use Rattle.power_index.specs.{Counting.count_of_size, Counting.count_of_member_size, Tables.table_of_member_size, Tables.table_of_size}
 use Rattle.coalitions.proofs.Shared.Ranges.{sum_by-range-le}
-use Rattle.power_index.specs.Counting.{count_of_size, count_of_member_size}
 use Rattle.power_index.proofs.Shared.{Members.size-le, Sums.length-filter-le, Sums.sum-by_size}
 use Rattle.mwc_sums.proofs.Seating.{one_if}
 use Rattle.mwc_sums.proofs.Joining.{Holds, IsJoint, apart, counted, joined, size-union, union}
