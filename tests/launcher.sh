@@ -22,6 +22,14 @@ else
     skipped "through links" "the program is not the one of this repository"
 fi
 
+# ---- in a folder whose path is not UTF-8
+odd=$(printf '%s/caf\351' "$temp")
+mkdir "$odd"
+cp "$program" "$odd/council"
+timeout "$seconds" "$odd/council" "$top/examples/board.toml" >"$temp/out" 2>"$temp/err" </dev/null
+status=$?
+printed "in a folder whose path is not UTF-8" "$top/examples/board.tsv"
+
 # ---- when it builds
 chmod 755 "$temp"
 copy=$temp/copy

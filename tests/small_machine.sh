@@ -1,5 +1,5 @@
 #!/usr/bin/env bash
-# On a small machine a run writes the same: 16 workers on one processor, and a stack of 256 KB.
+# On a small machine a run writes the same: 16 workers on one processor, and a stack of 192 KB.
 . "$(dirname "$0")/common.sh"
 
 equal_members 40 20 >"$temp/twenty.txt"
@@ -21,13 +21,13 @@ fi
 # ---- the stack that a run takes does not grow with its workers
 # on_small_stack NAME GAME WORD..: the program gives what it gives on the usual stack.
 on_small_stack() {
-    local name="a stack of 256 KB, $1" game=$2.toml
+    local name="a stack of 192 KB, $1" game=$2.toml
     shift 2
     case $game in /*) ;; *) game=$top/$game ;; esac
     "$program" "$@" "$game" >"$temp/wanted" 2>/dev/null </dev/null
-    if (ulimit -s 256) 2>/dev/null; then
+    if (ulimit -s 192) 2>/dev/null; then
         (
-            ulimit -s 256
+            ulimit -s 192
             exec timeout "$seconds" "$program" "$@" "$game"
         ) >"$temp/out" 2>"$temp/err" </dev/null
         status=$?
@@ -56,3 +56,31 @@ member=0
     done
 } >"$temp/beside.toml"
 on_small_stack "a tally in part by threads" "$temp/beside" --tally --workers 16
+
+# ---- random games of every kind, by runs and by tallies
+name="a stack of 192 KB, random games"
+if ! (ulimit -s 192) 2>/dev/null; then
+    skipped "$name" "the stack can't be limited"
+elif needs python3 "$name"; then
+    if PYTHONPATH=$top/tests PYTHONDONTWRITEBYTECODE=1 timeout "$((2 * seconds))" python3 - "$program" >"$temp/told" 2>&1 <<'END'
+import random
+import resource
+import subprocess
+import sys
+
+from random_games import file_of, random_game, random_rows, random_statute
+
+
+def limit():
+    resource.setrlimit(resource.RLIMIT_STACK, (192 * 1024, 192 * 1024))
+
+
+rng = random.Random(1)
+for number in range(120):
+    game = rng.choice([lambda: random_game(rng, 14), lambda: random_statute(rng, 16), lambda: random_rows(rng)])()
+    for words in (["--tally"], ["--tally", "--workers", "16"], ["--list", "--sizes", "--most", "4000000"]):
+        run = subprocess.run([sys.argv[1], *words], input=file_of(game), capture_output=True, preexec_fn=limit)
+        assert run.returncode == 0, f"game {number}, {words}: status {run.returncode} {run.stderr[:80]}"
+END
+    then ok "$name"; else failed "$name" "$(tail -n 1 "$temp/told")"; fi
+fi

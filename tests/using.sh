@@ -49,8 +49,9 @@ if needs Rscript "docs/using/table.R"; then
     fi
 fi
 
-# Each command of the documents prints what the document shows behind it: a line `$ ./council ..` and the
-# lines up to the next such line or the end of the block.
+# Each command of the documents prints what the document shows after it: a line `$ ./council ..` and the
+# lines up to the next such line or the end of the block. Commands without the `$` succeed, in a folder that
+# has only the program, docs/using and examples.
 command=
 : >"$temp/wanted"
 shows() {
@@ -61,8 +62,19 @@ shows() {
     printed "$document, command $number" "$temp/wanted"
     command=
 }
-mkdir "$temp/bin"
+runs() {
+    number=$((number + 1))
+    local name="$document, command $number"
+    if [ "${1%% *}" = Rscript ] && ! needs Rscript "$name"; then return; fi
+    (cd "$temp/folder" && bash -c "$1") >"$temp/out" 2>"$temp/err" </dev/null
+    status=$?
+    if succeeded "$name"; then ok "$name"; fi
+}
+mkdir -p "$temp/bin" "$temp/folder/docs"
 ln -s "$program" "$temp/bin/council"
+ln -s "$program" "$temp/folder/council"
+cp -r docs/using "$temp/folder/docs/using"
+cp -r examples "$temp/folder/examples"
 for document in README.md docs/USING.md docs/STATUTES.md; do
     number=0
     while IFS= read -r line; do
@@ -73,6 +85,13 @@ for document in README.md docs/USING.md docs/STATUTES.md; do
             : >"$temp/wanted"
             ;;
         '```'*) shows ;;
+        './council '* | 'python3 '* | 'Rscript '*)
+            if [ -n "$command" ]; then
+                printf '%s\n' "$line" >>"$temp/wanted"
+            elif [ "$document" != README.md ]; then
+                runs "$line"
+            fi
+            ;;
         *) [ -z "$command" ] || printf '%s\n' "$line" >>"$temp/wanted" ;;
         esac
     done <$document

@@ -51,7 +51,7 @@ LOG = f"{OUT}/build.log"
 # what a proof may take
 MEMORY = 3_000_000_000
 # how far a proof gives way to the first one: any other, and one that fills the time at the end
-NICE, NICE_LAST = 0, 5
+NICE, NICE_LAST = 10, 19
 # what only the program waits for fills the time at the end if it takes at most this many seconds
 FILLS = 100
 # what fills the time at the end may use this many lanes beside those that there are processors for

@@ -1,42 +1,45 @@
 #!/usr/bin/env python3
-"""Two games or more side by side, member by member: compare.py [OPTIONS] REPORT REPORT..
+"""Shows two games or more side by side, member by member:
 
-For each game its weights and both indices, and for each but the first what an index has more or less than in the
-first. A member that a game has not stands with a dash there. Members are matched by their names, to the letter; names
-that one game has and another has not, and that look like one, are told on standard error: --same makes them one.
+    compare.py [OPTIONS] REPORT REPORT..
+
+Each game has its weights and both indices, and each but the first also the differences to the
+first. A dash means that a game does not have the member. Members are matched by their exact
+names. You are warned of two names that look alike if only one game has each of them: --same makes
+them one.
 """
 import difflib
 import functools
 import unicodedata
 
-from command import Words, note, report_of, run, shown
-from game import in_shell, quoted
-from report import Fault, rounded
+from command import Words, make_printable, note, read_report, run
+from game import quote, quote_for_shell, write_grouped
+from report import Fault, round_half_up
 
 
-def signed(value):
-    """A difference with six decimals, rounded from the fractions."""
-    digits = rounded(abs(value), 6)
+def write_signed(value):
+    """Writes a difference with its sign and six decimals, rounded."""
+    digits = round_half_up(abs(value), 6)
     sign = "" if float(digits) == 0 else "-" if value < 0 else "+"
     return sign + digits
 
 
 @functools.cache
-def folded(name):
-    """A name without accents, capitals and signs, as words."""
+def fold(name):
+    """Returns the words of a name, without accents, capitals and signs."""
     letters = unicodedata.normalize("NFKD", name.casefold())
     return "".join(it if it.isalnum() else " " for it in letters if not unicodedata.combining(it)).split()
 
 
 @functools.cache
-def matcher_of(text):
-    """What compares other texts with this one; it keeps what it counts of this one."""
+def make_matcher(text):
+    """Returns a matcher that compares other texts with this one, and counts this one only once."""
     return difflib.SequenceMatcher(None, "", text)
 
 
 def is_near(one, other):
-    """Whether two names may be of one member: Czechia and Czech Republic, Germany and Germany (West)."""
-    one, other = folded(one), folded(other)
+    """Returns whether two names may be of one member, as Czechia and Czech Republic."""
+    one, other = fold(one), fold(other)
     short, long = sorted((" ".join(one), " ".join(other)), key=len)
     if not short or short == long:
         return short == long
@@ -45,14 +48,14 @@ def is_near(one, other):
     grows = 5 <= len(first) < len(grown) and grown.startswith(first)
     if begins or grows:
         return True
-    matcher = matcher_of(long)
+    matcher = make_matcher(long)
     matcher.set_seq1(short)
     # (the bounds take less time)
     return matcher.real_quick_ratio() >= 0.8 and matcher.quick_ratio() >= 0.8 and matcher.ratio() >= 0.8
 
 
 def warn(games):
-    """Tells of names that only one game has, and that are near to a name that only another has."""
+    """Warns of a name that only one game has if it is near to a name that only another has."""
     told = set()
     for at, one in enumerate(games, 1):
         for number, other in enumerate(games[at:], at + 1):
@@ -60,56 +63,56 @@ def warn(games):
                 for it in other:
                     if name not in other and it not in one and (name, it) not in told and is_near(name, it):
                         told.add((name, it))
-                        note(f"{quoted(name)} of report {at} and {quoted(it)} of report {number} may be one member: --same {in_shell(name)} {in_shell(it)} makes them one")
+                        note(f"{quote(name)} of report {at} and {quote(it)} of report {number} may be one member: --same {quote_for_shell(name)} {quote_for_shell(it)} makes them one")
 
 
-def members_of(report, same):
-    """The members by name; where two names are to be one, by the first of them."""
+def find_members(report, same):
+    """Returns the members by name. Two names that --same makes one are the first of them."""
     members = {}
     for it in report.members:
         name = next((first for first, other in same if it.name == other), it.name)
         if name in members:
-            raise Fault(f"--same {in_shell(name)} {in_shell(it.name)}: one report has both", 2)
+            raise Fault(f"--same {quote_for_shell(name)} {quote_for_shell(it.name)}: one report has both", 2)
         members[name] = it
     return members
 
 
-def cells(games, name):
-    """A row: the groups of cells of each game, and of each difference to the first."""
+def make_cells(games, name):
+    """Yields the cells of a row: a group for each game, and for each difference to the first."""
     first = games[0].get(name)
     for at, members in enumerate(games):
         it = members.get(name)
-        yield [it.weight, it.dp_decimals, it.pg_decimals] if it else ["-", "-", "-"]
+        yield [write_grouped(it.weights), it.dp_decimals, it.pg_decimals] if it else ["-", "-", "-"]
         if at:
             whole = it and first
-            yield [signed(it.deegan_packel - first.deegan_packel), signed(it.public_good - first.public_good)] if whole else ["-", "-"]
+            yield [write_signed(it.deegan_packel - first.deegan_packel), write_signed(it.public_good - first.public_good)] if whole else ["-", "-"]
 
 
-def width(text):
+def measure(text):
     return sum(0 if unicodedata.combining(it) else 2 if unicodedata.east_asian_width(it) in "WF" else 1 for it in text)
 
 
-def table(games):
-    """The lines of the table. A heading stands over each group."""
+def write_table(games):
+    """Yields the lines of the table, with a heading over each group."""
     names = list(dict.fromkeys(name for members in games for name in members))
     over = ["1"]
     for at in range(2, len(games) + 1):
         over += [str(at), f"{at} - 1"]
     groups = [["weight", "DP", "PG"] if "-" not in it else ["DP", "PG"] for it in over]
-    rows = [["", groups]] + [[shown(name), list(cells(games, name))] for name in names]
+    rows = [["", groups]] + [[make_printable(name), list(make_cells(games, name))] for name in names]
     # each group is as wide as its cells, whose columns are as wide as their longest text
-    widths = [[max(width(row[1][at][column]) for row in rows) for column in range(len(group))] for at, group in enumerate(groups)]
-    first = max(width(row[0]) for row in rows)
+    widths = [[max(measure(row[1][at][column]) for row in rows) for column in range(len(group))] for at, group in enumerate(groups)]
+    first = max(measure(row[0]) for row in rows)
 
-    def line(name, its):
-        parts = [name + " " * (first - width(name))]
+    def write_line(name, its):
+        parts = [name + " " * (first - measure(name))]
         for group, wide in zip(its, widths):
-            parts.append("  ".join(" " * (most - width(it)) + it for it, most in zip(group, wide)))
+            parts.append("  ".join(" " * (most - measure(it)) + it for it, most in zip(group, wide)))
         return "   ".join(parts).rstrip()
 
-    yield line("", [[""] * (len(group) - 1) + [it] for it, group in zip(over, groups)])
+    yield write_line("", [[""] * (len(group) - 1) + [it] for it, group in zip(over, groups)])
     for name, its in rows:
-        yield line(name, its)
+        yield write_line(name, its)
 
 
 def main(words):
@@ -119,15 +122,15 @@ def main(words):
     words = reader.parse_args(words)
     if len(words.reports) < 2 or words.reports.count("-") > 1:
         raise Fault("name two reports or more", 2)
-    reports = [report_of(it) for it in words.reports]
-    games = [members_of(it, words.same) for it in reports]
+    reports = [read_report(it) for it in words.reports]
+    games = [find_members(it, words.same) for it in reports]
     for first, other in words.same:
         if not any(it.name in (first, other) for report in reports for it in report.members):
-            raise Fault(f"--same {in_shell(first)} {in_shell(other)}: no report has one of them", 2)
+            raise Fault(f"--same {quote_for_shell(first)} {quote_for_shell(other)}: no report has one of them", 2)
     for at, it in enumerate(reports, 1):
-        print(f"{at}  {shown(it.heading())}: {it.quota} of {it.total}, minimal winning coalitions: {it.minimal}")
+        print(f"{at}  {make_printable(it.heading())}: {write_grouped(it.quotas)} of {write_grouped(it.totals)}, minimal winning coalitions: {it.minimal:,}")
     print()
-    for line in table(games):
+    for line in write_table(games):
         print(line)
     warn(games)
 

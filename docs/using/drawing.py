@@ -1,21 +1,30 @@
-"""What pictures share: text in SVG, how wide it can be, and colors that can be told apart."""
+"""What pages and pictures share: text in XML, how wide it can be, round numbers for axes, and
+colors."""
+import math
 import re
 import unicodedata
+from fractions import Fraction
 from xml.sax.saxutils import escape
+
+from game import quote
+from report import round_half_up
 
 # what XML has no place for, and what would turn the direction of a line
 REFUSED = re.compile("[^\t\n\r -\ud7ff\ue000-\ufffd\U00010000-\U0010ffff]|[\x7f-\x9f\u200e\u200f\u202a-\u202e\u2066-\u2069]|[\ufdd0-\ufdef]")
 COLORS = ["#33557f", "#c06a2b", "#3c8a4e", "#a03a5b", "#6b5ca5", "#8a7a1f", "#2a8a9a", "#7a4a2a", "#d0589a", "#5a5a5a"]
 DASHES = ["", "7 3", "2 3", "9 3 2 3"]
+# the share under each rule, and both indices: on white, and on the dark ground of a page
+SHARES = [("#858585", "#92979e"), ("#3f8f5b", "#62b37e"), ("#8a66b5", "#b094dc"), ("#9a8219", "#d0b84a")]
+INDICES = [("Deegan-Packel index", "#33557f", "#6f9fe0"), ("public good index", "#c06a2b", "#ee9a57")]
 
 
-def xml(text):
-    """A text as a page or a picture may hold it."""
+def escape_xml(text):
+    """Writes a text as a page or a picture may hold it."""
     return escape(REFUSED.sub("\ufffd", text), {'"': "&quot;"})
 
 
-def width(text, size):
-    """How wide a text is at most, in a usual font without serifs of this size."""
+def measure(text, size):
+    """Returns how wide a text is at most, in a usual font without serifs of this size."""
     wide = 0.0
     for it in text:
         if unicodedata.east_asian_width(it) in "WF" or it in "mwMW@%—…" or ord(it) > 0xFFFF:
@@ -29,11 +38,12 @@ def width(text, size):
     return wide * size
 
 
-def wrapped(words, most, size, between=" "):
-    """Words in lines of at most this width; a word that is wider stands in a line of its own, and is not cut."""
+def wrap(words, most, size, between=" "):
+    """Puts words into lines of at most this width. A wider word has a line of its own, and is not
+    cut."""
     lines = []
     for it in words:
-        if lines and width(lines[-1] + between + it, size) <= most:
+        if lines and measure(lines[-1] + between + it, size) <= most:
             lines[-1] += between + it
         else:
             if lines:
@@ -42,15 +52,50 @@ def wrapped(words, most, size, between=" "):
     return lines
 
 
-def text(x, y, it, size=12, anchor="start", more=""):
-    return f'<text x="{x:.2f}" y="{y:.2f}" font-size="{size}" text-anchor="{anchor}" xml:space="preserve"{more}>{xml(it)}</text>'
+def write_text(x, y, it, size=12, anchor="start", more=""):
+    return f'<text x="{x:.2f}" y="{y:.2f}" font-size="{size}" text-anchor="{anchor}" xml:space="preserve"{more}>{escape_xml(it)}</text>'
 
 
-def picture(wide, high, lines, title):
-    """An SVG file of this size."""
+def write_picture(wide, high, lines, title):
+    """Yields the lines of an SVG file of this size."""
     yield (f'<svg xmlns="http://www.w3.org/2000/svg" width="{wide:.0f}" height="{high:.0f}" viewBox="0 0 {wide:.0f} {high:.0f}" '
            'font-family="Helvetica, Arial, sans-serif" role="img">')
-    yield f"<title>{xml(title)}</title>"
+    yield f"<title>{escape_xml(title)}</title>"
     yield f'<rect width="{wide:.0f}" height="{high:.0f}" fill="white"/>'
     yield from lines
     yield "</svg>"
+
+
+def find_round_step(span, most):
+    """Returns the least of 1, 2, 5, 10, .. and 0.5, 0.2, 0.1, .. of which `most` make the span or
+    more."""
+    power = Fraction(10) ** (math.floor(math.log10(span / most)) - 1)
+    return next(it for it in (power * factor * ten for ten in (1, 10, 100) for factor in (1, 2, 5)) if it * most >= span)
+
+
+def find_ticks(first, last, most, whole=False):
+    """Returns the round numbers from `first` to `last`, at most one more than `most`."""
+    if last == first:
+        return [Fraction(first)]
+    step = find_round_step(last - first, most)
+    step = max(step, 1) if whole else step
+    return [step * it for it in range(math.ceil(first / step), math.floor(last / step) + 1)]
+
+
+def write_percent(part, whole):
+    """Writes a share as a percentage with up to two decimals, rounded."""
+    digits = round_half_up(Fraction(part, whole) * 100, 2)
+    return digits.rstrip("0").rstrip(".") + "%"
+
+
+def name_share(report, units, rule):
+    """Names the share under a rule, with the name of the rule if its game file has one."""
+    which = f", rule {rule + 1}" if len(units) > 1 else ""
+    return f"share of {quote(units[rule].name) if units[rule].name else 'the votes'}{which}"
+
+
+def write_quota(report, units, rule):
+    """Writes the quota of a rule in its unit and in percent: 12 of 17 (70.59%)."""
+    unit, quota, total = units[rule], report.quotas[rule], report.totals[rule]
+    more = "" if unit.is_share_of(total) else f" ({write_percent(quota, total)})"
+    return f"{unit.write(quota)} of {unit.write(total)}{more}"

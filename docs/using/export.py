@@ -1,17 +1,18 @@
 #!/usr/bin/env python3
-"""A report of council as CSV, JSON, LaTeX or Markdown:
+"""Writes a report of council as CSV, JSON, LaTeX or Markdown:
 
     export.py csv|json|latex|markdown [OPTIONS] <REPORT
 
-csv       A line for each member, with a heading. Names and fractions stand in quotes; a name that a spreadsheet
-          would take for a formula has an apostrophe in front.
-json      The whole report: numbers as numbers, fractions as two integers, and the coalitions where they are listed.
-latex     A table for the package booktabs. Letters that pdflatex has not stand by their numbers.
-markdown  A table, in which no letter of a name has a meaning of its own.
+    csv       A line for each member, with a heading. Names and fractions are in quotes; a name that
+              a spreadsheet would take for a formula has an apostrophe in front.
+    json      The whole report: numbers as numbers, fractions as two integers, and the coalitions if
+              they are listed.
+    latex     A table for the package booktabs. Letters that pdflatex does not have are numbers.
+    markdown  A table, in which no letter of a name has a meaning of its own.
 
-The columns of a table are name, weight, share (of the votes), coalitions, dp and pg (the Deegan-Packel index and
-the public good index as decimals), deegan_packel and public_good (the same as fractions). With several rules there
-is a weight and a share for each.
+The columns of a table are name, weight, share (of the votes), coalitions, dp and pg (the
+Deegan-Packel index and the public good index as decimals), deegan_packel and public_good (the
+same as fractions). With several rules there is a weight and a share for each.
 """
 import itertools
 import json
@@ -22,8 +23,8 @@ import tempfile
 import unicodedata
 
 from command import Words, run
-from game import quoted
-from report import Fault, Report, ignore, rounded
+from game import quote
+from report import Fault, Report, ignore, round_half_up
 
 FORMATS = ["csv", "json", "latex", "markdown"]
 HEADINGS = {
@@ -36,7 +37,7 @@ TEXTS = ["name", "deegan_packel", "public_good"]
 
 
 class Column:
-    """A column: what it has, and of which rule where there are several."""
+    """A column: its content, and its rule if there are several."""
 
     def __init__(self, kind, rule=None):
         self.kind, self.rule = kind, rule
@@ -44,24 +45,31 @@ class Column:
     def heading(self):
         return self.kind if self.rule is None else f"{self.kind}_{self.rule + 1}"
 
-    def words(self):
+    def title(self):
         return HEADINGS[self.kind] + ("" if self.rule is None else f", rule {self.rule + 1}")
 
-    def text(self, report, member, places):
-        """The cell of a member; decimals are rounded where a number of places is given, or as the report has them."""
+    def write_for_people(self, report, member, places):
+        """Returns the cell of a member as people read it: whole numbers have commas between
+        thousands."""
+        text = self.write(report, member, places)
+        return f"{int(text):,}" if self.kind in ("weight", "coalitions") else text
+
+    def write(self, report, member, places):
+        """Returns the cell of a member. Without a number of places, decimals are as the report has
+        them; else rounded."""
         kind, rule = self.kind, self.rule or 0
         if kind == "weight":
             return str(member.weights[rule])
         if kind == "share":
-            return rounded(report.share(member, rule), 6 if places is None else places)
+            return round_half_up(report.share(member, rule), 6 if places is None else places)
         if kind == "dp":
-            return member.dp_decimals if places is None else rounded(member.deegan_packel, places)
+            return member.dp_decimals if places is None else round_half_up(member.deegan_packel, places)
         if kind == "pg":
-            return member.pg_decimals if places is None else rounded(member.public_good, places)
+            return member.pg_decimals if places is None else round_half_up(member.public_good, places)
         return {"name": member.name, "coalitions": str(member.coalitions), "deegan_packel": member.dp_fraction, "public_good": member.pg_fraction}[kind]
 
 
-def columns_of(report, kinds):
+def choose_columns(report, kinds):
     several = len(report.quotas) > 1
     for kind in kinds:
         if several and kind in ("weight", "share"):
@@ -70,20 +78,20 @@ def columns_of(report, kinds):
             yield Column(kind)
 
 
-def csv(report, columns, places):
+def write_csv(report, columns, places):
     yield ",".join(it.heading() for it in columns)
     for member in report.members:
         cells = []
         for it in columns:
-            text = it.text(report, member, places)
+            text = it.write(report, member, places)
             if it.kind == "name" and text.lstrip()[:1] in tuple("=+-@\t\r＝＋－＠"):
                 text = "'" + text
             cells.append('"' + text.replace('"', '""') + '"' if it.kind in TEXTS else text)
         yield ",".join(cells)
 
 
-def in_latex(text):
-    """A text as LaTeX prints it, letter by letter."""
+def escape_latex(text):
+    """Writes a text so that LaTeX prints it letter by letter."""
     names = {"\\": "textbackslash", "~": "textasciitilde", "^": "textasciicircum", "<": "textless", ">": "textgreater", "|": "textbar"}
     text = unicodedata.normalize("NFC", text)
     letters = []
@@ -105,7 +113,7 @@ def in_latex(text):
     return "".join(letters)
 
 
-def latex(report, columns, places):
+def write_latex(report, columns, places):
     if report.title:
         yield f"% {report.title}"
     yield "% \\usepackage{booktabs}, and \\usepackage[T1]{fontenc} for letters with accents"
@@ -116,37 +124,38 @@ def latex(report, columns, places):
             yield f"\\ifcsname {name}\\else\\expandafter\\def\\csname {name}{{[U+{ord(it):04X}]}}\\fi"
     yield "\\begin{tabular}{" + "".join("l" if it.kind == "name" else "r" for it in columns) + "}"
     yield "\\toprule"
-    yield " & ".join(it.words() for it in columns) + " \\\\"
+    yield " & ".join(it.title() for it in columns) + " \\\\"
     yield "\\midrule"
     for member in report.members:
         cells = []
         for it in columns:
-            text = it.text(report, member, places)
-            cells.append(in_latex(text) if it.kind == "name" else f"${text}$" if it.kind in TEXTS else text)
+            text = it.write_for_people(report, member, places)
+            cells.append(escape_latex(text) if it.kind == "name" else f"${text}$" if it.kind in TEXTS else text)
         yield " & ".join(cells) + " \\\\"
     yield "\\bottomrule"
     yield "\\end{tabular}"
 
 
-def markdown(report, columns, places):
-    def row(cells):
+def write_markdown(report, columns, places):
+    def write_row(cells):
         return "| " + " | ".join(cells) + " |"
 
-    yield row([it.words() for it in columns])
-    yield row([":--" if it.kind == "name" else "--:" for it in columns])
+    yield write_row([it.title() for it in columns])
+    yield write_row([":--" if it.kind == "name" else "--:" for it in columns])
     for member in report.members:
-        yield row([re.sub(r"([!-/:-@\[-`{-~])", r"\\\1", it.text(report, member, places)) if it.kind == "name" else it.text(report, member, places) for it in columns])
+        cells = [(it.kind, it.write_for_people(report, member, places)) for it in columns]
+        yield write_row([re.sub(r"([!-/:-@\[-`{-~])", r"\\\1", text) if kind == "name" else text for kind, text in cells])
 
 
-def pair(value):
+def make_pair(value):
     return [value.numerator, value.denominator]
 
 
-def whole(report, places):
-    """The whole report but for its coalitions, as one value."""
+def describe(report, places):
+    """Returns the whole report, except its coalitions, as one value."""
 
-    def index(value, decimals):
-        return {"fraction": pair(value), "decimals": float(decimals if places is None else rounded(value, places))}
+    def describe_index(value, decimals):
+        return {"fraction": make_pair(value), "decimals": float(decimals if places is None else round_half_up(value, places))}
 
     return {
         "title": report.title or None,
@@ -158,8 +167,8 @@ def whole(report, places):
                 "name": it.name,
                 "weights": it.weights,
                 "coalitions": it.coalitions,
-                "deegan_packel": index(it.deegan_packel, it.dp_decimals),
-                "public_good": index(it.public_good, it.pg_decimals),
+                "deegan_packel": describe_index(it.deegan_packel, it.dp_decimals),
+                "public_good": describe_index(it.public_good, it.pg_decimals),
             }
             for it in report.members
         ],
@@ -180,7 +189,7 @@ def write_json(lines, places):
             coalitions.write(next(between) + text({"members": it.names, "weights": it.weights}).replace("\n", "\n  "))
 
         report = Report(lines, take)
-        head = text(whole(report, places))
+        head = text(describe(report, places))
         if report.listed:
             sys.stdout.write(head[: -len("\n}")] + ',\n "coalitions": [')
             coalitions.seek(0)
@@ -198,22 +207,22 @@ def main(words):
     reader.add_argument("--mark", action="store_true", help="a byte order mark in front of csv, by which Excel knows UTF-8")
     words = reader.parse_args(words)
     if words.format not in FORMATS:
-        said = f"{quoted(words.format)} is no format" if words.format else "say a format"
+        said = f"{quote(words.format)} is no format" if words.format else "say a format"
         raise Fault(f"{said}: csv, json, latex or markdown", 2)
     kinds = words.columns.split(",") if words.columns is not None else IN_CSV if words.format == "csv" else IN_PRINT
     for it in kinds:
         if it not in HEADINGS:
-            raise Fault(f"{quoted(it)} is no column: {', '.join(HEADINGS)}", 2)
+            raise Fault(f"{quote(it)} is no column: {', '.join(HEADINGS)}", 2)
     if words.format == "json":
         write_json(sys.stdin, words.decimals)
         return
     report = Report(sys.stdin, ignore)
-    columns = list(columns_of(report, kinds))
+    columns = list(choose_columns(report, kinds))
     if words.format == "csv":
-        lines = csv(report, columns, words.decimals)
+        lines = write_csv(report, columns, words.decimals)
         sys.stdout.write("\ufeff" if words.mark else "")
     else:
-        lines = {"latex": latex, "markdown": markdown}[words.format](report, columns, words.decimals or 4)
+        lines = {"latex": write_latex, "markdown": write_markdown}[words.format](report, columns, words.decimals or 4)
     for it in lines:
         print(it)
 

@@ -1,16 +1,20 @@
-"""Writes a game file of council."""
+"""Writes a game file of council, and reads the comments of one."""
+import re
+
 from report import Fault
 
-MEMBERS, RULES, WEIGHT, NAME, TITLE = 40, 4, 10**12, 64, 200
+MEMBERS, RULES, WEIGHT, NAME, TITLE, GAME_FILE = 40, 4, 10**12, 64, 200, 65536
 
 
 def is_text(text, most):
-    """Whether a game file may have this text as a name or a title, which has at most `most` bytes."""
+    """Returns whether a game file may have this text as a name or a title of at most `most`
+    bytes."""
     return len(text.encode("utf-8")) <= most and all(it >= " " and it != "\x7f" for it in text)
 
 
-def quoted(text):
-    """A text in quotes, as TOML reads it. What ends a line, or moves a terminal, stands there by its number."""
+def quote(text):
+    """Puts a text in quotes, as TOML reads it. Letters that end a line or move a terminal are
+    written by number."""
     letters = []
     for it in text:
         if it in '"\\':
@@ -22,8 +26,8 @@ def quoted(text):
     return '"' + "".join(letters) + '"'
 
 
-def in_shell(text):
-    """A text as one word for bash or zsh, which do nothing else with it than take it."""
+def quote_for_shell(text):
+    """Writes a text as one word for bash or zsh."""
     if text.isprintable():
         return "'" + text.replace("'", "'\\''") + "'"
     parts = []
@@ -33,19 +37,108 @@ def in_shell(text):
     return "$'" + "".join(parts) + "'"
 
 
-def game_file(names, quotas, weights, title="", comments=()):
-    """A game file: the names, a quota for each rule, and for each member a weight under each rule. The comments
-    stand in front, one a line."""
+def write_game(names, quotas, weights, title="", comments=()):
+    """Returns a game file: the comments, one a line, the quota of each rule, and for each member
+    its name and its weight under each rule."""
     if not 1 <= len(names) <= MEMBERS:
         raise Fault(f"there are {len(names)} members, and a game has 1 to {MEMBERS}")
     if not is_text(title, TITLE):
         raise Fault(f"the title has more than {TITLE} bytes, or a letter that is none to read")
     parts = ["".join(f"# {it}\n" for it in comments)]
     if title:
-        parts.append(f"title = {quoted(title)}\n")
+        parts.append(f"title = {quote(title)}\n")
     one = len(quotas) == 1
     parts.append(f"quota = {quotas[0]}\n" if one else f"quotas = {list(quotas)}\n")
     for name, its in zip(names, weights):
-        parts.append(f"\n[[member]]\nname = {quoted(name)}\n")
+        parts.append(f"\n[[member]]\nname = {quote(name)}\n")
         parts.append(f"weight = {its[0]}\n" if one else f"weights = {list(its)}\n")
     return "".join(parts)
+
+
+# a comment that names a rule and its unit: # Rule 1: "Share", percent, 2 decimals; column 2, ..
+RULE = re.compile(r'# Rule ([1-4]): (?:"((?:[^"\\]|\\.)*)"(?:, |(?=;|$)))?(?:(percent)(?:, |(?=;|$)))?(?:(\d{1,2}) decimals?)?(?:;.*)?')
+
+
+class Unit:
+    """What the weights of a rule are: their name, whether they are percentages, and how many of
+    their last digits are decimals."""
+
+    def __init__(self, name="", percent=False, places=0):
+        self.name, self.percent, self.places = name, percent, places
+
+    def write(self, weight):
+        """Writes a weight as a person reads it: 1650 is 16.50%, and 1234567 is 1,234,567."""
+        digits = str(weight).rjust(self.places + 1, "0")
+        whole, decimals = (digits[: -self.places], "." + digits[-self.places :]) if self.places else (digits, "")
+        return f"{int(whole):,}{decimals}" + ("%" if self.percent else "")
+
+    def is_share_of(self, total):
+        """Returns whether the weights are percentages that add up to 100."""
+        return self.percent and total == 100 * 10**self.places
+
+
+def write_rule_comment(number, name, percent, places, more):
+    """Returns the comment that says what the weights of a rule are, and how they were found."""
+    parts = [quote(name)] if name else []
+    parts += ["percent"] if percent else []
+    parts += [f"{places} decimal{'' if places == 1 else 's'}"] if places else []
+    return f"Rule {number}: " + "; ".join([*([", ".join(parts)] if parts else []), more])
+
+
+def unquote(text):
+    """Reads a text that `quote` has written, without the quotes round it."""
+    return re.sub(r"\\(?:u([0-9A-Fa-f]{4})|U([0-9A-Fa-f]{8})|(.))", decode_letter, text)
+
+
+def decode_letter(match):
+    if match[3]:
+        return match[3]
+    number = int(match[1] or match[2], 16)
+    return chr(number) if number <= 0x10FFFF and not 0xD800 <= number <= 0xDFFF else "\ufffd"
+
+
+def read_units(comments, rules):
+    """Returns the unit of each rule, as the comments of its game file tell it."""
+    units = [Unit() for _ in range(rules)]
+    for it in comments:
+        match = RULE.fullmatch("# " + it)
+        if match and int(match[1]) <= rules:
+            units[int(match[1]) - 1] = Unit(unquote(match[2] or ""), bool(match[3]), min(int(match[4] or 0), 18))
+    return units
+
+
+def write_grouped(numbers):
+    """Writes a number for each rule, with commas between thousands and / between the rules."""
+    return "/".join(f"{it:,}" for it in numbers)
+
+
+def find_comments(text):
+    """Returns the comments at the beginning of a game file, each without its sign."""
+    comments = []
+    for line in text.split("\n"):
+        line = line.strip()
+        if line and not line.startswith("#"):
+            break
+        if line:
+            comments.append(line[1:].strip())
+    return comments
+
+
+def check_same(text, report):
+    """Refuses a file that is not the game of a report. A bracket text, and Python before 3.11, tell
+    nothing."""
+    try:
+        import tomllib
+    except ImportError:
+        return
+    if re.match(r"\s*\[\s*\d", text):
+        return
+    try:
+        game = tomllib.loads(text)
+        names = [it["name"] for it in game["member"]]
+        quotas = game["quotas"] if "quotas" in game else [game["quota"]]
+        weights = [it["weights"] if "weights" in it else [it["weight"]] for it in game["member"]]
+    except (ValueError, KeyError, TypeError):
+        raise Fault("this is no game file") from None
+    if (names, quotas, weights) != ([it.name for it in report.members], report.quotas, [it.weights for it in report.members]):
+        raise Fault("this is not the game of the report")

@@ -1,79 +1,132 @@
 #!/usr/bin/env python3
-"""Both indices of a game for each quota of a range, in one long table:
+"""Computes both indices of a game for each quota of a range, in one long table:
 
     sweep.py [OPTIONS] GAME >TABLE
 
-GAME is a game file, or - for standard input. The table has a line for each quota and member: the quota, the member,
-and the two indices as fractions and as decimals, with a TAB between them. Without --from and --to it goes from 1 to
-the total of the rule. --picture draws a line for each member; members whose lines are the same share one.
+GAME is a game file, or - for standard input. The table has a line for each quota and member: the
+quota, the member, and the two indices as fractions and as decimals, separated by TABs. Without
+--from and --to it goes from 1 to the total of the rule. --picture draws a line for each member;
+members whose lines are the same share one.
 """
+import math
 import sys
 
-from command import Words, computed, program_at_hand, ready, run, shown
-from drawing import COLORS, DASHES, picture, text, width, wrapped
-from game import game_file
-from report import Fault
+from cells import count_decimals
+from command import Words, compute, find_program, make_printable, note, prepare, run
+from drawing import COLORS, DASHES, find_round_step, find_ticks, measure, wrap, write_picture, write_text
+from game import find_comments, quote, read_units, write_game
+from report import Fault, round_half_up
 
 MOST = 20000
+LEFT, WIDE, SMALL = 60, 560, 10
 KINDS = {"dp": ("Deegan-Packel index", lambda it: it.deegan_packel), "pg": ("public good index", lambda it: it.public_good)}
 
 
 def sweep(program, start, rule, quotas):
-    """The report of the game for each of these quotas of a rule. The first and the last quota are tried before the
-    others, so that one out of range is told at once."""
+    """Returns the report of the game for each of these quotas of a rule. It tries the first and the
+    last quota before the others, so you hear at once of one that is out of range."""
     names = [it.name for it in start.members]
     weights = [it.weights for it in start.members]
     reports = {}
     for quota in dict.fromkeys([quotas[0], quotas[-1], *quotas]):
         its = [*start.quotas[:rule], quota, *start.quotas[rule + 1 :]]
         try:
-            reports[quota] = computed(program, game_file(names, its, weights).encode("utf-8"), "--tally")
+            reports[quota] = compute(program, write_game(names, its, weights).encode("utf-8"), "--tally")
         except Fault as it:
             raise Fault(f"quota {quota}: {it}", it.status) from None
     return [(quota, reports[quota]) for quota in quotas]
 
 
-def drawn(start, rule, reports, kind):
-    """The picture: the quota from left to right, the index upwards."""
+def warn_of_half(start, rule, quotas):
+    """Warns of quotas of the sweep with which two coalitions without a common member could both
+    win."""
+    low = [it for it in quotas if 2 * it <= start.totals[rule]]
+    others = [2 * quota <= total for quota, total in zip(start.quotas, start.totals)]
+    if low and all(others[:rule] + others[rule + 1 :]):
+        of = f" of rule {rule + 1}" if len(others) > 1 else ""
+        note(f"quotas up to {low[-1]:,}{of} are at most half of the total, {start.totals[rule]:,}: two coalitions without a common member could both win")
+
+
+def spread(wanted, heights, first, last):
+    """Returns a place for each label from `first` to `last`, near the wanted ones, and none over
+    another."""
+    order = sorted(range(len(wanted)), key=lambda it: wanted[it])
+    found = {}
+    for at in order:
+        found[at] = max(wanted[at], first)
+        first = found[at] + heights[at]
+    for at in reversed(order):
+        last -= heights[at]
+        found[at] = last = min(found[at], last)
+    return [found[at] for at in range(len(wanted))]
+
+
+class Axes:
+    """The axes of a sweep: the quota from left to right, the index upwards, each with round
+    numbers."""
+
+    def __init__(self, first, last, top, unit, high):
+        self.first, self.last, self.high, self.up, self.unit = first, last, high, 0, unit
+        self.step = find_round_step(top, 5)
+        self.top = self.step * math.ceil(top / self.step)
+        most = max(1, min(6, int(WIDE / (measure(unit.write(last), SMALL) + 14))))
+        self.quotas = [int(it) for it in find_ticks(first, last, most, whole=True)] or [first]
+
+    def find_x(self, quota):
+        return LEFT + (WIDE * (quota - self.first) / (self.last - self.first) if self.last > self.first else WIDE / 2)
+
+    def find_y(self, index):
+        return self.up + self.high - self.high * float(index / self.top)
+
+    def find_point(self, quota, index):
+        return f"{self.find_x(quota):.2f},{self.find_y(index):.2f}"
+
+    def draw(self):
+        places = count_decimals(self.step)
+        for at in range(int(self.top / self.step) + 1):
+            y = self.find_y(self.step * at)
+            yield f'<path d="M{LEFT} {y:.2f}h{WIDE}" stroke="#dddddd"/>'
+            yield write_text(LEFT - 6, y + 4, round_half_up(self.step * at, places), SMALL, "end", ' class="index"')
+        for it in self.quotas:
+            x = self.find_x(it)
+            yield f'<path d="M{x:.2f} {self.up + self.high:.2f}v5" stroke="#777777"/>'
+            yield write_text(x, self.up + self.high + 17, self.unit.write(it), SMALL, "middle", ' class="quota"')
+
+
+def draw(start, rule, reports, kind, unit):
+    """Draws the picture: a line for each index over the quotas, with the names of its members at
+    its end."""
     title, value = KINDS[kind]
     lines = {}
     for at, it in enumerate(start.members):
         lines.setdefault(tuple(value(report.members[at]) for _, report in reports), []).append(it.name)
-    top = max(map(max, lines))
-    left, wide, high = 60, 560, 360
-    first, last = reports[0][0], reports[-1][0]
-    head = wrapped(start.heading().split(), left + wide + 200, 14)
-    up = 30 + 18 * len(head)
+    labels = [wrap(names, 260, 12, ", ") for names in lines.values()]
+    heights = [15 * len(it) + 3 for it in labels]
+    axes = Axes(reports[0][0], reports[-1][0], max(map(max, lines)), unit, max(360, sum(heights)))
+    head = wrap(start.heading().split(), LEFT + WIDE + 200, 14)
+    of = f" of rule {rule + 1}" if len(start.quotas) > 1 else ""
+    of += f", {quote(unit.name)}" if unit.name else ""
+    what = f"{title}, by the quota{of} (total {unit.write(start.totals[rule])})"
+    parts = [write_text(8, 22 + 18 * at, it, 14, more=' font-weight="bold"') for at, it in enumerate(head)]
+    parts.append(write_text(8, 24 + 18 * len(head), what))
+    axes.up = 46 + 18 * len(head)
+    parts += axes.draw()
 
-    def place(quota, it):
-        across = wide * (quota - first) / (last - first) if last > first else wide / 2
-        return f"{left + across:.2f},{up + high - high * float(it / top):.2f}"
-
-    parts = [text(8, 22 + 18 * at, it, 14, more=' font-weight="bold"') for at, it in enumerate(head)]
-    parts.append(text(8, up - 6, f"{title}, by the quota of rule {rule + 1} (total {start.totals[rule]})"))
-    up += 16
-    for step in range(5):
-        y = up + high - high * step / 4
-        parts.append(f'<path d="M{left} {y:.2f}h{wide}" stroke="#dddddd"/>')
-        parts.append(text(left - 6, y + 4, f"{float(top * step / 4):.4f}", 10, "end"))
-    for step in range(5 if last - first >= 4 else last - first + 1):
-        quota = first + (last - first) * step // (4 if last - first >= 4 else max(last - first, 1))
-        x = float(place(quota, 0).split(",")[0])
-        parts.append(text(x, up + high + 16, str(quota), 10, "middle"))
-    y, right = up + 10, left + wide + 60
-    for at, (values, names) in enumerate(lines.items()):
+    quotas, right = [quota for quota, _ in reports], LEFT + WIDE + 60
+    ends = [axes.find_y(values[-1]) for values in lines]
+    for at, (values, label, end, y) in enumerate(zip(lines, labels, ends, spread(ends, heights, axes.up, axes.up + axes.high))):
         style = f'stroke="{COLORS[at % len(COLORS)]}" stroke-width="2" stroke-dasharray="{DASHES[at // len(COLORS) % len(DASHES)]}"'
-        points = " ".join(place(quota, it) for (quota, _), it in zip(reports, values))
-        if len(values) == 1:
-            parts.append(f'<circle cx="{points.split(",")[0]}" cy="{points.split(",")[1]}" r="4" fill="{COLORS[at % len(COLORS)]}"/>')
-        parts.append(f'<polyline points="{points}" fill="none" {style}/>')
-        parts.append(f'<path d="M{left + wide + 20} {y - 4}h30" {style}/>')
-        for it in wrapped(names, 260, 12, ", "):
-            parts.append(text(left + wide + 58, y, it))
-            right = max(right, left + wide + 58 + width(it, 12))
-            y += 15
-        y += 4
-    return picture(max(right, *(width(it, 14) for it in head)) + 16, max(up + high + 30, y + 10), parts, start.heading())
+        points = [axes.find_point(quota, it) for quota, it in zip(quotas, values)]
+        x = axes.find_x(quotas[-1])
+        if len(points) == 1:
+            parts.append(f'<circle cx="{x:.2f}" cy="{end:.2f}" r="4" fill="{COLORS[at % len(COLORS)]}"/>')
+        parts.append(f'<polyline points="{" ".join(points)}" fill="none" {style}/>')
+        parts.append(f'<path class="leader" d="M{x:.2f} {end:.2f}L{LEFT + WIDE + 40} {y:.2f}h12" fill="none" {style}/>')
+        for row, it in enumerate(label):
+            parts.append(write_text(LEFT + WIDE + 56, y + 4 + 15 * row, it, more=' class="member"'))
+            right = max(right, LEFT + WIDE + 56 + measure(it, 12))
+    wide = max(right, 8 + measure(what, 12), *(measure(it, 14) for it in head))
+    return write_picture(wide + 16, axes.up + axes.high + 30, parts, start.heading())
 
 
 def main(words):
@@ -92,8 +145,8 @@ def main(words):
     else:
         with open(words.game, "rb") as it:
             game = it.read()
-    program = ready(program_at_hand(words.program))
-    start = computed(program, game, "--tally")
+    program = prepare(find_program(words.program))
+    start = compute(program, game, "--tally")
     if not 1 <= words.rule <= len(start.quotas):
         raise Fault(f"there is no rule {words.rule}: the game has {len(start.quotas)}", 2)
     first = 1 if words.first is None else words.first
@@ -106,15 +159,17 @@ def main(words):
     if number > MOST:
         raise Fault(f"from {first} to {last} there are {number} quotas, and {MOST} are the most: --from, --to and --step choose some", 2)
     reports = sweep(program, start, words.rule - 1, quotas)
+    warn_of_half(start, words.rule - 1, quotas)
     if words.picture:
         with open(words.picture, "w", encoding="utf-8", newline="\n") as it:
-            it.writelines(line + "\n" for line in drawn(start, words.rule - 1, reports, words.index))
+            unit = read_units(find_comments(game.decode("utf-8-sig")), len(start.quotas))[words.rule - 1]
+            it.writelines(line + "\n" for line in draw(start, words.rule - 1, reports, words.index, unit))
     print("quota", "member", "deegan_packel", "dp", "public_good", "pg", sep="\t")
     # a file gets each name as it is, and a terminal none that moves it
-    name_of = shown if sys.stdout.isatty() else str
+    write_name = make_printable if sys.stdout.isatty() else str
     for quota, report in reports:
         for it in report.members:
-            print(quota, name_of(it.name), it.dp_fraction, it.dp_decimals, it.pg_fraction, it.pg_decimals, sep="\t")
+            print(quota, write_name(it.name), it.dp_fraction, it.dp_decimals, it.pg_fraction, it.pg_decimals, sep="\t")
 
 
 if __name__ == "__main__":

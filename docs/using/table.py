@@ -1,15 +1,15 @@
 #!/usr/bin/env python3
-"""A table of both indices from a report of council: table.py <REPORT"""
+"""Prints a table of both indices from a report of council: table.py <REPORT"""
 import sys
 
-from command import run, shown
+from command import make_printable, run
 from report import Report, ignore
 
 
 def main(_):
     members = Report(sys.stdin, ignore).members
     heading = ["", "weight", "Deegan-Packel", "public good"]
-    rows = [[shown(it.name), it.weight, it.dp_fraction, it.pg_fraction] for it in members]
+    rows = [[make_printable(it.name), it.weight, it.dp_fraction, it.pg_fraction] for it in members]
     # Each column is as wide as its longest text: fractions may be long.
     widths = [max(map(len, column)) for column in zip(heading, *rows)]
     for row in [heading, *rows]:

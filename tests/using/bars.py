@@ -15,7 +15,7 @@ TOOL = "bars.py"
 
 
 def drawn(data):
-    """The picture of a report: its root and its texts."""
+    """Returns the root and the texts of the picture of a report."""
     run = Run(TOOL, input=data)
     root = ElementTree.fromstring(run.out)
     return root, root.findall("{*}text")
@@ -32,8 +32,21 @@ same("bars.py: bars of one rule", len(root.findall("{*}rect")), 6 * 3 + 3 + 1)
 root, texts = drawn(stored("eu-27-nice"))
 same("bars.py: bars of three rules", len(root.findall("{*}rect")), 27 * 5 + 5 + 1)
 legend = [it.text for it in texts if it.text.startswith("share")]
-same("bars.py: the legend tells the rules", legend, [f"share of the votes, rule {at} (quota {q} of {t})" for at, q, t in [(1, 255, 345), (2, 620, 1000), (3, 14, 27)]])
+wanted = [(1, "255 of 345 (73.91%)"), (2, "620 of 1,000 (62%)"), (3, "14 of 27 (51.85%)")]
+same("bars.py: the legend tells the rules and their quotas in percent", legend, [f"share of the votes, rule {rule}; quota {quota}" for rule, quota in wanted])
 case("bars.py: rounded decimals", "0.0841" in [it.text for it in texts], [it.text for it in texts][:12])
+
+# with the game file it has the names and units of the rules
+game = Run("from_table.py", "85%", "heads:2", input="Holder,Share held\nA,16.50%\nB,40.25%\nC,43.25%\n").out
+with open(f"{TEMP}/game.toml", "w", encoding="utf-8") as it:
+    it.write(game)
+run = Run(TOOL, "--game", f"{TEMP}/game.toml", input=report(game))
+legend = [it.text for it in ElementTree.fromstring(run.out).findall("{*}text") if it.text.startswith("share")]
+same("bars.py: --game", legend, ['share of "Share held", rule 1; quota 85.00% of 100.00%', 'share of "heads", rule 2; quota 2 of 3 (66.67%)'])
+fault("bars.py: --game of another game", Run(TOOL, "--game", f"{TEMP}/game.toml", input=stored("eec-1958")), 1, f"{TEMP}/game.toml: this is not the game of the report")
+fault("bars.py: --game that has no member", Run(TOOL, "--game", f"{TOP}/docs/using/table.py.out", input=report(game)), 1, f"{TOP}/docs/using/table.py.out: this is no game file")
+run = Run(TOOL, input=report("[5; 4, 4, 2]"))
+same("bars.py: a quota of at most half is warned of", (run.status, run.err), (0, "bars.py: the quota 5 is at most half of the total, 10: two coalitions without a common member could both win\n"))
 
 # the longest names of the examples, and any others, have room
 for name, data in [("the Bundesrat", stored("de-bundesrat")), ("hostile names", report(hostile_game(4)))]:

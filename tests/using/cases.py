@@ -1,4 +1,5 @@
-"""What the tests of docs/using share: each prints `ok NAME`, `FAILED NAME: why` or `skipped NAME: why` for a case."""
+"""What the tests of docs/using share: each prints `ok NAME`, `FAILED NAME: why` or `skipped NAME:
+why` for a case."""
 import importlib.util
 import io
 import os
@@ -22,8 +23,11 @@ HOSTILE = [
 
 
 class Run:
-    """What a program of docs/using did: its status, its standard output and its standard error. It runs in this
-    process, which takes a hundredth of the time, or, where it is to be as a user runs it, in one of its own."""
+    """Runs a program of docs/using, and keeps its status, its standard output and its standard
+    error.
+
+    It runs in this process, which takes a hundredth of the time, or with `apart` in its own, as for
+    a user."""
 
     def __init__(self, tool, *words, input=b"", apart=False):
         self.tool = tool
@@ -37,7 +41,7 @@ class Run:
 
 
 def inside(tool, words, data):
-    """Runs a program of docs/using in this process; its status, its standard output and its standard error."""
+    """Runs a program of docs/using in this process, and returns what `Run` keeps."""
     spec = importlib.util.spec_from_file_location("tool", os.path.join(TOOLS, tool))
     module = importlib.util.module_from_spec(spec)
     spec.loader.exec_module(module)
@@ -62,11 +66,11 @@ def case(name, good, why=""):
 
 
 def same(name, found, wanted):
-    case(name, found == wanted, f"{found!r} in place of {wanted!r}")
+    case(name, found == wanted, f"{found!r} instead of {wanted!r}")
 
 
 def fault(name, run, status, text):
-    """Whether a run ended with this status and one line of fault, and printed nothing."""
+    """Checks that a run ended with this status and one line of fault, and printed nothing."""
     wanted = f"{run.tool}: {text}\n"
     case(name, (run.status, run.out, run.err) == (status, "", wanted), f"status {run.status}: {run.err!r}, {run.out[:60]!r}")
 
@@ -76,7 +80,7 @@ def skipped(name, why):
 
 
 def needs(command, *names):
-    """Whether there is such a command; where not, the cases of these names are skipped."""
+    """Returns whether there is such a command; if not, the cases of these names are skipped."""
     if shutil.which(command):
         return True
     for name in names:
@@ -85,7 +89,7 @@ def needs(command, *names):
 
 
 def report(game, *words):
-    """The report of a game, as text."""
+    """Returns the report of a game, as text."""
     data = game.encode() if isinstance(game, str) else game
     done = subprocess.run([PROGRAM, "--tally" if "--list" not in words else "--list", *(it for it in words if it != "--list")], input=data, capture_output=True)
     if done.returncode:
@@ -94,11 +98,11 @@ def report(game, *words):
 
 
 def hostile_game(rules=1):
-    """A game file whose members have the hostile names, under a number of rules."""
-    from game import game_file
+    """Returns a game file of some rules, whose members have the hostile names."""
+    from game import write_game
     weights = [[at % 5 + 1] + [1] * (rules - 1) for at in range(len(HOSTILE))]
     quotas = [sum(it[0] for it in weights) - 4] + [len(HOSTILE) - 2] * (rules - 1)
-    return game_file(HOSTILE, quotas, weights, 'A <title> & "more" \\ % = $x$')
+    return write_game(HOSTILE, quotas, weights, 'A <title> & "more" \\ % = $x$')
 
 
 def done():

@@ -1,5 +1,6 @@
 #!/usr/bin/env python3
-"""docs/using/compare.py: two reports or more side by side, differences, and names that look like one.
+"""docs/using/compare.py: two reports or more side by side, differences, and names that look like
+one.
 
     tests/using/compare.py PROGRAM
 """
@@ -40,7 +41,7 @@ row = next(it.split() for it in lines if it.startswith("Denmark"))
 same("compare.py: a member that the first has not", row[1:9], ["-", "-", "-", "3", "0.088000", "0.089655", "-", "-"])
 case("compare.py: columns stand below each other", len({it.rindex(it.split()[-1]) + len(it.split()[-1]) for it in lines[5:-1]}) == 1, lines[5:8])
 run = Run(TOOL, stored("eu-27-nice"), stored("eu-27-lisbon"), apart=True)
-case("compare.py: several rules, as a user runs it", run.status == 0 and run.err == "" and "255/620/14 of 345/1000/27" in run.out, run.err)
+case("compare.py: several rules, as a user runs it", run.status == 0 and run.err == "" and "255/620/14 of 345/1,000/27" in run.out, run.err)
 
 # ---- names that look like one
 old, new = game("old", "Czech Republic", "Germany (West)", "Iceland", "Türkiye"), game("new", "Czechia", "Germany", "Norway", "turkiye", "x")

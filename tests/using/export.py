@@ -63,6 +63,12 @@ case("markdown: each row has the same cells", all(len(re.findall(r"(?<!\\)\|", i
 plain = [re.sub(r"\\(.)", r"\1", it.split(" | ")[0][2:]) for it in (re.sub(r"\\\|", "\\\\\u0001", line) for line in lines[2:])]
 same("markdown: hostile names", [it.replace("\u0001", "|") for it in plain], HOSTILE)
 
+# ---- commas between thousands, only where people read
+union = stored("eu-27-lisbon")
+for form, wanted in [("markdown", "| Germany | 834 | 4,048,337 |"), ("latex", "Germany & 834 & 4,048,337 \\\\"), ("csv", '"Germany",834,4048337')]:
+    found = Run(TOOL, form, "--columns", "name,weight,coalitions", input=union.replace("/1\t", "\t").replace("2920/15", "2920").replace("4492/27", "4492")).out
+    case(f"{form}: thousands", wanted in found, found[:300])
+
 # ---- latex
 run = Run(TOOL, "latex", "--decimals", "3", input=stored("eec-1958"))
 case("latex: a table", "Germany & 4 & 0.208 & 0.200 \\\\\n" in run.out and run.out.endswith("\\bottomrule\n\\end{tabular}\n"), run.out)

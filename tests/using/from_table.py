@@ -6,6 +6,7 @@
 import re
 
 from cases import HOSTILE, Run, case, done, fault, report, same
+from game import find_comments, read_units
 
 TOOL = "from_table.py"
 
@@ -15,8 +16,8 @@ def game(*words, table):
 
 
 def read(text):
-    """The title, the quotas, and the names with their weights of a game file that from_table.py wrote."""
-    quotas = re.search(r"^quotas? = (.*)$", text, re.M)[1]
+    """Returns the quotas and the weights of a game file that from_table.py wrote."""
+    quotas = (re.search(r"^quotas? = (.*)$", text, re.M) or ["", "none"])[1]
     weights = re.findall(r"^weights? = (.*)$", text, re.M)
     return quotas, weights
 
@@ -32,10 +33,10 @@ def no_quota(text):
 
 
 # ---- separators, headings, decimals
-gives("commas", ["51"], "A,50\nB,49\nC,1\n", "51", ["50", "49", "1"])
+gives("commas", ["51"], "A,50\nB,48\nC,3\n", "51", ["50", "48", "3"])
 gives("a heading", ["51"], "member,weight\nA,50\nB,49\n", "51", ["50", "49"])
 gives("semicolons and a decimal comma", ["85%"], "Name;Anteil\nA;16,50\nB;83,50\n", "850", ["165", "835"])
-gives("TABs", [">50%"], "A\t2\nB\t1\nC\t1\n", "3", ["2", "1", "1"])
+gives("TABs", [">50%"], "A\t2\nB\t2\nC\t1\n", "3", ["2", "2", "1"])
 gives("percent signs", ["2/3"], 'A,16.50%\nB,"83.5 %"\n', "667", ["165", "835"])
 gives("thousands with commas", [">50%"], 'A,"1,234,567"\nB,"2,000"\nC,5\n', "618287", ["1234567", "2000", "5"])
 gives("thousands with points and a decimal comma", [">2/3"], "A;1.234,5\nB;2.000,25\nC;7\n", "216117", ["123450", "200025", "700"])
@@ -49,7 +50,7 @@ gives("UTF-16 without a mark", ["1"], "A\t1\n".encode("utf-16-be"), "1", ["1"])
 gives("another encoding", ["1", "--encoding", "cp1252"], b"\xc5land;1\n", "1", ["1"])
 gives("line ends of Windows, empty rows", ["3"], "A,1\r\n\r\n,,\r\nB,2\r\n", "3", ["1", "2"])
 gives("a first line sep=", ["3"], "sep=;\nA;1\nB;2\n", "3", ["1", "2"])
-gives("the total below", [">50%"], "A,1\nB,2\nTotal,3\n", "2", ["1", "2"])
+gives("the total below", [">50%", "--no-total"], "A,1\nB,2\nTotal,3\n", "2", ["1", "2"])
 gives("a member that is named as a total", ["4", "--all-rows"], "A,1\nB,2\nTotal,3\n", "4", ["1", "2", "3"])
 gives("a decimal sign that is told", ["1", "--decimal", ","], 'A,"1,000"\nB,2\n', "1", ["1", "2"])
 gives("columns by their headings", ["3", "--name", "who", "--weight", "votes"], "no,who,share,votes\n1,A,0.3,1\n2,B,0.7,2\n", "3", ["1", "2"])
@@ -58,25 +59,114 @@ gives("a heading of years", ["3", "--heading"], "EU,2019\nA,1\nB,2\n", "3", ["1"
 gives("rounded weights", ["50%", "--round", "2"], "A,0.333333333333333\nB,0.666666666666667\n", "50", ["33", "67"])
 gives("two rules", ["65%", "55%"], "name,people,states\nA,5.5,1\nB,3,1\nC,1,1\n", "[62, 2]", ["[55, 1]", "[30, 1]", "[10, 1]"])
 gives("heads", ["65%", "heads:55%"], "name,people\nA,5.5\nB,3\nC,1\n", "[62, 2]", ["[55, 1]", "[30, 1]", "[10, 1]"])
-gives("heads alone", ["heads:2"], "A\nB\nC\n", "2", ["1", "1", "1"])
+gives("heads alone", ["heads:2", "--no-heading"], "A\nB\nC\n", "2", ["1", "1", "1"])
 
 # ---- quotas of 101 votes, as docs/STATUTES.md has them, and of decimals
 TABLE = "A,40\nB,35\nC,26\n"
 for quota, wanted in [(">50%", 51), ("50%", 51), ("1/2", 51), (">1/2", 51), ("2/3", 68), (">2/3", 68), ("100%", 101), ("51", 51), (">50", 51),
                       ("49.5", 50), (">=49,5", 50), ("66.67%", 68), ("heads:2", 2)]:
     table = TABLE.replace(",40", "").replace(",35", "").replace(",26", "") if quota == "heads:2" else TABLE
-    found = read(game(quota, table=table).out or "quota = none")[0]
+    found = read(game(quota, *(["--no-heading"] if quota == "heads:2" else []), table=table).out or "quota = none")[0]
     same(f"a quota: {quota} of 101", found, str(wanted))
 
-# ---- what was done stands in comments, and cannot be taken for a part of the file
+# ---- a row that has the sum of all others is a total or a member: the user says which
+ASKS = "say --no-total to leave it out, or --all-rows if it is a member"
+for label in ["Grand total", "Total votes", "Totaal", "Razem", "Summa", "Gesamtstimmen", "EU-27", "World", "Σ", "Итого", "合計", "Total", ""]:
+    fault(f"a total below, {label}", game("60%", table=f"A,5\nB,3\nC,1\n{label},9\n"), 1, f'line 4, "{label}", is the sum of all others: {ASKS}')
+    fault(f"a total above, {label}", game("60%", table=f"who,votes\n{label},9\nA,5\nB,3\nC,1\n"), 1, f'line 2, "{label}", is the sum of all others: {ASKS}')
+gives("--no-total, below", ["60%", "--no-total"], "A,5\nB,3\nC,1\nRazem,9\n", "6", ["5", "3", "1"])
+gives("--no-total, above", ["60%", "--no-total"], "World,9\nA,5\nB,3\nC,1\n", "6", ["5", "3", "1"])
+gives("--all-rows", ["60%", "--all-rows"], "A,5\nB,3\nC,1\nWorld,9\n", "11", ["5", "3", "1", "9"])
+gives("a total in one column of two", ["60%", "60%", "--no-total"], "A,5,1\nB,3,1\nC,1,2\nAll votes,9,\n", "[6, 3]", ["[5, 1]", "[3, 1]", "[1, 2]"])
+fault("a total in one column of two is asked about", game("60%", "60%", table="A,5,1\nB,3,1\nC,1,2\nx,9,\n"), 1, f'line 4, "x", is the sum of all others: {ASKS}')
+for name, table in [("percent", "A,33%\nB,33%\nC,33%\nx,100%\n"), ("decimals", "A,33.33\nB,33.33\nC,33.33\nx,100.00\n"), ("large numbers", "A,33333\nB,33333\nC,33333\nx,100000\n")]:
+    fault(f"a total of rounded weights: {name}", game("60%", table=table), 1, f'line 4, "x", is nearly the sum of all others: {ASKS}')
+gives("218 seats beside 217 are no total", ["218"], "A,218\nB,217\n", "218", ["218", "217"])
+fault("a total of heads", game("heads:2", "--no-heading", table="A\nB\nTotal\n"), 1, f'line 3, "Total", is a total by its name, but not the sum of all others: {ASKS}')
+HARDLY = "is hardly a member: delete the line, or say --all-rows if it is one"
+for name, table, line, told in [("a source with a comma", "A,5\nB,3\nSource: Smith, 2004\n", 3, "Source: Smith"), ("a title with a comma", "Votes: Europe, 2004.5\nA,5\nB,3\n", 1, "Votes: Europe"),
+                                ("a note with a comma", "A,5\nB,3\n*) estimated, 2004\n", 3, "*) estimated"), ("a subtotal", "A,5\nB,3\nSubtotal,8\nC,2\nD,1\n", 3, "Subtotal")]:
+    fault(f"{name} is hardly a member", game("60%", table=table), 1, f'line {line}, "{told}", {HARDLY}')
+gives("a member with the name of a subtotal", ["60%", "--all-rows"], "A,5\nB,3\nSubtotal,8\nC,2\nD,1\n", "12", ["5", "3", "8", "2", "1"])
+gives("members with colons", ["60%"], "A: x,5\nB: y,3\nC,1\n", "6", ["5", "3", "1"])
+fault("--no-total without a total", game("60%", "--no-total", table="A,5\nB,3\nC,1\n"), 2, "--no-total: neither the first row nor the last is the sum of all others")
+run = game("60%", "--no-total", table="A,5\nB,3\nTotal,9\n")
+case("a total that is none is left out aloud", read(run.out)[1] == ["5", "3"] and run.err == 'from_table.py: line 3, "Total", is left out, and is a total by its name, but not the sum of all others\n', run.err)
+case("what is left out is in a comment", "\n# Left out: line 3, \"Total\", a total by its name, but not the sum of all others\n" in run.out, run.out)
+
+# ---- a first row that may be a heading: the user says whether, unless other columns tell
+for first in ["Executive Director", "Fraktion", "Gesellschafter", "Member state", "Country", "合計"]:
+    fault(f"a first row of heads, {first}", game("heads:2", table=f"{first}\nA\nB\nC\n"), 1, f'line 1, "{first}", may be a heading or a member: say --heading or --no-heading')
+gives("a heading of heads", ["heads:2", "--heading"], "Fraktion\nA\nB\nC\n", "2", ["1", "1", "1"])
+gives("no heading of heads", ["heads:2", "--no-heading"], "Fraktion\nA\nB\n", "2", ["1", "1", "1"])
+gives("a heading of heads over numbers", ["heads:2"], "Fraktion,Sitze\nA,4\nB,5\nC,6\n", "2", ["1", "1", "1"])
+gives("no heading of heads beside numbers", ["heads:2"], "A,4\nB,5\nC,6\n", "2", ["1", "1", "1"])
+gives("the heading Name", ["heads:2"], "Name\nA\nB\nC\n", "2", ["1", "1", "1"])
+fault("a heading of a year", game("60%", table="EU,2019\nA,5\nB,3\n"), 1, 'line 1, "EU", may be a heading or a member: say --heading or --no-heading')
+fault("a heading that is a number", game("60%", table="Member,1\nA,5\nB,3\n"), 1, 'line 1, "Member", may be a heading or a member: say --heading or --no-heading')
+gives("a member with as many votes as a year", ["60%", "--no-heading"], "A,2019\nB,500\n", "1512", ["2019", "500"])
+fault("--heading and --no-heading", game("60%", "--heading", "--no-heading", table="A,5\n"), 2, "argument --no-heading: not allowed with argument --heading (--help says more)")
+fault("--no-heading and a column by its heading", game("60%", "--no-heading", "--name", "who", table="who,votes\nA,5\n"), 2, '--no-heading: the column "who" is chosen by its heading')
+
+# ---- a quota below 1 is a share that lacks its sign; one of at most half is doubtful
+for quota, wanted in [("0.85", "85%"), ("0,85", "85%"), (".5", "50%"), ("0.667", "66.7%"), (">0.5", "'>50%'"), ("heads:0.55", "heads:55%"), ("heads:>0.5", "'heads:>50%'")]:
+    fault(f"a quota below 1: {quota}", game(quota, "--no-heading", table=TABLE.replace(",", " " if "heads" in quota else ",")), 2, f'the quota "{quota}" is less than 1: write {wanted} for a share of all')
+run = game("85%", table=TABLE)
+same("a quota above half is not warned of", (run.status, run.err), (0, ""))
+run = game("50", table=TABLE)
+BOTH = ": two coalitions without a common member could both win"
+same("a quota of at most half is warned of", (run.status, run.err), (0, f"from_table.py: the quota 50 is at most half of the total, 101{BOTH}\n"))
+run = game("50%", "heads:1", table="A,4000\nB,3000\nC,3000\n")
+same("two such quotas", run.err, f"from_table.py: the quota 5,000 of rule 1 is at most half of the total, 10,000{BOTH}\nfrom_table.py: the quota 1 of rule 2 is at most half of the total, 3{BOTH}\n")
+run = game(">50%", "heads:1", table=TABLE)
+same("one such quota of two", run.err, "from_table.py: the quota 1 of rule 2 is at most half of the total, 3\n")
+
+# ---- a table that is too long is refused, not cut
+fault("a table of more than 16 MiB", game("1", table="A,1\nB,2\n" + "\n" * (1 << 24)), 1, "the table is longer than 16 MiB: keep the rows of the members, and the columns that you need")
+
+# ---- lines with a single cell: titles and sources
+NOTES = "Votes of 2019{0}\n\nholder,votes\nA,5\nB,3\nC,1\nSource: a book{0}\n*) estimated{0}\n"
+for name, pad in [("alone", ""), ("with the commas of a spreadsheet", ",")]:
+    run = game("60%", table=NOTES.format(pad))
+    same(f"titles and sources {name} are left out", read(run.out), ("6", ["5", "3", "1"]))
+    told = [f"from_table.py: line {line} has a single cell and is left out: {text}" for line, text in [(1, '"Votes of 2019"'), (7, '"Source: a book"'), (8, '"*) estimated"')]]
+    same(f"titles and sources {name} are told", run.err, "\n".join([told[0], *(it + " (if it is a member, write 0 as its weight)" for it in told[1:]), ""]))
+    case(f"titles and sources {name} are in comments", '# Left out: line 1, "Votes of 2019"\n# Left out: line 7, "Source: a book"\n' in run.out, run.out)
+gives("titles above columns that are chosen", ["60%", "--weight", "votes"], NOTES.format(""), "6", ["5", "3", "1"])
+fault("a single cell beside heads", game("heads:2", table="who,votes\nA,5\nB,3\nSource: a book\n"), 1,
+      'line 4 has a single cell, "Source: a book", and others have more: delete the line, or say --all-rows if it is a member')
+gives("a single cell of a member", ["heads:2", "--all-rows"], "who,votes\nA,5\nB,3\nC,\n", "2", ["1", "1", "1"])
+
+# ---- an owner in two rows, and row numbers
+gives("--sum", ["60%", "--sum"], "A,5\nB,3\nA,1.5\n", "57", ["65", "30"])
+gives("--sum of two columns", ["60%", "1", "--sum"], "A,5,1\nB,3,1\nA,1,3\n", "[6, 1]", ["[6, 4]", "[3, 1]"])
+gives("--sum of 41 rows", ["60%", "--sum"], "A,60\n" + "".join(f"m{it % 20},1\n" for it in range(40)), "60", ["60"] + ["2"] * 20)
+case("--sum is in a comment", '\n# Added: lines 1, 3, "A"\n' in game("60%", "--sum", table="A,5\nB,3\nA,1\n").out)
+for name, words, table in [("R", ["60%"], '"","holder","votes"\n"1","A",5\n"2","B",3\n'), ("pandas", ["60%"], ",holder,votes\n0,A,5\n1,B,3\n"), ("pandas, of heads", ["heads:2"], ",holder\n0,A\n1,B\n")]:
+    fault(f"row numbers of {name}", game(*words, table=table), 1, "column 1 has row numbers, and column 2 the names: say --name 2")
+gives("row numbers", ["60%", "--name", "2"], '"","holder","votes"\n"1","A",5\n"2","B",3\n', "5", ["5", "3"])
+gives("names that are numbers", ["60%"], "1,5\n2,3\n", "5", ["5", "3"])
+
+# ---- names and units of rules, as other programs read them
+run = game("85%", "heads:2", "--source", "a\nbook", table="Holder,Share of votes\nA,16.50%\nB,40.25%\nC,43.25%\n")
+comments = find_comments(run.out)
+same("the comment of the source", comments[0], "Source: a book")
+same("the comment of a rule", comments[2], 'Rule 1: "Share of votes", percent, 2 decimals; column 2, times 100; the quota "85%" is at least 17/20 of 10,000, which is 8,500')
+units = read_units(comments, 2)
+same("the names of the rules", [it.name for it in units], ["Share of votes", "heads"])
+same("their weights as people read them", [it.write(weight) for it, weight in zip(units, (1650, 1))], ["16.50%", "1"])
+hard = [read_units(find_comments(game("1", table=f'name,"votes {it}"\nA,1\n').out), 1)[0].name for it in (each.replace('"', '""') for each in HOSTILE)]
+same("hostile headings are read back", hard, [" ".join(f"votes {it}".split()) for it in HOSTILE])
+
+# ---- comments say what was done, and no text of the table ends them
 run = game("51", "--title", "T", "--name", "n\n[[member]]", "--weight", "2", table='"n\n[[member]]","quota = 1\nx"\nA,50.5\nB,50\n')
 comments = [it for it in run.out.split("\n") if it.startswith("#")]
 case("comments tell what was done", len(comments) == 3 and "times 10" in comments[1] and "line 1, the heading" in comments[2], run.out)
 case("no comment runs on", run.out.count("[[member]]") == 2 and run.out.count("\nquota = ") == 1, run.out)
 
 # ---- as a user runs it
-run = Run(TOOL, "51", input="A,50\nB,49\nC,1\n", apart=True)
-case("a table, as a user runs it", run.status == 0 and run.err == "" and run.out.endswith("weight = 1\n"), run.err)
+run = Run(TOOL, "51", input="A,50\nB,49\nC,2\n", apart=True)
+case("a table, as a user runs it", run.status == 0 and run.err == "" and run.out.endswith("weight = 2\n"), run.err)
 fault("a fault, as a user runs it", Run(TOOL, "half", input="A,1\n", apart=True), 2, no_quota("half"))
 
 # ---- names of any kind, as the program reads them
@@ -94,30 +184,29 @@ for name, words, table, status, text in [
     ("a quota that is no number", ["half"], "A,1\n", 2, no_quota("half")),
     ("a quota over zero", ["1/0"], "A,1\n", 2, no_quota("1/0")),
     ("a quota of two readings", ["1,000"], "A,2000\n", 2, 'the quota "1,000" may have decimals or thousands: say --decimal . or --decimal ,'),
-    ("a quota above the total", ["120%"], "A,1\nB,1\n", 2, 'the quota "120%" comes to 3, and must be from 1 to 2, the total'),
-    ("more than all", [">100%"], "A,1\nB,1\n", 2, 'the quota ">100%" comes to 3, and must be from 1 to 2, the total'),
-    ("a quota of nothing", ["0"], "A,1\nB,1\n", 2, 'the quota "0" comes to 0, and must be from 1 to 2, the total'),
+    ("a quota above the total", ["120%"], "A,1\nB,2\n", 2, 'the quota "120%" comes to 4, and must be from 1 to 3, the total'),
+    ("more than all", [">100%"], "A,1\nB,2\n", 2, 'the quota ">100%" comes to 4, and must be from 1 to 3, the total'),
+    ("a quota of nothing", ["0"], "A,1\nB,2\n", 2, 'the quota "0" comes to 0, and must be from 1 to 3, the total'),
     ("no table", ["1"], "", 1, "there is no table: nothing was read"),
     ("a heading alone", ["1"], "name,weight\n", 1, "there is a heading, and no row below it"),
-    ("one column", ["1"], "A 1\nB 2\n", 1, "the table has no column 2: commas, semicolons or TABs stand between the columns"),
-    ("a weight that is no number", ["1"], "A,1\nB,x2\n", 1, f'{AT}: "x2" is no number (--heading, --name and --weight say what stands where)'),
-    ("digits of another script", ["1"], "A,1\nB,٣\n", 1, f'{AT}: "٣" is no number (--heading, --name and --weight say what stands where)'),
-    ("a number without end", ["1"], "A,1\nB," + "9" * 5000 + "\n", 1, f'{AT}: "{"9" * 40}.." is no number (--heading, --name and --weight say what stands where)'),
+    ("one column", ["1"], "A 1\nB 2\n", 1, "the table has no column 2: commas, semicolons or TABs separate the columns"),
+    ("a weight that is no number", ["1"], "A,1\nB,x2\n", 1, f'{AT}: "x2" is no number (--heading, --name and --weight say which cell is what)'),
+    ("digits of another script", ["1"], "A,1\nB,٣\n", 1, f'{AT}: "٣" is no number (--heading, --name and --weight say which cell is what)'),
+    ("a number without end", ["1"], "A,1\nB," + "9" * 5000 + "\n", 1, f'{AT}: "{"9" * 40}.." is no number (--heading, --name and --weight say which cell is what)'),
     ("a weight below zero", ["1"], "A,1\nB,-2\n", 1, f'{AT}: "-2" is negative'),
-    ("no weight", ["1"], "A,1\nB,\n", 1, f"{AT} is empty: write 0 where a member has no weight"),
-    ("a note below", ["1"], "A,1\nSource: a book\n", 1, f"{AT} is empty: write 0 where a member has no weight"),
+    ("no weight", ["1"], "A,1\nB,\nC,2\n", 1, f'{AT} is empty: write 0 if "B" is a member without weight'),
     ("thousands or decimals", ["1"], 'A,1\nB,"1,000"\n', 1, f'{AT}: "1,000" may have decimals or thousands: say --decimal . or --decimal ,'),
     ("two decimal signs", ["1"], 'A;1.5\nB;1,5\n', 1, f'{AT}: "1,5" is no number with "." before its decimals; line 1, column 2: "1.5" has another'),
-    ("percent signs here and there", ["1"], "A,1%\nB,1\n", 1, f'{AT}: "1": some weights of this column have a percent sign, and some have none'),
+    ("percent signs here and there", ["1"], "A,2%\nB,1\n", 1, f'{AT}: "1": some weights of this column have a percent sign, and some have none'),
     ("a total that is none", ["1"], "A,1\nB,2\nTotal,4\n", 1,
-     "line 3: this looks like a total, and the rows above add up to 3: leave the row out, or say --all-rows where it is a member"),
-    ("a name twice", ["1"], "A,1\nB,2\nA,3\n", 1, 'line 3: the name "A" stands in line 1 too'),
+     'line 3, "Total", is a total by its name, but not the sum of all others: say --no-total to leave it out, or --all-rows if it is a member'),
+    ("a name twice", ["1"], "A,1\nB,2\nA,2\n", 1, 'line 3: the name "A" is in line 1 too (--sum adds their weights)'),
     ("a long name", ["1"], "é" * 33 + ",1\n", 1, f'line 1: the name "{"é" * 20}".. has more than 64 bytes, or a letter that is none to read'),
     ("a name that rings a bell", ["1"], "A\x07,1\n", 1, 'line 1: the name "A\\u0007".. has more than 64 bytes, or a letter that is none to read'),
     ("no name", ["1"], ",1\n", 1, "line 1: there is no name"),
     ("41 members", ["1"], "".join(f"m{it},1\n" for it in range(41)), 1, "line 41: this is member 41, and a game has at most 40"),
     ("too many decimals", ["1"], "A,0.3333333333333333\nB,0.6\n", 1,
-     "line 1, column 2: with 16 decimals this is a weight of 16 digits, and the greatest is 1000000000000: --round N rounds the weights to N decimals"),
+     "line 1, column 2: with 16 decimals this is a weight of 16 digits, and the greatest is 1,000,000,000,000: --round N rounds the weights to N decimals"),
     ("weights of nothing", ["1"], "A,0\nB,0\n", 1, "column 2: all weights are 0"),
     ("a column without a quota", ["1"], "A,1,3\nB,2,4\n", 1,
      "column 3 has numbers too, and there is no quota for it: give one more, or choose columns by --weight"),

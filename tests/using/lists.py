@@ -1,5 +1,6 @@
 #!/usr/bin/env python3
-"""The programs of docs/using on a report that lists many coalitions: they keep few of them, or none.
+"""The programs of docs/using on a report that lists many coalitions: they keep few of them, or
+none.
 
     tests/using/lists.py PROGRAM
 """
@@ -30,7 +31,7 @@ for words in [["bars.py"], ["table.py"], PAGE, ["export.py", "csv"], ["export.py
 whole = json.loads(found["export.py json"])
 same("export.py: each coalition is in the JSON", (len(whole["coalitions"]), whole["minimal"]), (COALITIONS, COALITIONS))
 same("export.py: the last of them", whole["coalitions"][-1], {"members": ["37", "38", "39", "40"], "weights": [4]})
-case("page.py: the first of them", f"the first 1000 of {COALITIONS}" in found["page.py"] and found["page.py"].count("<small>(4)</small>") == 1000)
+case("page.py: the first of them", f"the first 1,000 of {COALITIONS:,}" in found["page.py"] and found["page.py"].count("<small>(4)</small>") == 1000)
 
 # ---- table.py: no name moves a terminal
 run = Run("table.py", input=report(hostile_game()))

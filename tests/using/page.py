@@ -1,21 +1,17 @@
 #!/usr/bin/env python3
-"""docs/using/page.py: its elements, its texts, and what a browser makes of it, where there is Chromium.
+"""docs/using/page.py: its elements and its texts. What a browser shows of it is in browser.py.
 
     tests/using/page.py PROGRAM
 """
 import html
-import json
-import os
 import re
-import shutil
-import subprocess
 from html.parser import HTMLParser
 
-from cases import HOSTILE, PROGRAM, TEMP, TOP, Run, case, done, fault, hostile_game, report, same, skipped
+from cases import HOSTILE, PROGRAM, TEMP, TOP, Run, case, done, fault, hostile_game, report, same
 
 TOOL = "page.py"
 VOID = ["meta", "br"]
-# what the page shows in place of a letter that it must not have
+# a page shows U+FFFD instead of letters that it must not have
 SHOWN = [re.sub("[\ufffe\u202e\u0085]", "\ufffd", it) for it in HOSTILE]
 
 
@@ -75,49 +71,35 @@ for name, words, status, text in [
     fault(f"page.py refuses {name}", Run(TOOL, *words), status, text)
 fault("page.py, as a user runs it, refuses a refused game", Run(TOOL, "-", apart=True), 1, "there is no report: nothing was read (was the game refused?)")
 
-# ---- in a browser, as wide as a phone: what is seen, and what a click does
-LOOK = """<!DOCTYPE html><meta charset="utf-8"><iframe width="360" height="700" srcdoc="PAGE"></iframe><pre id="seen"></pre><script>
-window.onload = () => {
-  const page = document.querySelector("iframe").contentDocument, heads = page.querySelectorAll("table.members th button");
-  const names = () => [...page.querySelector("table.members tbody").rows].map(row => row.cells[0].textContent);
-  const seen = {wide: page.documentElement.scrollWidth, scripts: page.scripts.length, before: names()};
-  const fraction = page.querySelector(".fraction").getBoundingClientRect();
-  seen.stacked = fraction.height > 20 && page.querySelector(".fraction i").getBoundingClientRect().top > fraction.top + 8;
-  seen.bars = [...page.querySelector(".bars").querySelectorAll(".bar")].map(it => it.getBoundingClientRect().width);
-  heads[1].click(); seen.down = names(); heads[1].click(); seen.up = names(); heads[0].click(); seen.byName = names();
-  document.getElementById("seen").textContent = JSON.stringify(seen).replace(/[\\u007f-\\uffff]/g, it => "\\\\u" + it.charCodeAt(0).toString(16).padStart(4, "0"));
-};
-</script>"""
 
+# ---- the columns, and numbers as people read them
+heads = re.findall(r"<th[^>]*><button[^>]*>(.*?)</button>", one.out)
+same("page.py: rounded indices first, fractions last", heads, ["Member", "Deegan-Packel", "Public good", "Weight", "Share", "Coalitions", "Deegan-Packel, exactly", "Public good, exactly"])
+case("page.py: the quota in percent", "at least 12 of 17 (70.59%). Members: 6. Minimal winning coalitions: 4." in one.out)
+union = Run(TOOL, "--program", PROGRAM, f"{TOP}/examples/eu-27-lisbon.tsv")
+case("page.py: commas between thousands", "Minimal winning coalitions: 4,377,844." in union.out and ">4,048,337</td>" in union.out)
+case("page.py: numbers on the bars", union.out.count('<span class="value">') == 27 * 4 and '<span class="value">0.1857</span>' in union.out)
 
-CHROMIUM = shutil.which("chromium") or shutil.which("chromium-browser") or shutil.which("google-chrome")
-
-
-def seen(page):
-    """What a browser sees of a page; None if none runs here."""
-    path = put("look.html", LOOK.replace("PAGE", html.escape(page)))
-    if not CHROMIUM:
-        return None
-    words = [CHROMIUM, "--headless", "--no-sandbox", "--disable-gpu", f"--user-data-dir={TEMP}/browser", "--window-size=1000,900", "--dump-dom", f"file://{path}"]
-    try:
-        ran = subprocess.run(words, capture_output=True, timeout=120, env={**os.environ, "HOME": TEMP})
-    except subprocess.TimeoutExpired:
-        return None
-    text = re.search(r'<pre id="seen">(.+?)</pre>', ran.stdout.decode("utf-8", "replace"), re.S)
-    return json.loads(html.unescape(text[1])) if text else None
-
-
-CASES = ["page.py: no wider than a phone", "page.py: fractions are drawn", "page.py: bars are as long as the values", "page.py: a click sorts", "page.py: a name is no script"]
-first, second = seen(one.out), seen(Run(TOOL, "--program", PROGRAM, hard).out)
-if first is None or second is None:
-    for it in CASES:
-        skipped(it, "Chromium shows no page here" if CHROMIUM else "this machine has no Chromium")
-else:
-    order = ["Germany", "France", "Italy", "Belgium", "Netherlands", "Luxembourg"]
-    case(CASES[0], first["wide"] <= 360 and second["wide"] <= 360, (first["wide"], second["wide"]))
-    case(CASES[1], first["stacked"], first)
-    lengths = first["bars"]
-    case(CASES[2], lengths[0] > lengths[1] > lengths[2] > 50 and lengths[-1] == 0, lengths)
-    case(CASES[3], (first["before"], first["down"], first["up"], first["byName"]) == (order, order, ["Luxembourg", "Belgium", "Netherlands", "Germany", "France", "Italy"], sorted(order)), first)
-    case(CASES[4], second["scripts"] == 1 and second["before"] == SHOWN, second)
+# ---- what the game file adds: comments, the source, names and units of rules
+game = Run("from_table.py", "85%", "heads:2", "--source", "a & b", input="Votes of 2019\nHolder,Share held\nA,16.50%\nB,40.25%\nC,43.25%\n").out
+path = put("game.toml", game)
+run = Run(TOOL, "--program", PROGRAM, "--game", path, put("game.tsv", report(game)))
+text = html.unescape(re.sub("<[^>]*>", "", run.out))
+case("page.py: --game shows the source", '<p class="source">Source of the data: a &amp; b</p>' in run.out)
+case("page.py: --game shows each comment", run.err == "" and all(it[2:] in text for it in game.split("\n") if it.startswith("#")), text)
+case("page.py: --game shows names and units", "at least 85.00% of 100.00% under rule 1 (Share held) and 2 of 3 (66.67%) under rule 2 (heads)" in text and ">16.50%</td>" in run.out, text)
+file = html.unescape(re.search(r"<pre>(.*?)</pre>", run.out, re.S)[1])
+same("page.py: its game file is the one of --game", file, game)
+run = Run(TOOL, "--program", PROGRAM, "--source", "c", "--game", f"{TOP}/examples/eec-1958.toml", f"{TOP}/examples/eec-1958.tsv")
+case("page.py: comments that run over lines are one text", "<p>The votes of the six founding members under the Treaty of Rome of 1957, article 148: 12 of 17 pass a proposal" in run.out)
+case("page.py: --source", "Source of the data: c</p>" in run.out)
+low = put("low.tsv", report("[5; 4, 4, 2]"))
+run = Run(TOOL, "--program", PROGRAM, low)
+case("page.py: a quota of at most half is warned of", "two coalitions without a common member could both win.</b>" in run.out
+     and run.err == "page.py: the quota 5 is at most half of the total, 10: two coalitions without a common member could both win\n", run.err)
+fault("page.py: --game of another game", Run(TOOL, "--game", path, low), 1, f"{path}: this is not the game of the report")
+fault("page.py: --game for one of two", Run(TOOL, "--game", path, low, low), 2, "give --game once for each report: there are 2 reports, and 1 game files")
+long = put("long.toml", "#" * 65537)
+fault("page.py: --game that is too long", Run(TOOL, "--game", long, low), 1, f"{long}: the game file is longer than 65536 bytes")
+case("page.py: --game in brackets", Run(TOOL, "--program", PROGRAM, "--game", put("game.txt", "[5; 4, 4, 2]"), low).status == 0)
 done()

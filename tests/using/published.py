@@ -1,5 +1,6 @@
 #!/usr/bin/env python3
-"""What README.md and docs/STATUTES.md say of published tables and treaties, against the program and the stored reports.
+"""What README.md and docs/STATUTES.md say of published tables and treaties, against the program
+and the stored reports.
 
     tests/using/published.py PROGRAM
 """
@@ -17,7 +18,7 @@ def stored(name):
 
 
 def indices(text):
-    """Both indices of each member of a report, as texts."""
+    """Returns both indices of each member of a report, as texts."""
     members = Report(text.split("\n")[:-1]).members
     return [it.dp_fraction for it in members], [it.pg_fraction for it in members]
 
@@ -35,7 +36,8 @@ same("the Security Council: coalitions of a member", ({it.coalitions for it in p
 each = ({it.deegan_packel for it in permanent} | {it.public_good for it in permanent}, {it.deegan_packel for it in others} | {it.public_good for it in others})
 same("the Security Council: both indices", each, ({Fraction(1, 9)}, {Fraction(2, 45)}))
 
-# ---- the Council of the Communities: Luxembourg was a dummy in 1958 and none in 1973, when its share was less (Brams and Affuso 1976)
+# ---- the Council of the Communities: Luxembourg was a dummy in 1958, and in 1973, with a smaller
+# share, it was not (Brams and Affuso 1976)
 old, new = [next(it for it in stored(name).members if it.name == "Luxembourg") for name in ("eec-1958", "ec-1973")]
 case("published: Luxembourg in 1958 and 1973", old.coalitions == 0 and new.coalitions > 0 and Fraction(new.weights[0], 58) < Fraction(old.weights[0], 17))
 
@@ -43,7 +45,7 @@ case("published: Luxembourg in 1958 and 1973", old.coalitions == 0 and new.coali
 union = stored("eu-27-lisbon")
 weights, quota, total = [it.weights[0] for it in union.members], union.quotas[0], union.totals[0]
 added = [out for out in combinations(range(27), 3) if total - sum(weights[at] for at in out) < quota]
-# none of the others, of 25 members or more, stops being minimal, as it can miss no member of the lightest
+# no other coalition of 25 members or more stops being minimal: it needs even its lightest member
 heavy = [out for size in range(3) for out in combinations(range(27), size)
          if quota <= total - sum(weights[at] for at in out) < quota + min(it for at, it in enumerate(weights) if at not in out)]
 seats = sum(it.coalitions for it in union.members)
@@ -54,7 +56,7 @@ for at, it in enumerate(union.members):
     moved.append(abs(Fraction(it.coalitions + more, seats + 24 * len(added)) - it.public_good))
 same("the Union: 24 of 27 states", (len(added), heavy, max(moved) < Fraction(5, 10**7), union.minimal), (22, [], True, 4377844))
 
-# ---- the American override, as docs/STATUTES.md writes it, for each number of members of both houses
+# ---- the American override of docs/STATUTES.md, for each number of members of both houses
 wrong = [
     (president, vice, senators, deputies)
     for president in (0, 1) for vice in (0, 1) for senators in range(101) for deputies in range(436)

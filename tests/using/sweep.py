@@ -41,6 +41,35 @@ case("sweep.py: a legend", {"Germany, France, Italy", "Belgium, Netherlands", "L
 points = drawn.findall("{*}polyline")[0].get("points").split()
 case("sweep.py: a point for each quota", len(points) == 17 and points[0].split(",")[0] == "60.00" and points[-1].split(",")[0] == "620.00", points)
 
+
+# ---- round numbers at the axes, a label at the end of each line
+def axis(root, kind):
+    return [it.text for it in root.findall("{*}text") if it.get("class") == kind]
+
+
+same("sweep.py: round indices at the axis", axis(drawn, "index"), ["0.00", "0.05", "0.10", "0.15", "0.20", "0.25"])
+same("sweep.py: round quotas at the axis", axis(drawn, "quota"), ["5", "10", "15"])
+sweep(COUNCIL, "--from", "17", "--picture", f"{TEMP}/all.svg")
+same("sweep.py: the axis ends above the greatest index, 1/6", axis(ElementTree.parse(f"{TEMP}/all.svg").getroot(), "index"), ["0.00", "0.05", "0.10", "0.15", "0.20"])
+ends = [it.get("points").split()[-1].replace(",", " ") for it in drawn.findall("{*}polyline")]
+leaders = [re.fullmatch(r"M(\S+ \S+)L\S+ (\S+)h12", it.get("d")) for it in drawn.findall("{*}path") if it.get("class") == "leader"]
+same("sweep.py: each line is led to a label", [it[1] for it in leaders], ends)
+labels = [it for it in drawn.findall("{*}text") if it.get("class") == "member"]
+same("sweep.py: the label is where it is led to", [f"{float(it.get('y')) - 4:.2f}" for it in labels], [it[2] for it in leaders])
+for first, last, wanted in [("1", "17", ["5", "10", "15"]), ("12", "17", ["12", "13", "14", "15", "16", "17"]), ("12", "12", ["12"])]:
+    sweep(COUNCIL, "--from", first, "--to", last, "--picture", f"{TEMP}/range.svg")
+    same(f"sweep.py: round quotas from {first} to {last}", axis(ElementTree.parse(f"{TEMP}/range.svg").getroot(), "quota"), wanted)
+fund = Run("from_table.py", "85%", input="Holder,Share held\nA,16.50%\nB,40.25%\nC,43.25%\n").out
+run_of_fund = sweep("-", "--from", "5001", "--step", "500", "--picture", f"{TEMP}/fund.svg", input=fund)
+fund = ElementTree.parse(f"{TEMP}/fund.svg").getroot()
+same("sweep.py: quotas in the unit of the table", axis(fund, "quota"), ["60.00%", "70.00%", "80.00%", "90.00%"])
+case("sweep.py: the name of the rule", 'public good index, by the quota, "Share held" (total 100.00%)' in [it.text for it in fund.findall("{*}text")])
+
+# ---- quotas of at most half
+HALF = ": two coalitions without a common member could both win\n"
+same("sweep.py: quotas of at most half are warned of", run.err, f"sweep.py: quotas up to 8 are at most half of the total, 17{HALF}")
+same("sweep.py: quotas above half are not", sweep(COUNCIL, "--from", "9").err, "")
+
 # ---- a range, steps, standard input, a rule of several
 same("sweep.py: a range in steps", [it[0] for it in rows(sweep(COUNCIL, "--from", "10", "--to", "15", "--step", "2"))[::6]], ["10", "12", "14"])
 with open(COUNCIL, "rb") as it:
@@ -51,6 +80,10 @@ two = put("two.toml", 'quotas = [5, 3]\nmember = [{name = "A", weights = [3, 1]}
 run = sweep("--rule", "2", two)
 # one head or two: AB, AC, BCD; three heads: each three of the four; four: all of them
 same("sweep.py: the second rule", [(it[0], it[4]) for it in rows(run) if it[1] == "A"], [("1", "2/7"), ("2", "2/7"), ("3", "1/4"), ("4", "1/4")])
+
+same("sweep.py: a rule above half keeps two coalitions from winning", run.err, "")
+run = sweep("--rule", "2", put("low.toml", 'quotas = [1, 2]\nmember = [{name = "A", weights = [1, 1]}, {name = "B", weights = [1, 1]}]\n'))
+same("sweep.py: two rules of at most half", run.err, f"sweep.py: quotas up to 1 of rule 2 are at most half of the total, 2{HALF}")
 
 # ---- names of any kind, in the table and in the picture
 hard = put("hard.toml", hostile_game(2))

@@ -26,8 +26,9 @@ pub(crate) struct Deal {
 }
 
 impl Deal {
-    /// Gives the worker, where it has finished its slices, the lowest slice without a holder, or tells
-    /// it that there are no more. A loss or a cut stops the deal, and then nothing is given.
+    /// Gives a worker that has finished its slices the lowest slice without a holder, or tells it that
+    /// there are no more. After a loss or a cut nothing more is given.
+    #[tactic(auto, using(std::proofs::lemmas::Grind::common_steps))]
     fn deal_to<R: Wait>(&mut self, rt: &R, desk: &mut Desk, worker: u8, pair: BellPair<'_>)
         requires slices { length self.old.marks ≡ 2 ^ desk.old.worker.promise.bits }
         requires worker { worker < WORKERS }
@@ -55,8 +56,8 @@ impl Deal {
         }
     }
 
-    /// Takes the words of the worker that are there, deals to it where it has finished its slices, and
-    /// says whether a word was there.
+    /// Takes the words of the worker that are there, gives it a slice if it has finished the others,
+    /// and returns whether a word was there.
     fn turn<R: Wait>(
         &mut self,
         rt: &R,
@@ -82,6 +83,7 @@ impl Deal {
     }
 
     /// Deals one slice to each worker.
+    #[tactic(auto, using(std::proofs::lemmas::Grind::common_steps))]
     fn deal_first<R: Wait, G>(
         &mut self,
         rt: &R,
@@ -98,8 +100,9 @@ impl Deal {
         }
     }
 
-    /// Deals the slices and reads the rings in turn, until each worker has sent its End. Where no word
-    /// is there it waits.
+    /// Deals the slices and reads the rings in turn, until each worker has sent its End. It waits if
+    /// no word is there.
+    #[tactic(auto, using(std::proofs::lemmas::Grind::common_steps))]
     pub fn read_all<R: Wait, G>(
         &mut self,
         rt: &R,

@@ -59,7 +59,8 @@ pub(crate) struct Desk {
 impl Desk {
     ghost use Rattle.mwc_gather.specs.Inner.Desks.{IsOf, IsSameDesk, view_of, IsPartOfDesk, CanEndWith};
 
-    /// Makes room for what is kept of a worker, and starts it.
+    /// Makes room for what a worker sends, and starts it.
+    #[tactic(auto, using(std::proofs::lemmas::Grind::common_steps))]
     pub fn open<'s, E, R: Threads + Wait + Sync, G: SliceObserver + Sync>(
         scope: &Scope<'s, E>,
         rt: &'s R,
@@ -114,7 +115,7 @@ impl Desk {
         })
     }
 
-    /// Whether there is room for one more slice; where there is none, that is a loss.
+    /// Returns whether there is room for one more slice; if there is none, notes a loss.
     pub fn ready(&mut self) -> bool
         ensures same { IsSameDesk self.old self.new }
         ensures room { IsTrue result → vec_len self.new.given < vec_capacity self.new.given }
@@ -130,7 +131,8 @@ impl Desk {
         true
     }
 
-    /// Gives the worker a slice, once it has finished all that it was given.
+    /// Gives a slice to a worker that has finished all that it was given.
+    #[tactic(auto, using(std::proofs::lemmas::Grind::common_steps))]
     pub fn assign<R: Wait>(&mut self, rt: &R, slice: u16, pair: BellPair<'_>)
         requires slice { slice < 2 ^ self.old.worker.promise.bits }
         requires room { vec_len self.old.given < vec_capacity self.old.given }
@@ -144,7 +146,7 @@ impl Desk {
         self.idle = false;
     }
 
-    /// Tells the worker that there are no more.
+    /// Tells the worker that there are no more slices.
     pub fn tell<R: Wait>(&mut self, rt: &R, pair: BellPair<'_>)
         requires { self.old.told ≡ false }
         ensures same { IsSameDesk self.old self.new }
@@ -154,8 +156,8 @@ impl Desk {
         self.told = true;
     }
 
-    /// Takes all words that are there into the front of the row, keeps what they tell, and says how
-    /// many they are.
+    /// Takes the words that are there into the front of the row, keeps what they tell, and returns
+    /// how many they are.
     pub fn read(&mut self, row: &mut [Word]) -> usize
         ensures worker { self.new.worker.promise ≡ self.old.worker.promise }
         ensures same { (self.new.given.items ≡ self.old.given.items)
@@ -174,7 +176,7 @@ impl Desk {
         count
     }
 
-    /// Joins the worker, keeps what is left of its words, and gives its part.
+    /// Joins the worker, keeps what is left of its words, and returns its part.
     pub fn finish<R: Threads>(self, rt: &R) -> Result<Part, GatherFault>
         ensures part { IfOk result (λ p. (g : Slicing) (most : ℕ) → IsOf g most self
             → IsPartOfDesk g self p) }
@@ -204,7 +206,7 @@ impl Desk {
     }
 }
 
-/// The fault where a ring could not be finished, unless something was lost before.
+/// Returns the fault of a ring that could not be finished: `Memory` if something was lost before.
 fn ring_fault(draft: &Draft) -> GatherFault
     ensures { result ≡ (if draft.now.lost then GatherFault.Memory else GatherFault.Ring) }
 {
@@ -216,7 +218,7 @@ fn ring_fault(draft: &Draft) -> GatherFault
     }
 }
 
-/// Puts a task into the ring, and sleeps at its own bell while it is full; then rings the other.
+/// Puts a task into the ring, sleeps at its own bell while the ring is full, and then rings the other.
 fn put<R: Wait>(rt: &R, tasks: &mut RingIn, mut task: Word, pair: BellPair<'_>)
     ensures ring { tasks.new.ring ≡ tasks.old.ring }
     ensures accepted { tasks.new.accepted ≡ tasks.old.accepted ++ task ∷ [] }

@@ -13,7 +13,7 @@ use council_game::{Coalition, Memory};
 use mwc_pipe::Word;
 use std::alloc::Global;
 
-/// What is kept of the words of a worker as they come: its part is made of it.
+/// What is kept of the words of a worker; its part is made of it.
 #[derive(Drop)]
 pub(crate) struct Draft {
     /// How many coalitions had come at the end of each slice.
@@ -22,8 +22,7 @@ pub(crate) struct Draft {
     pub got: Vec<Coalition>,
     /// Whether a word told of a cut.
     pub cut: bool,
-    /// Whether something was lost for want of memory, which is only where there was no room for it. Nothing
-    /// is kept from then on.
+    /// Whether something was lost because there was no room for it. Nothing is kept after that.
     pub lost: bool,
 }
 
@@ -37,11 +36,11 @@ pub(crate) struct News {
 }
 
 impl Draft {
-    /// The draft of no words, with room for the ends of `slices` slices.
+    /// Makes the draft of no words, with room for the ends of `slices` slices.
     ///
     /// # Errors
     ///
-    /// `Memory` where that room was refused.
+    /// `Memory` if that room was refused.
     pub fn new(alloc: Global, slices: u16) -> Result<Draft, Memory>
         ensures { IfOk result (λ d. IsDraftOf [] d × (d.lost ≡ false) × (d.cut ≡ false)) }
     {
@@ -107,11 +106,11 @@ impl Draft {
         self.lost = true;
     }
 
-    /// The part of a worker that was given these slices and has ended. Of a cut sending nothing is kept.
+    /// Returns the part of a worker that was given these slices and has ended.
     ///
     /// # Errors
     ///
-    /// Memory where words were lost, else TooMany where the sending was cut.
+    /// `Memory` if words were lost, else `TooMany` if the sending was cut.
     pub fn into_part(self, given: Vec<u16>) -> Result<Part, GatherFault>
         requires { fault_in_draft self ≡ None
             → HasEnds given.items self.ends.items (length self.got.items) }

@@ -42,6 +42,7 @@ pub(crate) struct Equipment {
 
 impl Equipment {
     /// That of a worker that may be given `slices` slices.
+    #[tactic(auto, using(std::proofs::lemmas::Grind::common_steps))]
     pub fn new(alloc: Global, slices: u16) -> Result<Equipment, GatherFault>
         ensures { IfErr result IsEarly }
     {

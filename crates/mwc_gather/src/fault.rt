@@ -6,8 +6,7 @@ ghost use Rattle.mwc_gather.specs.declared.fault.GatherFault.TheVariants.{Memory
 use std::alloc::AllocError;
 use thiserror::Error;
 
-/// Why nothing was gathered. Of several causes the one is told that comes first in this order: Start,
-/// Memory, Ring, TooMany.
+/// Why nothing was gathered: of several causes the first of `Start`, `Memory`, `Ring`, `TooMany`.
 #[derive(Clone, Copy, Debug, Eq, Error, PartialEq)]
 pub enum GatherFault {
     /// The game has more minimal winning coalitions than were asked for.
@@ -16,7 +15,7 @@ pub enum GatherFault {
     /// A thread could not be started, whatever the cause.
     #[error("a worker could not be started")]
     Start,
-    /// A growth was refused.
+    /// An allocation was refused.
     #[error("out of memory")]
     Memory,
     /// A ring could not be finished.

@@ -19,12 +19,13 @@ pub struct Gathered {
 }
 
 impl Gathered {
-    /// The coalitions of all parts, slice after slice: after `gather`, all minimal winning coalitions in
-    /// listing order.
+    /// Copies the coalitions of all parts, slice after slice.
+    ///
+    /// After `gather` these are all minimal winning coalitions in listing order.
     ///
     /// # Errors
     ///
-    /// Memory where a growth was refused.
+    /// `Memory` if an allocation was refused.
     #[tactic(auto, using(crate::proofs::Searches::for_in_order))]
     pub fn in_order(&self, alloc: Global) -> Result<Vec<Coalition>, Memory>
         ensures { (slice : ℕ → List ℕ) → All (HasPieces slice) self.now.parts.items
@@ -37,12 +38,14 @@ impl Gathered {
         Ok(all)
     }
 
-    /// The coalitions of each slice where they lie, slice after slice: joined, they are what
-    /// `in_order` gives. Only the row of pieces takes memory, and no coalition is copied.
+    /// Borrows the coalitions of each slice, slice after slice.
+    ///
+    /// Joined, they are what `in_order` returns. Only the row of pieces takes memory, and no
+    /// coalition is copied.
     ///
     /// # Errors
     ///
-    /// Memory where a growth was refused.
+    /// `Memory` if an allocation was refused.
     pub fn pieces(&self, alloc: Global) -> Result<Vec<&[Coalition]>, Memory>
         ensures each { (slice : ℕ → List ℕ) → All (HasPieces slice) self.now.parts.items
             → IfOk result (λ row.
@@ -59,7 +62,7 @@ impl Gathered {
         Ok(row)
     }
 
-    /// The piece of a slice.
+    /// Returns the coalitions of a slice.
     fn piece(&self, j: u16) -> &[Coalition]
         requires { j < self.now.slices }
         ensures { (slice : ℕ → List ℕ) → All (HasPieces slice) self.now.parts.items

@@ -29,18 +29,19 @@ use std::sync::Wait;
 use std::thread;
 use std::thread::{Scope, Threads};
 
-/// Lists the minimal winning coalitions of the game by workers that run beside each other, each in
-/// a thread of its own, where there are at most `most`: slice w goes first to worker w, and then the
-/// lowest slice that no worker has to the one that has finished its own. It returns once all workers
-/// have ended.
+/// Lists the minimal winning coalitions of the game, if there are at most `most`.
+///
+/// Each worker runs in a thread of its own. Worker w begins with slice w; whoever has finished its
+/// slices gets the lowest slice that no worker has. The call returns after all workers have ended.
 ///
 /// There are at most 10 bits, and no more than members; 1 to 16 workers; `most` is 1 to 4,000,000.
 ///
 /// # Errors
 ///
-/// The first of Start, Memory, Ring and TooMany that was met. Where none of the first three was, it
-/// is TooMany exactly where the game has more than `most` minimal winning coalitions. After any of
-/// them no further slice is given, and nothing is kept.
+/// The first of `Start`, `Memory`, `Ring` and `TooMany` that was met. Without the first three it is
+/// `TooMany` exactly if the game has more than `most` minimal winning coalitions. After a fault no
+/// further slice is given, and nothing is kept.
+#[tactic(auto, using(std::proofs::lemmas::Grind::common_steps))]
 pub fn gather<R: Threads + Wait + Sync, G: Gate + Sync>(
     rt: &R,
     alloc: Global,
@@ -73,7 +74,8 @@ pub fn gather<R: Threads + Wait + Sync, G: Gate + Sync>(
     )
 }
 
-/// Starts the workers, deals the slices while they run, and joins them.
+/// Starts the workers, gives them slices while they run, and joins them.
+#[tactic(auto, using(std::proofs::lemmas::Grind::common_steps))]
 fn run<'s, E, R: Threads + Wait + Sync, G: SliceObserver + Sync>(
     scope: &Scope<'s, E>,
     rt: &'s R,
@@ -96,7 +98,7 @@ fn run<'s, E, R: Threads + Wait + Sync, G: SliceObserver + Sync>(
     all_of(job, workers, parts)
 }
 
-/// All that was gathered, unless there is more than was asked for.
+/// Returns all that was gathered, unless there is more than was asked for.
 fn all_of<G>(job: &Job<'_, G>, workers: u8, parts: Vec<Part>) -> Result<Gathered, GatherFault>
     requires { IsComplete (slices_of job.now) workers parts.items }
     ensures answers { Answers job.now workers result }
@@ -113,6 +115,7 @@ fn all_of<G>(job: &Job<'_, G>, workers: u8, parts: Vec<Part>) -> Result<Gathered
 
 /// Starts the workers, until one cannot be started, and returns their desks and why that was. Room
 /// for the desks is made first.
+#[tactic(auto, using(std::proofs::lemmas::Grind::common_steps))]
 fn open_all<'s, E, R: Threads + Wait + Sync, G: SliceObserver + Sync>(
     scope: &Scope<'s, E>,
     rt: &'s R,
@@ -141,7 +144,7 @@ fn open_all<'s, E, R: Threads + Wait + Sync, G: SliceObserver + Sync>(
     (desks, None)
 }
 
-/// Joins all workers, and gives the part of each, or the fault that goes before the others.
+/// Joins all workers, and returns the part of each, or the fault that is answered.
 fn finish_all<R: Threads, G>(
     rt: &R,
     alloc: Global,

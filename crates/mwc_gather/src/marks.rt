@@ -26,7 +26,7 @@ impl Model for Marks {
 }
 
 impl Marks {
-    /// A table of 1 to 1024 slices, in which none has a holder.
+    /// Makes a table of 1 to 1024 slices without holders.
     pub fn new(slices: u16) -> Marks
         requires { (1 ≤ slices) × (slices ≤ SLICES) }
         ensures { result ≡ replicate slices None }
@@ -37,7 +37,7 @@ impl Marks {
         }
     }
 
-    /// Gives the slice to the worker and answers true, if it has no holder; else changes nothing.
+    /// Gives the slice to the worker if it has no holder, and returns whether it did.
     #[tactic(auto, using(crate::proofs::Searches::for_give))]
     pub fn give(&mut self, slice: u16, worker: u8) -> bool
         requires slice { slice < length self.old }
@@ -53,7 +53,7 @@ impl Marks {
         true
     }
 
-    /// The worker that the slice was given to.
+    /// Returns the worker that the slice was given to.
     pub fn holder(&self, slice: u16) -> Option<u8>
         requires { slice < length self.now }
         ensures { result ≡ slice_index_or self.now slice None }
@@ -61,7 +61,7 @@ impl Marks {
         self.holders[usize::from(slice)]
     }
 
-    /// The lowest slice without a holder.
+    /// Returns the lowest slice without a holder.
     pub fn lowest(&self) -> Option<u16>
         ensures { MatchOption result (All IsSome self.now) (λ j. IsFirstFree self.now j) }
     {
@@ -73,7 +73,7 @@ impl Marks {
         None
     }
 
-    /// Whether each slice has a holder.
+    /// Returns whether each slice has a holder.
     pub fn all_given(&self) -> bool
         ensures { IsTrue result ↔ All IsSome self.now }
     {

@@ -21,7 +21,7 @@ pub struct Part {
 impl Part {
     ghost use Rattle.mwc_gather.specs.Parts.{piece};
 
-    /// Where the slice stands, if it does.
+    /// Returns the place of the slice, if it is here.
     pub(crate) fn place(&self, slice: u16) -> Option<usize>
         ensures { MatchOption result (times_in slice self.now.slices.items ≡ 0)
             (λ m. (m < length self.now.slices.items) ×
@@ -35,7 +35,7 @@ impl Part {
         None
     }
 
-    /// A piece: the coalitions of one slice.
+    /// Returns the coalitions of the slice at place `m`.
     pub(crate) fn piece(&self, m: usize) -> &[Coalition]
         requires { m < length self.now.slices.items }
         ensures { result.now ≡ piece self.now m }
@@ -43,7 +43,7 @@ impl Part {
         &self.got[self.start(m)..self.ends[m] as usize]
     }
 
-    /// How many coalitions there are before a slice.
+    /// Returns how many coalitions come before that slice.
     fn start(&self, m: usize) -> usize
         requires { m < length self.now.slices.items }
         ensures { result ≡ slice_index (0 ∷ self.now.ends.items) m }
@@ -55,7 +55,7 @@ impl Part {
     }
 }
 
-/// Whether all parts together have at most `most` coalitions.
+/// Returns whether all parts together have at most `most` coalitions.
 pub(crate) fn fits(parts: &[Part], most: u32) -> bool
     ensures few { result ≡ true → sum_by (λ p. length p.got.items) parts.now ≤ most }
     ensures many { result ≡ false → most < sum_by (λ p. length p.got.items) parts.now }

@@ -28,6 +28,7 @@ pub(crate) trait PutsRows<P: PipeIn<Word>> {
 pub(crate) struct WordByWord;
 
 impl<P: PipeIn<Word>> PutsRows<P> for WordByWord {
+    #[tactic(auto, using(std::proofs::lemmas::Grind::common_steps))]
     fn put_row(out: &mut P, words: &[Word]) -> Came {
         for accepted in 0..words.len() {
             let refused = match out.put(words[accepted]) {

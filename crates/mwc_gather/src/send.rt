@@ -17,8 +17,9 @@ use mwc_pipe::{PipeIn, Word};
 use mwc_walk::Walk;
 use std::sync::Wait;
 
-/// Puts the words in, and waits while the pipe is full; false where the pipe refuses one for good.
-/// It rings the other bell for what it has put in, and sleeps at its own.
+/// Puts the words in, waits while the pipe is full, and returns false if the pipe refuses one for
+/// good. It rings the other bell for what it has put in, and sleeps at its own.
+#[tactic(auto, using(std::proofs::lemmas::Grind::common_steps))]
 pub(crate) fn send<W: PutsRows<P>, R: Wait, P: PipeIn<Word>>(
     rt: &R,
     words: &[Word],
@@ -51,8 +52,9 @@ pub(crate) fn send<W: PutsRows<P>, R: Wait, P: PipeIn<Word>>(
     unreachable!()
 }
 
-/// Adds the word to the parcel, which is sent first where it is full; false where the pipe refuses a
-/// word for good.
+/// Adds the word to the parcel, which is sent first if it is full. Returns false if the pipe refuses
+/// a word for good.
+#[tactic(auto, using(std::proofs::lemmas::Grind::common_steps))]
 fn add<W: PutsRows<P>, R: Wait, P: PipeIn<Word>>(
     rt: &R,
     parcel: &mut Parcel,
@@ -78,7 +80,8 @@ fn add<W: PutsRows<P>, R: Wait, P: PipeIn<Word>>(
     true
 }
 
-/// Adds the last word to the parcel, and sends it all; false where the pipe refuses a word for good.
+/// Adds the last word to the parcel, and sends all of it. Returns false if the pipe refuses a word
+/// for good.
 fn send_last<W: PutsRows<P>, R: Wait, P: PipeIn<Word>>(
     rt: &R,
     parcel: &mut Parcel,
@@ -98,8 +101,9 @@ fn send_last<W: PutsRows<P>, R: Wait, P: PipeIn<Word>>(
     send::<W, _, _>(rt, parcel.words(), out, pair)
 }
 
-/// Passes the gate, and sends the words of a slice, but of its coalitions no more than the first
-/// `left`, which is 1 to 4,000,001. While the pipe is full it waits. It takes no memory.
+/// Passes the gate, and sends the words of a slice, up to its coalition number `left`.
+///
+/// `left` is 1 to 4,000,001. It waits while the pipe is full, and takes no memory.
 ///
 /// There are at most 10 bits, and no more than members; `slice` is below 2^bits, `worker` below 16.
 pub fn send_slice<R: Wait, P: PipeIn<Word>, G: Gate>(

@@ -1,8 +1,9 @@
-//! Waiting that gives the processor away: a thread that finds nothing to do looks again a few times,
-//! then says that it is about to sleep, looks once more, and sleeps until it is woken. How often it
-//! looks follows what came of it: an eighth less often after each sleep, as where there are fewer
-//! processors than threads, and twice as often after a look that found something. No contract depends
-//! on it. A wake-up that is lost costs one millisecond, the longest sleep, and no more.
+//! Waiting that yields the processor.
+//!
+//! A thread that finds nothing to do looks again a few times, says that it is about to sleep, looks
+//! once more, and sleeps until it is woken. After each sleep it looks an eighth less often, and after
+//! a look that found something twice as often. No contract depends on this. A lost wake-up costs one
+//! millisecond, the longest sleep.
 ghost use Rattle.std.specs.Prelude.{◌<◌};
 ghost use Rattle.coalitions.specs.declared.limits.TheConstants.{WORKERS};
 

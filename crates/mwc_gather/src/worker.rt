@@ -20,7 +20,7 @@ use mwc_pipe::{Closed, RingIn, RingOut, Unfinished, Word};
 use mwc_walk::slice_count;
 use std::sync::Wait;
 
-/// The slice that a task gives, of this number of slices; none where the work ends.
+/// Returns the slice that a task gives, or `None` if the task ends the work.
 fn slice_of(task: Word, slices: u16) -> Option<u16>
     ensures { MatchOption result (IsLast slices task) (λ j. (j < slices) × (task ≡ Open j)) }
 {
@@ -30,7 +30,7 @@ fn slice_of(task: Word, slices: u16) -> Option<u16>
     }
 }
 
-/// Waits for the next slice; none where the work ends.
+/// Waits for the next slice, and returns it, or `None` if the work ends.
 fn next_task<R: Wait>(rt: &R, slices: u16, tasks: &mut RingOut, pair: BellPair<'_>) -> Option<u16>
     ensures ring { tasks.new.ring ≡ tasks.old.ring }
     ensures taken { MatchOption result (TakesLast slices tasks.old.taken tasks.new.taken)
@@ -48,7 +48,7 @@ fn next_task<R: Wait>(rt: &R, slices: u16, tasks: &mut RingOut, pair: BellPair<'
     unreachable!()
 }
 
-/// Sends the End and closes.
+/// Sends the End, and closes the ring.
 fn finish<R: Wait>(
     rt: &R,
     mut out: RingIn,
@@ -104,6 +104,7 @@ pub fn work<R: Wait, G: Gate>(
 }
 
 /// As `work`. It rings the other bell for what it has put in or taken, and sleeps at its own.
+#[tactic(auto, using(std::proofs::lemmas::Grind::common_steps))]
 pub(crate) fn work_beside<R: Wait, G: SliceObserver>(
     rt: &R,
     job: &Job<'_, G>,

@@ -6,7 +6,9 @@ use Rattle.council_run.specs.Run.{IsOutcome, Reads}
 use Rattle.council_run.proofs.runs.run.Goals as goal
 
 pub report_found-requires : goal.report_found-requires
-report_found-requires g c = finds-found _ _ _ _ (c.list_by_workers-found.ensures c.lines.result)
+report_found-requires g c =
+    finds-found (Some c.args.options.now.most) c.lines.result c.in_ok-game.game c.list_by_workers-found.result
+    (c.list_by_workers-found.ensures c.lines.result)
 
 pub returns : goal.returns
 returns g c =
@@ -15,4 +17,4 @@ returns g c =
     let P : ReportLines → Type 0 = λ lines. IsOutcome (report lines) (Some c.args.options.now.most) (Reads unread left)
     (g.W.Write.contents c.args.writer.now) (g.W.Write.contents c.report_found.new.writer) c.report_found.result in
     subst P c.lines.ensures (c.report_found.ensures.outcome (Some c.args.options.now.most) unread left
-    (c.list_by_workers-found.ensures c.lines.result) (c.in_ok-game.ensures tt))
+    (c.list_by_workers-found.ensures c.lines.result) c.in_ok-game.ensures)

@@ -14,12 +14,3 @@ loop-worker-preserved g c =
       subst (λ (w : List Desk). All IsFresh (views_of w)) (sym c.push_reserved.ensures.items)
           (fresh_push c.loop-worker.desks.items c.in-Ok.desk i.3 c.in-Ok.ensures.fresh),
     )
-
-pub returns-then-is_err : goal.returns-then-is_err
-returns-then-is_err g c = grind (arith, common_steps)
-
-pub returns-in-Err : goal.returns-in-Err
-returns-in-Err g c = grind arith
-
-pub returns : goal.returns
-returns g c = grind arith

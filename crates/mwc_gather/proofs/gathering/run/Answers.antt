@@ -26,14 +26,5 @@ finish_all-requires-clause-dealt g c =
 pub returns-in_err-parts : goal.returns-in_err-parts
 returns-in_err-parts g c = grind (arith, all_total_is)
 
-pub read_all-requires : goal.read_all-requires
-read_all-requires g c = grind arith
-
-pub finish_all-requires-clause-start : goal.finish_all-requires-clause-start
-finish_all-requires-clause-start g c = grind arith
-
-pub all_of-requires : goal.all_of-requires
-all_of-requires g c = grind arith
-
 pub returns : goal.returns
 returns g c = c.all_of.ensures.answers

@@ -1,9 +1,6 @@
 use Rattle.mwc_gather.proofs.{FirstWords.first_more, Imports.common_steps, Imports.drop, Imports.arith}
 use Rattle.mwc_gather.proofs.send.send.Goals as goal
 
-pub loop-init : goal.loop-init
-loop-init g c = grind (arith, common_steps)
-
 pub returns-then-came-clause-refused : goal.returns-then-came-clause-refused
 returns-then-came-clause-refused g c = λ z.
     let came = c.put_row-came in
@@ -15,9 +12,3 @@ returns-then-came-clause-refused g c = λ z.
       ),
       came.ensures.refused c.if-came.true,
     )
-
-pub returns-then-is_empty : goal.returns-then-is_empty
-returns-then-is_empty g c = grind (arith, common_steps)
-
-pub loop-preserved : goal.loop-preserved
-loop-preserved g c = grind (arith, common_steps)

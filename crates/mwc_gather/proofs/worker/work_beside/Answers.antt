@@ -2,12 +2,6 @@ use Rattle.mwc_gather.proofs.Imports.{◌≡◌, ℕ, ◌+◌, ◌<◌, List, []
 use Rattle.mwc_gather.proofs.Imports.{Slicing, slice_words, coalition_count, slices_of, map_push, flat_map_more, sum_by_push}
 use Rattle.mwc_gather.proofs.worker.work_beside.Goals as goal
 
-pub loop-init : goal.loop-init
-loop-init g c = grind arith
-
-pub send_behind-sent-requires : goal.send_behind-sent-requires
-send_behind-sent-requires g c = grind arith
-
 pub loop-preserved : goal.loop-preserved
 loop-preserved g c =
     let game : Slicing = slices_of c.args.job.now in
@@ -34,9 +28,3 @@ loop-preserved g c =
         All-push (λ (i : ℕ). i < game.slices) inv.0 j inv.4 low,
       ),
     )
-
-pub returns-in_default : goal.returns-in_default
-returns-in_default g c = grind arith
-
-pub returns-in-Cut : goal.returns-in-Cut
-returns-in-Cut g c = grind arith

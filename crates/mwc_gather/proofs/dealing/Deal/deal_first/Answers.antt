@@ -20,6 +20,3 @@ returns g c =
     let q : c.loop-i.i ≡ length c.args.desks.now = omega arith in
     let job = c.args.job.now in
     subst (λ (k : ℕ). DealsFirst (slices_of job) job.most c.args.self.now.stopped c.loop-i.self k c.loop-i.desks) q c.loop-i.invariant
-
-pub deal_to-requires : goal.deal_to-requires
-deal_to-requires g c = grind (arith, common_steps)

@@ -6,14 +6,8 @@ use Rattle.mwc_gather.proofs.dealing.Deal.read_all.Goals as goal
 pub deal_first-requires : goal.deal_first-requires
 deal_first-requires g c = c.requires
 
-pub loop-init : goal.loop-init
-loop-init g c = grind (arith, common_steps)
-
 pub loop-i-init : goal.loop-i-init
 loop-i-init g c = (c.loop.invariant, λ _. All-nil (λ d. d.ended ≡ true))
-
-pub turn-moved-requires : goal.turn-moved-requires
-turn-moved-requires g c = grind (arith, common_steps)
 
 pub loop-i-preserved : goal.loop-i-preserved
 loop-i-preserved g c =
@@ -35,15 +29,3 @@ loop-preserved-then-moved g c = c.loop-i.invariant.0
 
 pub loop-preserved : goal.loop-preserved
 loop-preserved g c = c.loop-i.invariant.0
-
-pub offset_bounds-desks-i : goal.offset_bounds-desks-i
-offset_bounds-desks-i g c = omega arith
-
-pub bounds-desks-i : goal.bounds-desks-i
-bounds-desks-i g c = omega arith
-
-pub overflow_cast-i : goal.overflow_cast-i
-overflow_cast-i g c = omega arith
-
-pub pair-requires : goal.pair-requires
-pair-requires g c = omega arith
