@@ -4,9 +4,8 @@ use Rattle.mwc_sums.proofs.Imports.{◌≡◌, ◌∙◌, ◌↔◌, ◌⊎◌, 
 use Rattle.mwc_sums.proofs.Imports.{get_or, take, sym, ap, arith, range_with_len, cases_lt, length-filter, RuleView, Votes, nat_tests, refl}
 use Rattle.mwc_sums.proofs.Imports.{false, ltb, ◌++◌, map, filter, inl, inr, le-ltb, down, minimal_coalitions, suc, IsVotes, has, without}
 use Rattle.mwc_sums.proofs.Imports.{weight, size, wins, minimal, rule_at, weight-without, rule-is, sum-range, zero, ◌==◌, ◌||◌, not}
-use Rattle.mwc_sums.proofs.Imports.{down-below}
-use Rattle.std.proofs.lemmas.{Bool.cond-false, Bool.cond-true, List.get_or-replicate, List.length-replicate}
-use Rattle.std.proofs.Common.{lt-ltb, replicate}
+use Rattle.mwc_sums.proofs.Imports.{down-below, get_or-replicate, replicate}
+use Rattle.std.proofs.{Common.lt-ltb, lemmas.Bool.cond-false, lemmas.Bool.cond-true, lemmas.List.length-replicate}
 use Rattle.power_index.proofs.Shared.Sums.{sum-times}
 use Rattle.mwc_sums.specs.{Completing.completing, Heads.AsksForHeads, Heads.first_rule, Heads.IsMinimalByHeads}
 use Rattle.mwc_sums.proofs.Completing.{IsLeast, wins-one, last-in, last-behind, Falls, double-pow, first-in, first-out, last, none-or-some}

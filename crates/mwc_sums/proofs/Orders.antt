@@ -1,9 +1,9 @@
 -- The counts of a game do not depend on the order of its rules, nor on the order of its places.
 use Rattle.mwc_sums.proofs.Imports.{AllPass-from_list_all, list_all-from_AllPass, RuleView, minimal, minimal_coalitions, GameView, IsGame}
 use Rattle.mwc_sums.proofs.Imports.{◌≡◌, ◌∙◌, ◌==◌, ◌&&◌, ℕ, ◌<◌, Bool, true, leb, List, length, filter, sym, ap, refl, arith, votes_of}
-use Rattle.mwc_sums.proofs.Imports.{contains, size_of, met, weighs, AreRulesOf}
+use Rattle.mwc_sums.proofs.Imports.{contains, size_of, met, weighs, AreRulesOf, Tables}
 use Rattle.std.proofs.{Common.IsPermutation, lemmas.List.Sorted.All-permutation, lemmas.List.Sorted.IsPermutation-sym}
-use Rattle.power_index.specs.Tables.{Tables, AreCounts}
+use Rattle.power_index.specs.Tables.{AreCounts}
 use Rattle.coalitions.proofs.Shared.Lists.{filter-all}
 use Rattle.mwc_sums.specs.Orders.{HaveTheSameRules}
 use Rattle.mwc_sums.proofs.{Joining.Holds, Joining.alike-count, Placed.game-holds, Placed.met-looks, Placed.seen-contains}

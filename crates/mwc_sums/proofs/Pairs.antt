@@ -1,12 +1,11 @@
 -- How many coalitions of a game are one of each of two games together, and the tallies of them.
 use Rattle.mwc_sums.proofs.Imports.{◌≡◌, ◌∙◌, ◌==◌, ◌&&◌, ℕ, ◌+◌, ◌-◌, ◌*◌, ◌^◌, ◌<◌, ◌≤◌, Bool, List, [], ◌∷◌, length, get_or, filter, sym}
+use Rattle.mwc_sums.proofs.Imports.{arith, nat_tests, sum_by, range_with_len, sum_by-range-more, has, minimal_coalitions, GameView, ap, leb}
+use Rattle.mwc_sums.proofs.Imports.{true, contains, met, sum_by-cons, sum-range, sum-filter, minimal, down, minimal_of_member_size, Tables}
 use Rattle.mwc_sums.proofs.Imports.{IsGame, votes_of, size_of, minimal-few, AreChambersOf, minimal_of_size, sum-plus, filter-both, refl}
-use Rattle.mwc_sums.proofs.Imports.{arith, nat_tests, sum_by, range_with_len, sum_by-range-more, has, minimal_coalitions, GameView, ap}
-use Rattle.mwc_sums.proofs.Imports.{leb, true, contains, met, sum_by-cons, sum-range, sum-filter, minimal, down}
-use Rattle.mwc_sums.specs.{Chambers.paired, Chambers.minimal_of_member_size, declared.counted_game.CountedGame.CountedGame}
-use Rattle.power_index.specs.Tables.{Tables, table_of_member_size, table_of_size}
+use Rattle.mwc_sums.specs.{Chambers.paired, declared.counted_game.CountedGame.CountedGame}
+use Rattle.power_index.specs.{Counting.count_of_size, Counting.count_of_member_size, Tables.table_of_member_size, Tables.table_of_size}
 use Rattle.coalitions.proofs.Shared.Ranges.{sum_by-range-le}
-use Rattle.power_index.specs.Counting.{count_of_size, count_of_member_size}
 use Rattle.power_index.proofs.Shared.{Members.size-le, Sums.length-filter-le, Sums.sum-by_size}
 use Rattle.mwc_sums.proofs.Seating.{one_if}
 use Rattle.mwc_sums.proofs.Joining.{Holds, IsJoint, apart, counted, joined, size-union, union}
@@ -124,50 +123,47 @@ abbrev pub member-pairs : Tables → Tables → ℕ → ℕ → ℕ → ℕ
 member-pairs a b i s j = table_of_member_size a i j * table_of_size b (s - j) + table_of_size a j * table_of_member_size b i (s - j)
 
 module _ (g : GameView) (a b : CountedGame) (is_g : IsGame g) (are : AreChambersOf g a.game b.game) (s : ℕ) (le : s ≤ length g.names) where
-  size-at : (j : ℕ) → j < s + 1 → size-pairs a.counts.value b.counts.value s j ≡ minimal_of_size a.game j * minimal_of_size b.game (s - j)
-  size-at j lt = grind (arith, a.are.of_size j, b.are.of_size (s - j), a.are.members, b.are.members, are.first, are.second)
+  abbrev both : ℕ → ℕ
+  both = size-pairs a.counts.value b.counts.value s
 
   pub all-pairs : (n x : ℕ) → x ≡ sum_by (size-pairs a.counts.value b.counts.value s) (range_with_len 0 n) → n ≡ s + 1 → x ≡ minimal_of_size g s
   all-pairs n x is e =
-      is ∙ ap (λ (n : ℕ). sum_by (size-pairs a.counts.value b.counts.value s) (range_with_len 0 n)) e
-      ∙ sum-range (size-pairs a.counts.value b.counts.value s) (λ j. minimal_of_size a.game j * minimal_of_size b.game (s - j)) 0 (s + 1)
-      (λ j _ lt. size-at j (omega (arith, lt))) ∙ sym (chamber-sizes g a.game b.game is_g a.is b.is are s)
+      let same = sum-range both (λ j. minimal_of_size a.game j * minimal_of_size b.game (s - j)) 0 (s + 1) (λ j _ lt.
+      grind (arith, a.are.of_size j, b.are.of_size (s - j), a.are.members, b.are.members, are.first, are.second)) in
+      grind (arith, same, chamber-sizes g a.game b.game is_g a.is b.is are s)
 
   pub pairs-more : (j : ℕ) → j < s + 1 → size-pairs a.counts.value b.counts.value s j
       + sum_by (size-pairs a.counts.value b.counts.value s) (range_with_len 0 j) ≤ 2 ^ 40
   pairs-more j lt =
-      let part = sum_by-range-le (size-pairs a.counts.value b.counts.value s) (j + 1) (s + 1) in
-      grind (arith, part, sum_by-range-more (size-pairs a.counts.value b.counts.value s) j, all-pairs (s + 1), few-of g (λ c. size_of g c == s) is_g)
+      let part = sum_by-range-le both (j + 1) (s + 1) in
+      grind (arith, part, sum_by-range-more both j, all-pairs (s + 1), few-of g (λ c. size_of g c == s) is_g)
 
   module _ (i : ℕ) (li : i < length g.names) where
     abbrev each : ℕ → ℕ
     each = member-pairs a.counts.value b.counts.value i s
 
-    member-at : (j : ℕ) → j < s + 1 → each j
-        ≡ minimal_of_member_size a.game i j * minimal_of_size b.game (s - j) + minimal_of_size a.game j * minimal_of_member_size b.game i (s - j)
-    member-at j lt =
-        grind (
-          arith,
-          size-at j lt,
-          a.are.of_member_size i j,
-          b.are.of_member_size i (s - j),
-          a.are.of_size j,
-          b.are.of_size (s - j),
-          a.are.members,
-          b.are.members,
-          are.first,
-          are.second,
-        )
+    abbrev in_a : ℕ → ℕ
+    in_a j = minimal_of_member_size a.game i j * minimal_of_size b.game (s - j)
+
+    abbrev in_b : ℕ → ℕ
+    in_b j = minimal_of_size a.game j * minimal_of_member_size b.game i (s - j)
 
     pub each-pairs : (n x : ℕ) → x ≡ sum_by (member-pairs a.counts.value b.counts.value i s) (range_with_len 0 n) → n ≡ s + 1
         → x ≡ minimal_of_member_size g i s
     each-pairs n x is e =
-        is ∙ ap (λ (n : ℕ). sum_by each (range_with_len 0 n)) e
-        ∙ sum-range each (λ j. minimal_of_member_size a.game i j * minimal_of_size b.game (s - j)
-        + minimal_of_size a.game j * minimal_of_member_size b.game i (s - j)) 0 (s + 1) (λ j _ lt. member-at j (omega (arith, lt)))
-        ∙ sum-plus (λ j. minimal_of_member_size a.game i j * minimal_of_size b.game (s - j))
-        (λ j. minimal_of_size a.game j * minimal_of_member_size b.game i (s - j)) (range_with_len 0 (s + 1))
-        ∙ sym (chamber-members g a.game b.game is_g a.is b.is are i s li)
+        let same = sum-range each (λ j. in_a j + in_b j) 0 (s + 1) (λ j _ lt.
+        grind (
+          arith,
+          a.are.of_size j,
+          b.are.of_size (s - j),
+          a.are.of_member_size i j,
+          b.are.of_member_size i (s - j),
+          a.are.members,
+          b.are.members,
+          are.first,
+          are.second,
+        )) in
+        grind (arith, same, sum-plus in_a in_b (range_with_len 0 (s + 1)), chamber-members g a.game b.game is_g a.is b.is are i s li)
 
     pub each-more : (j : ℕ) → j < s + 1 → member-pairs a.counts.value b.counts.value i s j
         + sum_by (member-pairs a.counts.value b.counts.value i s) (range_with_len 0 j) ≤ 2 ^ 40

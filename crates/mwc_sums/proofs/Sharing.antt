@@ -1,10 +1,10 @@
 -- The rules that share a member with one, and the others.
-use Rattle.mwc_sums.proofs.Imports.{AreRulesOf, filter-both, ◌≡◌, ◌≢◌, ◌&&◌, ◌||◌, not, ◌⊎◌, ℕ, ◌+◌, ◌<◌, ◌≤◌, Bool, true, false, ltb, take}
 use Rattle.mwc_sums.proofs.Imports.{true_from_ne_false, length-filter_both, AllPass-from_list_all, list_all-from_AllPass, All-filter, refl}
 use Rattle.mwc_sums.proofs.Imports.{◌-◌, length, get_or, All-from_get_or, RuleView, rule_at, GameView, nat_tests, met, share, chamber_of}
+use Rattle.mwc_sums.proofs.Imports.{AreRulesOf, filter-both, ◌≡◌, ◌&&◌, ◌||◌, not, ◌⊎◌, ℕ, ◌+◌, ◌<◌, ◌≤◌, Bool, true, false, ltb, take}
 use Rattle.mwc_sums.proofs.Imports.{filter, List, [], ◌∷◌, HasNoWeight, AreChambersOf, are_of_one_chamber, is_counted, statute, IsFair}
 use Rattle.mwc_sums.proofs.Imports.{arith, inl, inr, All, side}
-use Rattle.std.proofs.lemmas.List.Elements.{All-take}
+use Rattle.std.proofs.{Common.◌≢◌, lemmas.List.Elements.All-take}
 use Rattle.mwc_sums.specs.{Inner.Rules.AreOfChambers, Inner.Rules.beside_of, Inner.Rules.part_of, Statute.counted, Statute.left}
 use Rattle.mwc_sums.proofs.Counting.{filter-within, All-passing, any-at, any-of, missing}
 use Rattle.mwc_sums.proofs.VetoRules.{good-met, good-some, alike-sum}

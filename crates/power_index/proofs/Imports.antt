@@ -1,13 +1,13 @@
--- The words of other libraries and of the definitions that two or more files of these proofs take.
-pub use Rattle.coalitions.specs.SizeCounts.{AreAdded}
+-- The words of other libraries and of the definitions that two or more files of these proofs take; `tools/imports.py` writes them.
 pub use Rattle.coalitions.proofs.Shared.{Digits.lowest-place, Lists.sum-swap}
+pub use Rattle.coalitions.specs.SizeCounts.{AreAdded}
 pub use Rattle.council_game.proofs.Shared.{Games.votes-are, Making.ranks-are}
 pub use Rattle.council_game.specs.{Game.AreNonemptyCoalitions, Game.GameView, Game.IsGame, Votes.size}
 pub use Rattle.power_index.specs.Counting.{contains, count_of_member, members, size_of}
 pub use Rattle.power_index.specs.Fractions.{AreCoprime, IsLowestOf, SameFraction, unit_sum}
 pub use Rattle.power_index.specs.{Indices.sizes_of_member, Inner.Tables.with_one}
 pub use Rattle.power_index.specs.Tables.{table_deegan_packel, table_memberships, table_of_member, table_of_member_size, table_public_good}
-pub use Rattle.power_index.specs.Tables.{AreCounts, AreOfOneGame, AreSound, AreTallies, AreSizeCounts, Tables, denominator}
+pub use Rattle.power_index.specs.Tables.{AreCounts, AreOfOneGame, AreSizeCounts, AreSound, AreTallies, Tables, denominator}
 pub use Rattle.power_index.specs.Tables.{table_total, total_of_sizes, weighted_sum}
 pub use Rattle.std.proofs.Common.{All, Bool, List, [], ap, arith, cond, div-le_self, false, filter, get_or, inl, inr, length, length-append}
 pub use Rattle.std.proofs.Common.{map, mod-lt, mul-le-mul, mul-pos, refl, replicate, subst, suc, sum_by, sym, take, true, zero, ℕ, ◌%◌}

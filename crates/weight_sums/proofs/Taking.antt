@@ -2,8 +2,8 @@
 use Rattle.weight_sums.proofs.Imports.{pow_mono, ◌≡◌, ℕ, ◌+◌, ◌*◌, ◌<◌, ◌≤◌, ◌^◌, List, [], ◌∷◌, ◌++◌, length, take, get_or, set, nat_tests}
 use Rattle.weight_sums.proofs.Imports.{mul-le-mul_left, pow_pos, sum_by_push, sum_by_more, Prefixes, cond, replicate, ltb, zero, suc, ap}
 use Rattle.weight_sums.proofs.Imports.{refl, arith, ◌-◌, get_or-set_same, get_or-set_other, All, choose, fill, one_of_size, taken, weigh}
-use Rattle.weight_sums.proofs.Imports.{prefixes, mul-le-mul_right, sum_by-take-le, AreTaken, sum_by-cons, get_or-zeros}
-use Rattle.std.proofs.Common.{length-set, max}
+use Rattle.weight_sums.proofs.Imports.{prefixes, mul-le-mul_right, sum_by-take-le, AreTaken, sum_by-cons, get_or-zeros, length-set}
+use Rattle.std.proofs.Common.{max}
 use Rattle.coalitions.proofs.Shared.Lists.{bumped}
 use Rattle.weight_sums.proofs.Shared.Choices.{choose-none}
 

@@ -1,5 +1,4 @@
-use Rattle.mwc_sums.proofs.Imports.{arith, refl}
-use Rattle.coalitions.proofs.Shared.Lists.{get_or-zeros}
+use Rattle.mwc_sums.proofs.Imports.{arith, refl, get_or-zeros}
 use Rattle.mwc_sums.proofs.counted_game.pairs_with.Goals as goal
 
 pub loop-size-init : goal.loop-size-init

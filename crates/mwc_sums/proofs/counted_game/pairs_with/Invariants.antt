@@ -1,5 +1,4 @@
-use Rattle.mwc_sums.proofs.Imports.{◌≡◌, ℕ, ◌<◌, ◌≤◌, length, get_or}
-use Rattle.mwc_sums.specs.Chambers.{minimal_of_member_size}
+use Rattle.mwc_sums.proofs.Imports.{◌≡◌, ℕ, ◌<◌, ◌≤◌, length, get_or, minimal_of_member_size}
 use Rattle.mwc_sums.proofs.counted_game.pairs_with.Given as goal
 
 abbrev pub invariant-loop-size : goal.invariant-loop-size

@@ -1,5 +1,4 @@
-use Rattle.weight_sums.proofs.Imports.{arith, get_or-set_same, get_or-set_other}
-use Rattle.std.proofs.Common.{length-set}
+use Rattle.weight_sums.proofs.Imports.{arith, get_or-set_same, get_or-set_other, length-set}
 use Rattle.weight_sums.proofs.Shared.Choices.{left_out-past}
 use Rattle.weight_sums.proofs.halves.Halves.counts.Goals as goal
 
