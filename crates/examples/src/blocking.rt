@@ -5,8 +5,8 @@ ghost use Rattle.council_game.specs.Votes.{wins};
 ghost use Rattle.std.specs.Prelude.{◌≡◌, ◌↔◌, ◌<◌, ℕ, IsTrue, false, length, true};
 
 use council_game::{Coalition, Game};
-use game_calls::outsiders;
 use game_calls::laws::larger_coalitions_win;
+use game_calls::outsiders;
 
 /// Whether a coalition is blocking (Felsenthal and Machover 1998): no coalition wins that has none of its members.
 pub fn is_blocking(game: &Game, coalition: Coalition) -> bool

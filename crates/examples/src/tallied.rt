@@ -6,8 +6,8 @@ ghost use Rattle.power_index.specs.Fractions.{lowest_terms};
 ghost use Rattle.power_index.specs.Indices.{deegan_packel};
 ghost use Rattle.std.specs.Prelude.{◌≡◌, ◌≤◌, ◌<◌, IfOk, length};
 
-use council_game::{Game, limits};
 use coalitions::NoGate;
+use council_game::{Game, limits};
 use mwc_tally::{TallyFault, tally};
 use power_index::laws::minimal_coalitions_can_be_counted;
 use power_index::{Index, deegan_packel};
