@@ -1,11 +1,12 @@
 //! Each use once, on a worked game.
 ghost use Rattle.std.specs.Prelude.{◌≡◌, length};
 
+use crate::best::lightest;
 use crate::blocking::is_blocking;
 use crate::games::{are_ranked_alike, of_one_rule, of_two_rules, quota_in_millionths};
 use crate::indices::{both_indices, first_of_bytes, indices_add_up};
 use crate::listed::{coalitions_with, is_dummy, listed_twice};
-use crate::named::critical_of_named;
+use crate::named::{critical_of_named, win_together};
 use crate::reports::report_into_memory;
 use crate::rings::through_a_ring;
 use crate::slices::{Passes, words_of_slice};
@@ -103,12 +104,12 @@ fn the_first_is_not_the_lightest(rt: HostRuntime) {
     let game = parsed(&rt, rt.alloc(), b"[51; 40, 30, 11, 11]");
     same(
         &rt,
-        uses::lightest(&game),
+        lightest(&game),
         Some(Coalition::of_mask(10)),
         "lightest",
     );
     for (other, wanted) in [("3", Some(true)), ("1", Some(false)), ("5", None)] {
-        same(&rt, uses::win_together(&game, "1", other), wanted, other);
+        same(&rt, win_together(&game, "1", other), wanted, other);
     }
 }
 
