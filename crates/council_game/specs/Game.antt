@@ -57,9 +57,18 @@ made_game title names rules = do
   _ ← refuse (list_any has_bad_quota rules) QuotaRange
   Ok (record { title = title; names = names; rules = rules; ranks = rank_places (first_weights rules) })
 
--- What is a game: its checks pass, and it has 1 to 4 rules, each with a weight for each member.
+-- the game that its first rule ranks
+abbrev pub ranked_by_first : GameView → GameView
+ranked_by_first g = record g { ranks = rank_places (first_weights g.rules) }
+
+-- What is a game: its checks pass, it has 1 to 4 rules, each with a weight for each member, and its rank places are
+-- those by some number of each member: by weight if it has one rule.
 pub record IsGame (g : GameView) : Type 0 where
-  pub made : made_game g.title g.names g.rules ≡ Ok g
+  pub made : made_game g.title g.names g.rules ≡ Ok (ranked_by_first g)
+  pub order : List ℕ
+  pub ordered : length order ≡ length g.names
+  pub ranks : g.ranks ≡ rank_places order
+  pub by_weight : length g.rules ≡ 1 → order ≡ first_weights g.rules
   pub has_rule : 0 < length g.rules
   pub few_rules : length g.rules ≤ RULES
   pub full : All (λ r. length r.weights ≡ length g.names) g.rules

@@ -11,7 +11,7 @@ pub record RuleView : Type 0 where
   pub quota : ℕ
   pub weights : List ℕ
 
--- a game of n members, its rules over one order of places, the heaviest first
+-- a game of n members, its rules over one order of places
 pub record Votes : Type 0 where
   pub members : ℕ
   pub rules : List RuleView
@@ -32,14 +32,14 @@ abbrev pub IsRanked : List RuleView → Type 0
 IsRanked [] = ⊤
 IsRanked (r ∷ rs) = (a b : ℕ) → a ≤ b → b < length r.weights → slice_index r.weights b ≤ slice_index r.weights a
 
--- 1 to 40 members, 1 to 4 rules, and the places ranked by the first
+-- 1 to 40 members and 1 to 4 rules; the places are ranked by weight if there is one rule
 pub record IsVotes (v : Votes) : Type 0 where
   pub some : 1 ≤ v.members
   pub few : v.members ≤ MEMBERS
   pub has_rule : 1 ≤ length v.rules
   pub few_rules : length v.rules ≤ RULES
   pub rules : AllByRecursion (IsRule v.members) v.rules
-  pub ranked : IsRanked v.rules
+  pub ranked : length v.rules ≡ 1 → IsRanked v.rules
 
 -- the sum of the weights of the places in c
 unfoldable pub weight : List ℕ → ℕ → ℕ

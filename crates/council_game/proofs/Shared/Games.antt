@@ -1,5 +1,5 @@
 -- The votes of a game.
-use Rattle.council_game.proofs.Imports.{rank_places, rule_by_rank, GameView, IsGame, made_game, first_weights, ◌≡◌, ℕ, suc, ◌*◌, ◌<◌, ◌≤◌}
+use Rattle.council_game.proofs.Imports.{rank_places, rule_by_rank, GameView, IsGame, made_game, first_weights, ranked_by_first, ◌≡◌, ℕ, suc, ◌*◌, ◌<◌, ◌≤◌}
 use Rattle.council_game.proofs.Imports.{Bool, false, not, ◌||◌, List, [], ◌∷◌, length, get_or, map, sum, refl, position, position_or_len}
 use Rattle.council_game.proofs.Imports.{nat_tests, cases_lt, or_parts, cond-true, RuleView, IsRule, IsVotes, places, sym, ap, ◌∙◌, subst}
 use Rattle.council_game.proofs.Imports.{length-range_with_len, length-map, get_or_default, recursion_from_All, fails_before_first, arith}
@@ -17,8 +17,8 @@ use Rattle.council_game.proofs.Shared.Rankings.{weights-at}
 checks-passed : (title count : Bool) (name repeat weight : Option ℕ) (quota : Bool) (made g : GameView)
     → (refuse title Title >>= (λ _. refuse count Members >>= (λ _. refuse_at Name name >>=
     (λ _. refuse_at SameName repeat >>= (λ _. refuse_at Weight weight >>= (λ _. refuse quota QuotaRange >>= (λ _. Ok made))))))) ≡ Ok g
-    → (title ≡ false) × (count ≡ false) × (name ≡ None) × (repeat ≡ None) × (weight ≡ None) × (quota ≡ false) × (made ≡ g)
-checks-passed false false None None None false made g h = (refl, refl, refl, refl, refl, refl, cc)
+    → (title ≡ false) × (count ≡ false) × (name ≡ None) × (repeat ≡ None) × (weight ≡ None) × (quota ≡ false)
+checks-passed false false None None None false made g h = (refl, refl, refl, refl, refl, refl)
 checks-passed title count name repeat weight quota made g h = absurd (cc)
 
 pub record Passed (g : GameView) : Type 0 where
@@ -28,9 +28,8 @@ pub record Passed (g : GameView) : Type 0 where
   pub repeats : position (is_repeat g.names) (places g.names) ≡ None
   pub weights : position (is_heavy g.rules) (range_with_len 0 (length g.names)) ≡ None
   pub quotas : list_any has_bad_quota g.rules ≡ false
-  pub ranks : g.ranks ≡ rank_places (first_weights g.rules)
 
-pub passed : (g : GameView) → made_game g.title g.names g.rules ≡ Ok g → Passed g
+pub passed : (g : GameView) → made_game g.title g.names g.rules ≡ Ok (ranked_by_first g) → Passed g
 unfolding made_game
 passed g h = grind (arith, nat_tests, checks-passed)
 
@@ -129,7 +128,7 @@ pub first-full : (n : ℕ) (rs : List RuleView) → 0 < length rs → AllByRecur
 first-full n [] some full = absurd (omega arith)
 first-full n (r ∷ rs) some full = full.0
 
--- the votes of each game are a ranked game
+-- the votes of each game
 pub votes-are : (g : GameView) → IsGame g → IsVotes (votes_of g)
 votes-are g game =
     let p = passed g game.made in
@@ -137,11 +136,11 @@ votes-are g game =
     let full = recursion_from_All (λ (r : RuleView). length r.weights ≡ length g.names) g.rules game.full in
     let light = light-weights g game in
     let quotas = none-any has_bad_quota g.rules p.quotas in
-    let len = first-full (length g.names) g.rules game.has_rule full in
     let count : length (map (rule_by_rank g.ranks) g.rules) ≡ length g.rules = length-map g.rules (rule_by_rank g.ranks) in
     let all : AllByRecursion (IsRule (length g.names)) (map (rule_by_rank g.ranks) g.rules) =
-    subst (λ (ranks : List ℕ). AllByRecursion (IsRule (length g.names)) (map (rule_by_rank ranks) g.rules)) (sym p.ranks)
-    (rules-votes (length g.names) (first_weights g.rules) g.rules few len full light quotas) in
-    let up : IsRanked (map (rule_by_rank g.ranks) g.rules) =
-    subst (λ (ranks : List ℕ). IsRanked (map (rule_by_rank ranks) g.rules)) (sym p.ranks) (rules-ranked g.rules) in
+    subst (λ (ranks : List ℕ). AllByRecursion (IsRule (length g.names)) (map (rule_by_rank ranks) g.rules)) (sym game.ranks)
+    (rules-votes (length g.names) game.order g.rules few game.ordered full light quotas) in
+    let up : length g.rules ≡ 1 → IsRanked (map (rule_by_rank g.ranks) g.rules) =
+    λ one. subst (λ (ranks : List ℕ). IsRanked (map (rule_by_rank ranks) g.rules))
+    (sym (game.ranks ∙ ap rank_places (game.by_weight one))) (rules-ranked g.rules) in
     grind (arith, nat_tests)

@@ -61,13 +61,18 @@ made-game title names ns rules rs ks en er ek h = rw (ek, ← en, ← er) h
 
 pub is-game : (title : Option (String Global)) (names : List (String Global)) (rules : List Rule) (ks : List ℕ) → 0 < length rules
     → length rules ≤ 4 → All (λ r. length r.weights.items ≡ length names) rules
+    → ks ≡ rank_places (first_weights (rule_views rules))
     → made_game (option_map string_bytes title) (map string_bytes names) (rule_views rules) ≡ Ok (game_of_parts title names rules ks)
     → IsGame (game_of_parts title names rules ks)
-is-game title names rules ks some few full made =
+is-game title names rules ks some few full ranks made =
     let count = length-map rules rule_view in
     let size = length-map names string_bytes in
     record {
-      made = made;
+      made = made ∙ ap (λ (l : List ℕ). Ok (game_of_parts title names rules l)) ranks;
+      order = first_weights (rule_views rules);
+      ordered = first-length rules (length names) some full ∙ sym size;
+      ranks = ranks;
+      by_weight = λ one. refl;
       has_rule = omega (arith, count);
       few_rules = omega (arith, count);
       full = rw size (All-map (λ r. length r.weights ≡ length names) rule_view rules full);
@@ -76,9 +81,7 @@ is-game title names rules ks some few full made =
 -- in each game the ranks are a permutation, and `member_at` goes back
 pub ranks-are : (g : GameView) → IsGame g → RanksAre (length g.names) g.ranks
 ranks-are g game =
-    let p = passed g game.made in
-    let full = recursion_from_All (λ (r : RuleView). length r.weights ≡ length g.names) g.rules game.full in
-    grind (arith, nat_tests, common_steps, ranks-of)
+    rw (game.ranks, ← game.ordered) (ranks-of game.order)
 
 pub held-votes : (g : GameView) (n : ℕ) (ranked : List Rule) → IsGame g → n ≡ length g.names → rule_views ranked ≡ (votes_of g).rules
     → IsVotes (votes n ranked)
