@@ -1,6 +1,6 @@
 //! What the walk knows of each rule. Most games have one rule: the functions over all rules then go
 //! straight to its lane, which takes a fifth off the time of a walk.
-ghost use Rattle.std.specs.Prelude.{◌≡◌, ◌==◌, ◌+◌, ◌^◌, ◌<◌, ◌≤◌, ℕ, length, take, drop, map, slice_index};
+ghost use Rattle.std.specs.Prelude.{◌≡◌, ◌==◌, ◌+◌, ◌-◌, ◌^◌, ◌<◌, ◌≤◌, ℕ, length, take, drop, map, slice_index};
 ghost use Rattle.std.specs.List.{list_all, All, sum};
 ghost use Rattle.coalitions.specs.declared.limits.TheConstants.{MEMBERS, RULES};
 ghost use Rattle.council_game.specs.Game.{votes_of};
@@ -18,6 +18,8 @@ pub(crate) struct Lane {
     pub(crate) sum: u64,
     /// The rank mask of the members without weight.
     pub(crate) weightless: u64,
+    /// For each place the least weight of the members before it, but 0; the greatest number if none has weight.
+    pub(crate) lightest: [u64; limits::SIZES],
     /// The weights, in rank order.
     pub(crate) weights: [u64; limits::MEMBERS],
     /// What the places from each one on weigh together.
@@ -38,6 +40,7 @@ impl Lane {
             quota: game.rule_quota(rule),
             sum: game.rule_weight_of(rule, fixed),
             weightless: weightless_of(&weights, members),
+            lightest: lightest_of(&weights, members),
             weights,
             rest: rest_of(&weights, members),
         }
@@ -48,7 +51,23 @@ impl Lane {
         requires { place ≤ MEMBERS }
         ensures { result ≡ lane_reaches place self.now }
     {
-        self.quota.saturating_sub(self.sum) <= self.rest[place]
+        self.lacks() <= self.rest[place]
+    }
+
+    /// Returns what is missing to the quota; 0 if it is met.
+    #[inline(always)]
+    pub(crate) fn lacks(&self) -> u64
+        ensures { result ≡ self.now.quota - self.now.sum }
+    {
+        self.quota.saturating_sub(self.sum)
+    }
+
+    /// Returns by how much the quota is passed; 0 if it is not.
+    #[inline(always)]
+    pub(crate) fn excess(&self) -> u64
+        ensures { result ≡ self.now.sum - self.now.quota }
+    {
+        self.sum.saturating_sub(self.quota)
     }
 
     /// Whether the quota is met.
@@ -114,6 +133,21 @@ fn weightless_of(weights: &[u64; limits::MEMBERS], members: usize) -> u64
         }
     }
     none.mask()
+}
+
+/// Returns the least weight before each place, but 0.
+fn lightest_of(weights: &[u64; limits::MEMBERS], members: usize) -> [u64; limits::SIZES]
+    requires { members ≤ MEMBERS }
+    ensures { (p q : ℕ) → p ≤ members → q < p → slice_index weights.now q < slice_index result p →
+        slice_index weights.now q ≡ 0 }
+{
+    let mut lightest = [u64::MAX; limits::SIZES];
+    for place in 0..members {
+        let least = lightest[place];
+        let weight = weights[place];
+        lightest[place + 1] = if weight == 0 { least } else { least.min(weight) };
+    }
+    lightest
 }
 
 /// Whether each quota can still be met, by all members from a place on.

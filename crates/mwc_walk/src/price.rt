@@ -1,10 +1,13 @@
 //! The least that members weigh by one rule for what they weigh by another.
-ghost use Rattle.std.specs.Prelude.{◌≡◌, ◌<◌, ◌≤◌, ◌+◌, ◌*◌, ℕ, true, false, take, drop, slice_index};
+ghost use Rattle.std.specs.Prelude.{◌≡◌, ◌<◌, ◌≤◌, ◌+◌, ◌*◌, ℕ, true, false, length, take, drop};
 ghost use Rattle.coalitions.specs.declared.limits.TheConstants.{MEMBERS};
+ghost use Rattle.council_game.specs.Game.{votes_of};
 ghost use Rattle.council_game.specs.Votes.{weight};
-ghost use Rattle.mwc_walk.specs.Inner.Prices.{IsPrice, price_at};
+ghost use Rattle.mwc_walk.specs.Inner.Places.{LanesStand};
+ghost use Rattle.mwc_walk.specs.Inner.Prices.{IsPrice, IsRow, ArePrices, price_at};
 
-use council_game::limits;
+use crate::lane::Lane;
+use council_game::{Game, limits};
 
 /// The cheapest of some members: what it weighs by one rule, `own`, and what by another, `other`. No
 /// member has less by the one for what it has by the other. Both are 0 where none weighs by the other.
@@ -78,5 +81,43 @@ impl Prices {
             from[place] = from[place + 1].or(own[place], other[place]);
         }
         Prices { from }
+    }
+}
+
+/// The prices by each rule for what is weighed by each rule, and copies past the last.
+#[derive(Clone, Copy)]
+pub(crate) struct PriceTable {
+    pub(crate) by: [[Prices; limits::RULES]; limits::RULES],
+}
+
+impl PriceTable {
+    /// Returns the prices of the members of a game.
+    pub(crate) fn new(game: &Game, lanes: &[Lane; limits::RULES]) -> PriceTable
+        requires { LanesStand (votes_of game.now) lanes.now }
+        ensures { ArePrices (votes_of game.now) result }
+    {
+        game.was_checked();
+        let mut by = [PriceTable::row(game, lanes, 0); limits::RULES];
+        for rule in 1..game.rules() {
+            by[rule] = PriceTable::row(game, lanes, rule);
+        }
+        PriceTable { by }
+    }
+
+    /// Returns the prices by one rule.
+    fn row(game: &Game, lanes: &[Lane; limits::RULES], rule: usize) -> [Prices; limits::RULES]
+        requires rule { rule < length (votes_of game.now).rules }
+        requires lanes { LanesStand (votes_of game.now) lanes.now }
+        ensures { IsRow (votes_of game.now) rule result }
+    {
+        game.was_checked();
+        let none = Prices {
+            from: [Price { own: 0, other: 0 }; limits::SIZES],
+        };
+        let mut row = [none; limits::RULES];
+        for other in 0..game.rules() {
+            row[other] = Prices::new(&lanes[rule].weights, &lanes[other].weights, game.members());
+        }
+        row
     }
 }

@@ -6,8 +6,8 @@ ghost use Rattle.mwc_walk.specs.Slices.{slice};
 ghost use Rattle.mwc_walk.specs.WalkView.{given, given_count};
 ghost use Rattle.mwc_walk.specs.Seeks.{Seeks, seeks_left};
 
-use crate::ahead::Ahead;
 use crate::cursor::Cursor;
+use crate::price::PriceTable;
 use crate::seek::Seek;
 use crate::step::Step;
 use council_game::{Coalition, Game};
@@ -24,8 +24,8 @@ use std::marker::Model;
 pub struct Walk<'a> {
     game: &'a Game,
     cursor: Cursor,
-    /// What the game has ahead, once it was looked at.
-    ahead: Option<Ahead>,
+    /// The prices of the game, after the walk has needed them.
+    prices: Option<PriceTable>,
 }
 
 impl<'a> Model for Walk<'a> {
@@ -65,7 +65,7 @@ impl<'a> Walk<'a> {
         Walk {
             game,
             cursor: Cursor::start(game, bits, j),
-            ahead: None,
+            prices: None,
         }
     }
 
@@ -83,7 +83,7 @@ impl<'a> Walk<'a> {
         ensures number { self.new.number ≡ self.old.number }
         ensures counted { self.old.visits ≤ self.new.visits }
     {
-        match self.cursor.find(self.game, &mut self.ahead) {
+        match self.cursor.find(self.game, &mut self.prices) {
             Step::Give(coalition) => Some(coalition),
             Step::End | Step::On => None,
         }
@@ -105,7 +105,7 @@ impl<'a> Walk<'a> {
         ensures few { length self.old.votes.rules ≢ 1 → self.new.visits ≤ self.old.visits + visits }
         ensures falls { result ≢ Seek.End → seeks_left self.new < seeks_left self.old }
     {
-        match self.cursor.seek(self.game, &mut self.ahead, visits) {
+        match self.cursor.seek(self.game, &mut self.prices, visits) {
             Step::On => Seek::NotYet,
             Step::Give(coalition) => Seek::Found(coalition),
             Step::End => Seek::End,
