@@ -4,7 +4,7 @@ use Rattle.mwc_walk.proofs.Imports.{le-leb, Cursor, LaneIs, NothingBelow, IsExce
 use Rattle.mwc_walk.proofs.Imports.{trailing_zeros, pow_mono, cases_eq, cases_lt, cases_Bool, CursorIs, has-none, lane_at, IsVotes, ◌<◌}
 use Rattle.mwc_walk.proofs.Imports.{◌≤◌, min, true, List, [], length, IsRanked, ◌∙◌, arith, w64, get_or_default, list_all-from_AllPass}
 use Rattle.mwc_walk.proofs.Imports.{wins, minimal, needs-each-member, Lane, eq-eqb, ExcessIs, weight-le, ◌≡◌, ℕ, ◌+◌, ◌-◌, ◌*◌, ◌/◌, ◌^◌}
-use Rattle.std.proofs.lemmas.{Bool.and_parts, Bool.and_from, Nat.and_le_l, Nat.Bits.bit_at-trailing_zeros, Nat.Bits.bit_at_and}
+use Rattle.std.proofs.lemmas.{Bool.and_parts, Bool.and_from, Nat.and_le_l, Nat.Bits.bit_at_and}
 use Rattle.std.proofs.Common.{◌&&◌, bit_and}
 use Rattle.coalitions.proofs.Shared.Digits.{has-kept, has-gone, without-less}
 use Rattle.council_game.proofs.Shared.WinningByPlaces.{sum-without, rule-is}
@@ -34,12 +34,6 @@ still-wins v c q game below in' free = list_all-from_AllPass _ v.rules (λ i d l
     rw same (le-leb _ _ (omega (arith, free i lt, sum-without v.members (rule_at v.rules i) c q _ (rule-is v i game lt) below in' refl))))
 
 -- ---- one place after another
--- no place of rest comes after its last
-pub up-to-last : (n rest q : ℕ) → n ≤ 40 → 0 < rest → rest < 2 ^ n → q < n → has n q rest ≡ true → q ≤ n - 1 - trailing_zeros w64 rest
-unfolding has
-up-to-last n rest q few pos short below in' =
-    let up : 2 ^ n ≤ 2 ^ 40 = pow_mono few in grind (arith, cases_lt, bit_at-trailing_zeros w64 rest pos)
-
 module _ {v : Votes} {p x rest : ℕ} {es : List ℕ} (tried : Tried v p x es rest) where
   pub tried-more : (q : ℕ) → 0 < rest → q < v.members → has v.members q rest ≡ true → (CanSpare v es q → ⊥)
       → Tried v p x es (without v.members q rest)

@@ -14,29 +14,29 @@ use crate::price::PriceTable;
 use crate::step::Step;
 use council_game::{Coalition, Game, limits};
 
-/// The steps after which what can still come is looked at, where they came to no coalition.
+/// After so many steps without a coalition a walk over several rules also asks what the prices say.
 const NEAR: u64 = 512;
 
 /// How far the walk over one slice has come: the first `place` places are decided, as the binary
-/// digits of `prefix` say, the heaviest first.
+/// digits of `prefix` say, the first place first.
 #[derive(Drop)]
 pub(crate) struct Cursor {
-    /// A lane for each rule, and copies past the last.
+    /// A lane for each rule; copies of the first after them.
     pub(crate) lanes: [Lane; limits::RULES],
     pub(crate) rules: usize,
     pub(crate) members: usize,
-    /// How many places are fixed: the walk goes back no further.
+    /// How many places are fixed: the walk never goes back past them.
     pub(crate) bits: usize,
     /// The number of the slice.
     pub(crate) number: u16,
     pub(crate) prefix: u64,
     pub(crate) place: usize,
-    /// Whether nothing below this prefix was looked at yet; else all of it was.
+    /// True if nothing below this prefix was examined yet; false if all of it was.
     pub(crate) fresh: bool,
     pub(crate) visits: u64,
 }
 
-/// The fixed places of a slice, as a number.
+/// Returns the fixed places of a slice, as a number.
 #[inline(always)]
 fn first_prefix(bits: usize, number: u16) -> u64
     requires few { bits ≤ BITS }
@@ -46,7 +46,7 @@ fn first_prefix(bits: usize, number: u16) -> u64
     (1 << bits) - 1 - number as u64
 }
 
-/// The rank mask of the members of a prefix.
+/// Returns the rank mask of the members of a prefix.
 #[tactic(auto, using(crate::proofs::Steps::masks))]
 #[inline(always)]
 fn mask_of(prefix: u64, place: usize, members: usize) -> u64
@@ -60,7 +60,7 @@ fn mask_of(prefix: u64, place: usize, members: usize) -> u64
 }
 
 impl Cursor {
-    /// The cursor at the fixed places of a slice, which is all still to come.
+    /// Returns the cursor at the fixed places of a slice, with the whole slice still to come.
     pub(crate) fn start(game: &Game, bits: u8, number: u16) -> Cursor
         requires few { bits ≤ BITS }
         requires bits { bits ≤ length game.now.names }
@@ -85,8 +85,9 @@ impl Cursor {
         }
     }
 
-    /// Steps up to the next coalition of the slice, or to its end. Under several rules what can still come is looked
-    /// at where the first steps came to none; `ahead` keeps what the game has ahead, once it was asked for.
+    /// Steps to the next coalition of the slice, or to its end.
+    ///
+    /// Under several rules the first steps do without the prices; `prices` keeps them after they were needed once.
     pub(crate) fn find(&mut self, game: &Game, prices: &mut Option<PriceTable>) -> Step
         requires is { CursorIs (votes_of game.now) self.old }
         requires prices { IfSome prices.old (ArePrices (votes_of game.now)) }
@@ -107,7 +108,7 @@ impl Cursor {
         self.next(game, prices.as_ref())
     }
 
-    /// As `find`, but at most `visits` visits further. Under one rule it always comes to a coalition or to the end.
+    /// Does as `find`, but stops after `visits` more visits. Under one rule it never stops before a coalition or the end.
     pub(crate) fn seek(&mut self, game: &Game, prices: &mut Option<PriceTable>, visits: u64) -> Step
         requires is { CursorIs (votes_of game.now) self.old }
         requires prices { IfSome prices.old (ArePrices (votes_of game.now)) }
@@ -134,8 +135,7 @@ impl Cursor {
         self.up_to(game, prices.as_ref(), most)
     }
 
-    /// Finds the prices of the game. It stands apart since so large a value has its price at each call of a function that
-    /// has room for it, made or not.
+    /// Finds the prices of the game. Kept out of line: inlined, so large a value would cost stack on every call.
     #[cold]
     #[inline(never)]
     fn find_prices(&self, game: &Game, prices: &mut Option<PriceTable>)
@@ -145,8 +145,8 @@ impl Cursor {
         *prices = Some(PriceTable::new(game, &self.lanes));
     }
 
-    /// How many visits there are to be after `more` of them; none where nothing is to stop a walk: under one rule, and
-    /// where the count can not hold them.
+    /// Returns the number of visits after `more` of them; none if nothing is to stop the walk, because there is one
+    /// rule or because the count cannot hold so many.
     fn most_visits(&self, more: u64) -> Option<u64>
         ensures { MatchOption result (self.now.rules ≢ 1 → 2 ^ 64 ≤ self.now.visits + more)
             (λ most. (self.now.rules ≢ 1) × (most ≡ self.now.visits + more)) }
@@ -157,7 +157,7 @@ impl Cursor {
         self.visits.checked_add(more)
     }
 
-    /// At most `steps` steps: up to the next coalition of the slice, or to its end.
+    /// Makes at most `steps` steps towards the next coalition of the slice or its end, without the prices.
     fn some_steps(&mut self, game: &Game, steps: u64) -> Step
         requires { CursorIs (votes_of game.now) self.old }
         ensures steps { SomeSteps (votes_of game.now) self.old result self.new }
@@ -172,7 +172,7 @@ impl Cursor {
         Step::On
     }
 
-    /// Steps up to the next coalition of the slice, to its end, or until there were `visits` visits.
+    /// Steps to the next coalition of the slice, to its end, or until there were `visits` visits.
     fn up_to(&mut self, game: &Game, prices: Option<&PriceTable>, visits: u64) -> Step
         requires is { CursorIs (votes_of game.now) self.old }
         requires prices { IfSome prices (λ t. ArePrices (votes_of game.now) t.now) }
@@ -190,8 +190,7 @@ impl Cursor {
         Step::On
     }
 
-    /// Steps up to the next coalition of the slice, or to its end, and looks at what can still come where that
-    /// is told.
+    /// Steps to the next coalition of the slice, or to its end.
     fn next(&mut self, game: &Game, prices: Option<&PriceTable>) -> Step
         requires is { CursorIs (votes_of game.now) self.old }
         requires prices { IfSome prices (λ t. ArePrices (votes_of game.now) t.now) }
@@ -206,8 +205,7 @@ impl Cursor {
         }
     }
 
-    /// One step, by which there is one visit more at most. (It stands in each loop that makes it: a call for each step
-    /// would double the time of a walk.)
+    /// Makes one step, and at most one visit. Inlined into each loop: a call per step would double the time of a walk.
     #[inline(always)]
     fn step(&mut self, game: &Game, prices: Option<&PriceTable>) -> Step
         requires is { CursorIs (votes_of game.now) self.old }
@@ -222,9 +220,8 @@ impl Cursor {
         }
     }
 
-    /// Looks at a fresh prefix: passes by one that can no longer meet some quota, and one below which no
-    /// coalition is minimal; takes the next member into one that does not win yet; and gives one that
-    /// wins, never going on below it.
+    /// Examines a fresh prefix: passes by it if no coalition below is minimal or some quota cannot be met any more,
+    /// takes in the next member if it does not win yet, and gives it if it wins.
     #[inline(always)]
     fn enter(&mut self, game: &Game, prices: Option<&PriceTable>) -> Step
         requires is { CursorIs (votes_of game.now) self.old }
@@ -269,8 +266,8 @@ impl Cursor {
         all_win(&self.lanes[..self.rules])
     }
 
-    /// Whether the prefix is passed by, since no coalition below it is minimal: a member can be spared by what is
-    /// there, or, where that is looked at, by what can still come. A winning prefix that is not passed by is minimal.
+    /// Whether the prefix is passed by, because no coalition below it is minimal: it has a member that each rule can
+    /// spare, or the prices say so. A winning prefix that is not passed by is minimal.
     #[inline(always)]
     fn passes_by(&self, game: &Game, prices: Option<&PriceTable>) -> bool
         requires is { CursorIs (votes_of game.now) self.now }
@@ -292,9 +289,9 @@ impl Cursor {
         }
     }
 
-    /// Whether the prefix has a member whom each rule can spare by what is there, here and so in each coalition
-    /// below. Sought only where a member was taken in, and at the fixed places; never past them with one rule,
-    /// under which the last member is the lightest and was needed.
+    /// Whether the prefix has a member that each rule can spare, here and so in each coalition below. Sought only at
+    /// the fixed places and after a member was taken in. With one rule not after that either: the last member is the
+    /// lightest, and was needed.
     #[inline(always)]
     fn spares_one(&self, game: &Game) -> bool
         requires { CursorIs (votes_of game.now) self.now }
@@ -402,7 +399,7 @@ impl Cursor {
         false
     }
 
-    /// The last place of a mask of some members.
+    /// Returns the last place of a mask of some members.
     #[inline(always)]
     fn last_place(&self, game: &Game, rest: u64) -> usize
         requires is { CursorIs (votes_of game.now) self.now }
@@ -410,8 +407,6 @@ impl Cursor {
         requires short { rest < 2 ^ (votes_of game.now).members }
         ensures below { result < (votes_of game.now).members }
         ensures inside { has (votes_of game.now).members result rest ≡ true }
-        ensures last { (q : ℕ) → q < (votes_of game.now).members →
-            has (votes_of game.now).members q rest ≡ true → q ≤ result }
         ensures left { bit_and rest (rest - 1) ≡ without (votes_of game.now).members result rest }
     {
         self.members - 1 - rest.trailing_zeros() as usize
@@ -450,7 +445,7 @@ impl Cursor {
         true
     }
 
-    /// Comes back: leaves the last member out, where it is in, or goes up by one place.
+    /// Comes back: leaves the last member out if it is in, or else goes up by one place.
     #[inline(always)]
     fn back(&mut self, game: &Game) -> Step
         requires is { CursorIs (votes_of game.now) self.old }

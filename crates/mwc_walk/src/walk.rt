@@ -13,10 +13,12 @@ use crate::step::Step;
 use council_game::{Coalition, Game};
 use std::marker::Model;
 
-/// A walk over the minimal winning coalitions of one slice, in listing order, which stops at each
-/// and goes on. It takes no memory. Under one rule a visit past the fixed places costs the same for any
-/// number of members. At the fixed places, and under several rules at each visit, those members of the
-/// prefix are tried whom each rule may spare, and where one can be spared nothing below is visited.
+/// A walk over the minimal winning coalitions of one slice, in listing order.
+///
+/// It stops at each coalition and goes on from there, and allocates nothing. Under one rule a visit
+/// past the fixed places costs the same for any number of members. At the fixed places, and under
+/// several rules at each visit, the walk looks for a member that each rule can spare: if the prefix
+/// has one, nothing below it is visited.
 ///
 /// Contracts see the votes of its game, the bits, the number of its slice, the coalitions that are
 /// still to come, and the count of visits.
@@ -24,7 +26,7 @@ use std::marker::Model;
 pub struct Walk<'a> {
     game: &'a Game,
     cursor: Cursor,
-    /// The prices of the game, after the walk has needed them.
+    /// The prices of the game, once the walk has needed them.
     prices: Option<PriceTable>,
 }
 
@@ -41,14 +43,14 @@ impl<'a> Model for Walk<'a> {
 }
 
 impl<'a> Walk<'a> {
-    /// The walk over slice `j` of a game at `bits` bits, with the whole slice to come: the minimal
-    /// winning coalitions whose first `bits` places are those of the number 2^bits - 1 - j.
+    /// Returns the walk over slice `j` of a game at `bits` bits, with the whole slice to come.
     ///
-    /// There are at most 10 bits, and no more than members; `j` is below 2^bits. The check of each
-    /// fixed place is a visit.
+    /// The slice has the minimal winning coalitions whose first `bits` places are those of the number
+    /// 2^bits - 1 - j. There are at most 10 bits, and no more than members; `j` is below 2^bits. The
+    /// check of each fixed place is a visit.
     ///
-    /// Listing order goes by members, the heaviest first, and not by weight: what comes first has the heaviest
-    /// members, and may weigh less than what comes later.
+    /// Listing order goes by rank place and not by weight: a coalition that comes first has members of
+    /// lower rank places, and may weigh less than one that comes later.
     pub fn new(game: &'a Game, bits: u8, j: u16) -> Walk<'a>
         requires few { bits ≤ BITS }
         requires bits { bits ≤ length game.now.names }
@@ -69,8 +71,9 @@ impl<'a> Walk<'a> {
         }
     }
 
-    /// The next coalition of the slice; none at its end, and ever after. What was given so far and what is
-    /// still to come are the whole slice.
+    /// Returns the next coalition of the slice; none at its end, and ever after.
+    ///
+    /// What was given so far and what is still to come are together the whole slice.
     pub fn next(&mut self) -> Option<Coalition>
         ensures next { MatchOption result ((self.old.to_come ≡ []) × (self.new.to_come ≡ []))
             (λ c. self.old.to_come ≡ c ∷ self.new.to_come) }
@@ -89,9 +92,10 @@ impl<'a> Walk<'a> {
         }
     }
 
-    /// Seeks the next coalition of the slice as `next` does, but makes at most `visits` visits, 1 or more: after these
-    /// it answers NotYet, and goes on when it is called again. Nothing else is changed then. Under one rule, where the
-    /// next coalition is near, it never answers NotYet, nor where the count of visits could not hold that many more.
+    /// Seeks the next coalition of the slice as `next` does, but makes at most `visits` visits, 1 or more.
+    ///
+    /// After these it answers `NotYet`, with nothing else changed, and goes on when you call it again. It never answers
+    /// `NotYet` under one rule, where the next coalition is near, or if the count of visits could not hold that many more.
     #[tactic(auto, unfolding(crate::specs::Seeks::seeks_left))]
     pub fn seek(&mut self, visits: u64) -> Seek
         requires { 0 < visits }
@@ -112,13 +116,14 @@ impl<'a> Walk<'a> {
         }
     }
 
-    /// How many visits there were. Each fixed place is visited once, when it is checked, and a later place
-    /// each time that the walk comes to it from above to decide whether its member is in; the decision
-    /// to leave the member out after all belongs to that visit. The count stays at the greatest number
-    /// that it can hold.
+    /// Returns how many visits there were.
     ///
-    /// It is never below the number of coalitions given. With one rule it is at most `bits` plus,
-    /// for each coalition given, the number of places that are not fixed.
+    /// Each fixed place is visited once, when it is checked, and a later place each time that the walk
+    /// comes to it from above to decide whether its member is in; the decision to leave the member out
+    /// after all belongs to that visit. The count stops at the greatest number that it can hold.
+    ///
+    /// It is never below the number of coalitions given. With one rule it is at most `bits` plus, for
+    /// each coalition given, the number of places that are not fixed.
     pub fn visits(&self) -> u64
         ensures count { result ≡ self.now.visits }
         ensures rest { self.now.to_come ≡

@@ -5,10 +5,10 @@ use Rattle.mwc_walk.specs.declared.lane.Lane.{Lane}
 abbrev pub no_lane : Lane
 no_lane = record { quota = 0; sum = 0; weightless = 0; lightest = []; weights = []; rest = [] }
 
--- with what may still come from place p on, the quota can be met
 abbrev pub lane_at : List Lane → ℕ → Lane
 lane_at ls i = slice_index_or ls i no_lane
 
+-- with what may still come from place p on, the quota can be met
 abbrev pub lane_reaches : ℕ → Lane → Bool
 lane_reaches p l = nat_le (l.quota - l.sum) (slice_index l.rest p)
 
