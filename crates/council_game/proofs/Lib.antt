@@ -1,6 +1,7 @@
 pub mod Shared
 mod Order
 mod Named
+mod Moving
 mod Monotone
 mod Places
 mod Bounds

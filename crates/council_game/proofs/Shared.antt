@@ -11,4 +11,5 @@ pub mod WinningByPlaces
 pub mod Subsets
 pub mod Listing
 pub mod RankPlaces
+pub mod Sets
 pub mod Joins

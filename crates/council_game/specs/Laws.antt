@@ -1,6 +1,8 @@
 -- What the laws say of every game.
-use Rattle.std.specs.Prelude.{ℕ, ◌^◌, ◌≡◌, ◌≢◌, ◌<◌, ◌≤◌, ◌↔◌, true, false, List, length, map, slice_index}
-use Rattle.std.specs.List.{All, AllPairs, sum}
+use Rattle.std.specs.Prelude.{ℕ, ◌^◌, ◌≡◌, ◌≢◌, ◌<◌, ◌≤◌, ◌↔◌, Bool, true, false, List, length, map, slice_index}
+use Rattle.std.specs.List.{All, AllPairs, filter, sum}
+use Rattle.council_game.specs.Game.{GameView, votes_of}
+use Rattle.council_game.specs.Members.{contains, size_of, HaveSameMembers}
 use Rattle.council_game.specs.Votes.{Votes, has, without, weight, places_of, wins, minimal, minimal_coalitions}
 
 -- a coalition weighs what its members weigh together
@@ -34,3 +36,20 @@ pub record IsListing (v : Votes) : Type 0 where
   pub descending : AllPairs (λ a b. b < a) (minimal_coalitions v)
   pub none_empty : All (λ c. c ≢ 0) (minimal_coalitions v)
   pub below : All (λ c. c < 2 ^ v.members) (minimal_coalitions v)
+
+-- for each set of members there is one coalition, which has exactly these members
+pub record HasEachSet (g : GameView) : Type 0 where
+  pub coalition : (ℕ → Bool) → ℕ
+  pub below : (set : ℕ → Bool) → coalition set < 2 ^ length g.names
+  pub members : (set : ℕ → Bool) (i : ℕ) → i < length g.names → contains g i (coalition set) ≡ set i
+  pub one : (c d : ℕ) → c < 2 ^ length g.names → d < 2 ^ length g.names → HaveSameMembers g g c d → c ≡ d
+
+-- In two games of the same members and rules, coalitions of the same members are as large, win alike, and are minimal
+-- alike; so as many minimal winning coalitions pass a test that looks at their members only.
+pub record IsSameByMembers (g h : GameView) : Type 0 where
+  pub size : (c d : ℕ) → HaveSameMembers g h c d → size_of g c ≡ size_of h d
+  pub win : (c d : ℕ) → HaveSameMembers g h c d → wins (votes_of g).rules c ≡ wins (votes_of h).rules d
+  pub minimal : (c d : ℕ) → HaveSameMembers g h c d → minimal (votes_of g) c ≡ minimal (votes_of h) d
+  pub counts : (p q : ℕ → Bool)
+      → ((c d : ℕ) → c < 2 ^ length g.names → d < 2 ^ length g.names → HaveSameMembers g h c d → p c ≡ q d)
+      → length (filter p (minimal_coalitions (votes_of g))) ≡ length (filter q (minimal_coalitions (votes_of h)))

@@ -5,6 +5,7 @@ pub mod Votes
 pub mod Ranks
 pub mod Game
 pub mod Members
+pub mod Contribution
 pub mod Rules
 pub mod Laws
 pub mod Inner

@@ -1,5 +1,5 @@
 -- The members of a game, and of a coalition of it.
-use Rattle.std.specs.Prelude.{ℕ, Bool, List, length, slice_index}
+use Rattle.std.specs.Prelude.{ℕ, Bool, List, length, slice_index, ◌≡◌, ◌<◌}
 use Rattle.council_game.specs.Votes.{has, size}
 use Rattle.council_game.specs.Ranks.{places}
 use Rattle.council_game.specs.Game.{GameView}
@@ -15,3 +15,7 @@ contains g i c = has (length g.names) (slice_index g.ranks i) c
 -- how many members coalition c has
 abbrev pub size_of : GameView → ℕ → ℕ
 size_of g c = size (length g.names) c
+
+-- coalition c of game g has the members of coalition d of game h
+abbrev pub HaveSameMembers : GameView → GameView → ℕ → ℕ → Type 0
+HaveSameMembers g h c d = (i : ℕ) → i < length g.names → contains g i c ≡ contains h i d

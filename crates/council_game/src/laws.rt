@@ -1,6 +1,9 @@
 //! Laws of games: what the definitions say, with nothing to run.
+ghost use Rattle.std.specs.Prelude.{◌≡◌};
+ghost use Rattle.council_game.specs.Game.{GameView, IsGame};
 ghost use Rattle.council_game.specs.Votes.{Votes, IsVotes};
 ghost use Rattle.council_game.specs.Laws.{WeighsItsMembers, NeedsEachMember, ProperSubsetsLose, IsListing};
+ghost use Rattle.council_game.specs.Laws.{HasEachSet, IsSameByMembers};
 
 /// A coalition weighs what its members weigh together.
 #[tactic(auto, using(crate::proofs::Searches::for_laws))]
@@ -24,4 +27,19 @@ pub fn proper_subsets_lose()
 #[tactic(auto, using(crate::proofs::Searches::for_laws))]
 pub fn minimal_coalitions_are_listed()
     ensures { (v : Votes) → IsVotes v → IsListing v }
+{}
+
+/// A coalition is a set of members: each set of members is that of one coalition.
+#[tactic(auto, using(crate::proofs::Searches::for_sets))]
+pub fn coalitions_are_sets()
+    ensures { (g : GameView) → IsGame g → HasEachSet g }
+{}
+
+/// Which places the members have changes nothing: in two games of the same members and rules,
+/// coalitions of the same members win alike and are minimal alike, and as many minimal winning
+/// coalitions pass any test of their members.
+#[tactic(auto, using(crate::proofs::Searches::for_sets))]
+pub fn places_do_not_matter()
+    ensures { (g h : GameView) → IsGame g → IsGame h → h.names ≡ g.names → h.rules ≡ g.rules
+        → IsSameByMembers g h }
 {}

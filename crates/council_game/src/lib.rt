@@ -8,6 +8,7 @@
 #![tactic(auto)]
 
 mod checks;
+mod contribution;
 mod fault;
 mod game;
 mod joined;
@@ -16,6 +17,7 @@ mod naming;
 mod notation;
 mod plain;
 mod ranks;
+mod renumbering;
 mod rule;
 mod winning;
 

@@ -25,8 +25,8 @@ impl Game {
         coalition
     }
 
-    /// The coalition with one member besides, given by its place in the file.
-    fn with_member(&self, coalition: Coalition, member: usize) -> Coalition
+    /// Returns the coalition with one more member, given by its place in the file.
+    pub(crate) fn with_member(&self, coalition: Coalition, member: usize) -> Coalition
         requires { member < length self.now.names }
         ensures inside { has (length self.now.names) (slice_index self.now.ranks member) result
             ≡ true }

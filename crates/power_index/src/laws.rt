@@ -6,7 +6,7 @@ ghost use Rattle.council_game.specs.Votes.{minimal_coalitions};
 ghost use Rattle.power_index.specs.Counting.{members};
 ghost use Rattle.power_index.specs.Fractions.{AddUpToOne, HasLowestTerms, IsIndex, SameFraction};
 ghost use Rattle.power_index.specs.Indices.{deegan_packel, public_good};
-ghost use Rattle.power_index.specs.Tables.{AreCounts, AreTallies, Tables};
+ghost use Rattle.power_index.specs.Tables.{AreCounts, AreCountsOfGame, AreTallies, Tables};
 ghost use Rattle.std.specs.Prelude.{◌≡◌, ℕ, ◌<◌, ◌≤◌, ◌^◌, List, length, map};
 
 /// The Deegan-Packel indices of all members add up to 1, over any list of nonempty coalitions that
@@ -45,6 +45,13 @@ pub fn lowest_terms_are_unique()
 pub fn tallies_are_counts()
     ensures { (g : GameView) (list : List ℕ) (t : Tables) →
         AreTallies g list t → AreCounts g list t }
+{}
+
+/// Which places the members have changes no count and no index: the counts of a game are those of
+/// each game of the same members and rules.
+pub fn places_change_no_count()
+    ensures { (g h : GameView) (t : Tables) → IsGame g → IsGame h → h.names ≡ g.names → h.rules ≡ g.rules
+        → AreCountsOfGame h t → AreCountsOfGame g t }
 {}
 
 /// Two indices that are the same number have equal pairs.

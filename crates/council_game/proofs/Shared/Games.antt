@@ -67,6 +67,10 @@ position_nowhere p xs h = rw (stops_nowhere p xs h, le-ltb (length xs) (length x
 pub nowhere_below : (p : ℕ → Bool) (m : ℕ) → ((i : ℕ) → i < m → p i ≡ false) → position p (range_with_len 0 m) ≡ None
 nowhere_below p m h = grind (arith, nat_tests, position_nowhere, length-range_with_len, places-at)
 
+-- there are at most 40 members
+pub few-names : (g : GameView) → IsGame g → length g.names ≤ 40
+few-names g game = let p = passed g game.made in grind (arith, nat_tests)
+
 -- no name is longer than 64 bytes
 name-fits : (name : List ℕ) → not (is_name name) ≡ false → length name ≤ 64
 name-fits name h = grind (arith, nat_tests)

@@ -1,9 +1,9 @@
 -- The tables of a game that is made.
-use Rattle.council_game.proofs.Imports.{recursion_from_All, or_parts, common_steps, Rule, RuleView, IsVotes, votes, nat_tests, ◌≡◌, ℕ}
+use Rattle.council_game.proofs.Imports.{recursion_from_All, or_parts, Rule, RuleView, IsVotes, votes, ◌≡◌, ℕ}
 use Rattle.council_game.proofs.Imports.{rule_along, rule_view, rule_views, GameView, IsGame, made_game, first_weights, total, votes_of}
 use Rattle.council_game.proofs.Imports.{Option, Ok, AllByRecursion, length-map, member_at, rank_places, members_by_rank, rule_by_rank}
 use Rattle.council_game.proofs.Imports.{◌<◌, ◌≤◌, List, [], ◌∷◌, length, get_or, map, sum, refl, sym, ap, ◌∙◌, subst, arith, All}
-use Rattle.council_game.proofs.Imports.{string_bytes}
+use Rattle.council_game.proofs.Imports.{string_bytes, get_or_default}
 use Rattle.council_game.specs.Inner.Parts.{game_of_parts}
 use Rattle.std.proofs.Common.{String, Global, option_map, ltb-false}
 use Rattle.std.proofs.lemmas.List.Elements.{All-map}
@@ -11,7 +11,7 @@ use Rattle.council_game.proofs.Shared.{Rankings.length-by_rank, Rankings.by_rank
 use Rattle.council_game.proofs.Shared.Games.{passed, votes-are, light-weights, light-sum}
 pub use Rattle.council_game.proofs.Shared.Rankings.{RanksAre, ranks-of, ranked-falls, order-below}
 
-first-length : (rules : List Rule) (n : ℕ) → 0 < length rules → All (λ r. length r.weights.items ≡ n) rules
+pub first-length : (rules : List Rule) (n : ℕ) → 0 < length rules → All (λ r. length r.weights.items ≡ n) rules
     → length (first_weights (rule_views rules)) ≡ n
 first-length [] n some full = absurd (omega arith)
 first-length (r ∷ rs) n some full = full 0 r (omega arith)
@@ -22,12 +22,12 @@ pub first-ranks : (rules : List Rule) (r : Rule) (ws ks : List ℕ) → 0 < leng
 first-ranks [] r ws ks some at is h = absurd (omega arith)
 first-ranks (first ∷ rules) r ws ks some at is h = h ∙ ap rank_places is ∙ ap (λ (x : Rule). rank_places x.weights.items) at
 
-pub order-fits : (rules : List Rule) (n : ℕ) (os : List ℕ) → 0 < length rules → All (λ r. length r.weights.items ≡ n) rules
-    → os ≡ members_by_rank (rank_places (first_weights (rule_views rules))) → All (λ r. All (λ i. i < length r.weights.items) os) rules
-order-fits rules n os some full e k d lt j i below =
-    let len = first-length rules n some full in
+-- each rule weighs the members that some numbers rank
+pub order-fits : (rules : List Rule) (n : ℕ) (os ws : List ℕ) → length ws ≡ n → All (λ r. length r.weights.items ≡ n) rules
+    → os ≡ members_by_rank (rank_places ws) → All (λ r. All (λ i. i < length r.weights.items) os) rules
+order-fits rules n os ws len full e k d lt j i below =
     let here = full k d lt in
-    let h = order-below (first_weights (rule_views rules)) os e j i below in
+    let h = order-below ws os e j i below in
     omega (arith, len, here, h)
 
 -- no total is too great
@@ -110,3 +110,23 @@ file-full g rules i x game same lt at =
     let full = subst (λ (l : List RuleView). All (λ r. length r.weights ≡ length g.names) l) same game.full in
     let here = held_full rules (length g.names) full i x (omega (arith, ap length same, length-map rules rule_view)) in
     ap (λ (r : Rule). length r.weights.items) at ∙ here
+
+pub all-full : (g : GameView) (rules : List Rule) → IsGame g → g.rules ≡ rule_views rules
+    → All (λ r. length r.weights.items ≡ length g.names) rules
+all-full g rules game same k d lt =
+    file-full g rules k (get_or rules k d) game same (let count = ap length same ∙ length-map rules rule_view in omega (arith, count, lt))
+    (get_or_default rules k d (get_or rules k d) lt)
+
+-- the same game with its places in another order
+pub is-reordered : (g : GameView) (ws : List ℕ) → IsGame g → 1 < length g.rules → length ws ≡ length g.names
+    → IsGame (record g { ranks = rank_places ws })
+is-reordered g ws game several long = record {
+  made = game.made;
+  order = ws;
+  ordered = long;
+  ranks = refl;
+  by_weight = λ one. absurd (omega (arith, several, one));
+  has_rule = game.has_rule;
+  few_rules = game.few_rules;
+  full = game.full;
+}

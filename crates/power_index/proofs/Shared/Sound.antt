@@ -4,7 +4,7 @@ use Rattle.power_index.proofs.Imports.{get_or, replicate, cond, Bool, true, sym,
 use Rattle.power_index.proofs.Imports.{filter, has, size, GameView, IsGame, AreNonemptyCoalitions, votes-are, ranks-are, total_of_sizes}
 use Rattle.power_index.proofs.Imports.{size_of, Tables, AreSizeCounts, AreTallies, AreOfOneGame, AreCounts, AreSound, All, table_total}
 use Rattle.power_index.proofs.Imports.{AreAdded, with_one}
-use Rattle.std.proofs.lemmas.List.{get_or-replicate, Elements.All-append, Elements.filter-append, Sums.sum_by_push}
+use Rattle.std.proofs.lemmas.List.{get_or-replicate, Elements.All-append, Elements.All-cons, Elements.All-nil, Elements.filter-append, Sums.sum_by_push}
 use Rattle.std.proofs.Common.{length-set}
 use Rattle.power_index.specs.Inner.Tables.{AreOfSomeList, AreKept}
 use Rattle.coalitions.proofs.Shared.Lists.{bumped, filter-all}
@@ -99,9 +99,21 @@ pub more-kept : (t u : Tables) (c : ℕ) → AreKept t → 0 < c → c < 2 ^ t.m
 more-kept t u c old some below room more =
     let own = old.of_some in
     let tallies = more own.game own.list own.tallies in
-    let total : table_total u ≡ table_total t + 1 = grind (arith, common_steps, length-append, total-is) in
-    let grown : AreOfSomeList u = grind (arith, common_steps, length-append, total-is) in
-    (kept grown, total)
+    let long = length-append own.list (c ∷ []) in
+    let first = total-is own.game own.list t own.tallies in
+    let second = total-is own.game (own.list ++ c ∷ []) u tallies in
+    let one : AreNonemptyCoalitions own.game (c ∷ []) =
+    All-cons (λ c. (0 < c) × (c < 2 ^ length own.game.names)) c []
+    (some, subst (λ (n : ℕ). c < 2 ^ n) own.tallies.of_game.members below) (All-nil (λ c. (0 < c) × (c < 2 ^ length own.game.names))) in (
+      kept (record {
+        game = own.game;
+        list = own.list ++ c ∷ [];
+        coalitions = All-append (λ c. (0 < c) × (c < 2 ^ length own.game.names)) own.list (c ∷ []) own.coalitions one;
+        few = omega (arith, first, second, long, room);
+        tallies = tallies;
+      }),
+      omega (arith, first, second, long),
+    )
 
 -- two lists, one after the other
 pub join-hold : (g : GameView) (first second : List ℕ) (s t : Tables) (all : List ℕ) (each : List (List ℕ)) → AreAdded s.all t.all all

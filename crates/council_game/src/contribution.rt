@@ -1,0 +1,65 @@
+//! The order of members by what they contribute to winning.
+ghost use Rattle.std.specs.Prelude.{◌≡◌, ◌<◌, ◌⊎◌, IfOk, MatchOption, length, map};
+ghost use Rattle.council_game.specs.Contribution.{by_contribution, contribution};
+ghost use Rattle.council_game.specs.Members.{members};
+
+use crate::{Game, Memory};
+use std::alloc::Global;
+
+/// Contributions are counted in millionths.
+const MILLION: u64 = 1_000_000;
+
+impl Game {
+    /// Returns a copy of the game whose places are in the order in which a walk over its coalitions is short: members
+    /// who contribute more come first. Returns none if its places are in this order, or if it has one rule.
+    ///
+    /// What a member contributes to a rule is its weight divided by what the rule can do without
+    /// (total - quota + 1). So members who can veto come first, and large members before small
+    /// ones, whatever the order of the rules.
+    ///
+    /// # Errors
+    ///
+    /// `Memory` if an allocation was refused.
+    pub fn by_contribution(&self, alloc: Global) -> Result<Option<Game>, Memory>
+        ensures { IfOk result (λ game. MatchOption game
+            ((length self.now.rules ≡ 1) ⊎ (by_contribution self.now ≡ self.now))
+            (λ game. game ≡ by_contribution self.now)) }
+    {
+        if self.rules() == 1 {
+            return Ok(None);
+        }
+        let contributions = contributions(alloc, self)?;
+        let game = self.ranked_by(alloc, &contributions)?;
+        if game.is_ranked_as(self) {
+            Ok(None)
+        } else {
+            Ok(Some(game))
+        }
+    }
+}
+
+/// Returns what each member contributes, in the order of the file.
+#[tactic(auto, using(crate::proofs::Shared::Lists::map_one_more))]
+fn contributions(alloc: Global, game: &Game) -> Result<Vec<u64>, Memory>
+    ensures { IfOk result (λ list. list.items ≡ map (contribution game.now) (members game.now)) }
+{
+    let members = game.members();
+    let mut list = Vec::with_capacity(alloc, members)?;
+    for member in 0..members {
+        list.push(contribution(game, member))?;
+    }
+    Ok(list)
+}
+
+/// Returns what a member contributes to all rules together.
+fn contribution(game: &Game, member: usize) -> u64
+    requires { member < length game.now.names }
+    ensures { result ≡ contribution game.now member }
+{
+    let mut sum = 0;
+    for rule in 0..game.rules() {
+        let spare = game.rule_total(rule) - game.rule_quota(rule) + 1;
+        sum += game.rule_weight(rule, member) * MILLION / spare;
+    }
+    sum
+}
