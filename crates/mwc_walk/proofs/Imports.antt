@@ -3,10 +3,10 @@ pub use Rattle.coalitions.proofs.Shared.Digits.{has-none, lowest-place}
 pub use Rattle.council_game.proofs.Shared.{Listing.listing-is, Meanings.needs-each-member, Weights.weight-le, Weights.weight-without}
 pub use Rattle.council_game.specs.Game.{votes_of}
 pub use Rattle.council_game.specs.Votes.{IsRanked, IsRule, IsVotes, RuleView, Votes, rule_at, weight}
-pub use Rattle.mwc_walk.specs.Inner.{Ahead.OutlookIs, Covers.Covers, Covers.InInterval, Lanes.lane_at, Lanes.lane_with, Lanes.lane_without}
+pub use Rattle.mwc_walk.specs.Inner.{Lanes.lane_at, Lanes.lane_with, Lanes.lane_without}
 pub use Rattle.mwc_walk.specs.declared.{price.Price.Price, step.Step.TheVariants.End, step.Step.TheVariants.Give, step.Step.TheVariants.On}
-pub use Rattle.mwc_walk.specs.{Inner.Vetoes.IsSplit, Inner.Vetoes.vetoes_at, declared.cursor.Cursor.Cursor, declared.lane.Lane.Lane}
-pub use Rattle.mwc_walk.specs.Inner.{Asked.asked_at, Prices.IsPrice, Spared.IsNeed, Spared.Tried}
+pub use Rattle.mwc_walk.specs.{declared.cursor.Cursor.Cursor, declared.lane.Lane.Lane}
+pub use Rattle.mwc_walk.specs.Inner.{Prices.IsPrice, Prices.IsRow, Spared.ExcessIs, Spared.IsNeed, Spared.Tried}
 pub use Rattle.mwc_walk.specs.Inner.Cursor.{CursorIs, IsPlace, SomeSteps, steps_left}
 pub use Rattle.mwc_walk.specs.Inner.Places.{IsExcess, LaneIs, LanesStand, NothingBelow}
 pub use Rattle.std.proofs.Common.{length-take, map, min, pow-add, pow_mono, pow_pos, refl, shr-shr, slice_index, subst, suc, sum, sym, take}

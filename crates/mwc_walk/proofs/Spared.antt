@@ -3,13 +3,12 @@ use Rattle.mwc_walk.proofs.Imports.{false_from_ne_true, nat_tests, shr-shr, Rule
 use Rattle.mwc_walk.proofs.Imports.{le-leb, Cursor, LaneIs, NothingBelow, IsExcess, wins_at, IsNeed, Tried, rule_at, has, without, weight}
 use Rattle.mwc_walk.proofs.Imports.{trailing_zeros, pow_mono, cases_eq, cases_lt, cases_Bool, CursorIs, has-none, lane_at, IsVotes, ◌<◌}
 use Rattle.mwc_walk.proofs.Imports.{◌≤◌, min, true, List, [], length, IsRanked, ◌∙◌, arith, w64, get_or_default, list_all-from_AllPass}
-use Rattle.mwc_walk.proofs.Imports.{asked_at, wins, minimal, needs-each-member, Lane, eq-eqb, IsSplit, ◌≡◌, ℕ, ◌+◌, ◌-◌, ◌*◌, ◌/◌, ◌^◌}
-use Rattle.std.proofs.lemmas.{Bool.and_parts, Bool.and_from, Nat.and_le_l, Nat.Bits.bit_at-trailing_zeros, Nat.Bits.bit_at_and}
+use Rattle.mwc_walk.proofs.Imports.{wins, minimal, needs-each-member, Lane, eq-eqb, ExcessIs, weight-le, ◌≡◌, ℕ, ◌+◌, ◌-◌, ◌*◌, ◌/◌, ◌^◌}
+use Rattle.std.proofs.lemmas.{Bool.and_parts, Bool.and_from, Nat.and_le_l, Nat.Bits.bit_at_and}
 use Rattle.std.proofs.Common.{◌&&◌, bit_and}
 use Rattle.coalitions.proofs.Shared.Digits.{has-kept, has-gone, without-less}
 use Rattle.council_game.proofs.Shared.WinningByPlaces.{sum-without, rule-is}
-use Rattle.mwc_walk.specs.Inner.{Places.AreExcesses, Places.CanSpare, Spared.IsEnough, Spared.NoneSpared}
-use Rattle.mwc_walk.specs.declared.vetoes.Vetoes.{Vetoes}
+use Rattle.mwc_walk.specs.Inner.{Places.AreExcesses, Places.CanSpare, Spared.NoneSpared}
 use Rattle.mwc_walk.proofs.{Shared.One.place-before, Shared.One.in-slice, Steps.enter-short, Steps.lane-here, Steps.sum-here}
 use Rattle.mwc_walk.proofs.Rules.{weight-block, weight-parts, wins-prefix, met-at}
 
@@ -35,34 +34,19 @@ still-wins v c q game below in' free = list_all-from_AllPass _ v.rules (λ i d l
     rw same (le-leb _ _ (omega (arith, free i lt, sum-without v.members (rule_at v.rules i) c q _ (rule-is v i game lt) below in' refl))))
 
 -- ---- one place after another
--- no place of rest comes after its last
-pub up-to-last : (n rest q : ℕ) → n ≤ 40 → 0 < rest → rest < 2 ^ n → q < n → has n q rest ≡ true → q ≤ n - 1 - trailing_zeros w64 rest
-unfolding has
-up-to-last n rest q few pos short below in' =
-    let up : 2 ^ n ≤ 2 ^ 40 = pow_mono few in grind (arith, cases_lt, bit_at-trailing_zeros w64 rest pos)
-
--- what the first rule can not spare of a place, it can spare of no place before it
-first-keeps : (rs : List RuleView) (e q m : ℕ) → IsRanked rs → 1 ≤ length rs → e < get_or (rule_at rs 0).weights q 0 → m ≤ q
-    → q < length (rule_at rs 0).weights → e < get_or (rule_at rs 0).weights m 0
-first-keeps rs e q m ranked some keeps before below = grind arith
-
 module _ {v : Votes} {p x rest : ℕ} {es : List ℕ} (tried : Tried v p x es rest) where
   pub tried-more : (q : ℕ) → 0 < rest → q < v.members → has v.members q rest ≡ true → (CanSpare v es q → ⊥)
       → Tried v p x es (without v.members q rest)
   tried-more q pos below in' kept = grind (arith, both_ways, cases_eq, has-gone, has-kept, without-less)
 
-  -- where the first rule can not spare the last place of those left, no place can be spared
-  pub first-keeps-all : (q : ℕ) → IsVotes v → ((m : ℕ) → m < v.members → has v.members m rest ≡ true → m ≤ q) → q < v.members
-      → get_or es 0 0 < get_or (rule_at v.rules 0).weights q 0 → NoneSpared v p x es
-  first-keeps-all q game last below keeps = grind (arith, cases_Bool, first-keeps, rule-is)
-
   pub tried-all : rest ≡ 0 → NoneSpared v p x es
   tried-all none = λ q below in'. tried.kept q below in' (ap (has v.members q) none ∙ has-none v.members q)
 
-  -- a rule that passes its quota by nothing spares only who weighs nothing
-  pub tried-weightless : (i : ℕ) (l : Lane) → i < length v.rules → LaneIs v.members (rule_at v.rules i) l → get_or es i 0 ≡ 0
-      → Tried v p x es (bit_and rest l.weightless)
-  tried-weightless i l below is nothing = grind (arith, and_le_l, and_from, and_parts, both_ways, cases_Bool, eq-eqb, has-and)
+  -- a rule that passes its quota by less than the lightest member weighs spares only who weighs nothing
+  pub tried-weightless : (i : ℕ) (l : Lane) → i < length v.rules → p ≤ v.members → LaneIs v.members (rule_at v.rules i) l
+      → get_or es i 0 < get_or l.lightest p 0 → Tried v p x es (bit_and rest l.weightless)
+  tried-weightless i l below le is less =
+      grind (arith, and_le_l, and_from, and_parts, both_ways, cases_Bool, eq-eqb, has-and, place-before, is.lightest p)
 
 module _ {v : Votes} {a : Cursor} (is : CursorIs v a) where
   -- ---- what is there and what comes
@@ -75,28 +59,34 @@ module _ {v : Votes} {a : Cursor} (is : CursorIs v a) where
     pub meets : (rule_at v.rules i).quota ≤ weight (rule_at v.rules i).weights c
     meets = met-at v.rules c i won (omega (arith, below, is.rules))
 
+  -- what the quota lacks comes
+  pub lacks-need : (i e : ℕ) → i < a.rules → e ≡ (lane_at a.lanes i).quota - (lane_at a.lanes i).sum → IsNeed v a.place a.prefix i e
+  lacks-need i e below is-e = λ c prefix won.
+      omega (arith, meets i c below prefix won, there-and-comes i c below prefix won, (lane-here is i below).quota)
+
   -- the excess over the quota with what comes at the least
-  pub least-excess : (i t b : ℕ) → i < a.rules → t ≤ (lane_at a.lanes i).sum + b
-      → ((c : ℕ) → c / 2 ^ (v.members - a.place) ≡ a.prefix → wins v.rules c ≡ true
-      → b ≤ weight (drop a.place (rule_at v.rules i).weights) c)
+  pub least-excess : (i t need : ℕ) → i < a.rules → t ≤ (lane_at a.lanes i).sum + need → IsNeed v a.place a.prefix i need
       → IsExcess v a.place a.prefix i (t - (lane_at a.lanes i).quota)
-  least-excess i t b below most comes = λ c prefix won. grind (arith, meets, there-and-comes, lane-here, sum-here)
+  least-excess i t need below most comes = λ c prefix won.
+      omega (
+        arith,
+        meets i c below prefix won,
+        there-and-comes i c below prefix won,
+        (lane-here is i below).quota,
+        comes c prefix won,
+      )
 
-  -- what is there beyond what the rule asks is passed by each winning coalition below
-  pub excess-is : (i e : ℕ) → i < length v.rules → e ≡ (lane_at a.lanes i).sum - asked_at a.asked i a.place
-      → IsExcess v a.place a.prefix i e
-  excess-is i e below is-e = λ c prefix won. grind (arith, meets, there-and-comes)
+  -- what is there beyond the quota is passed by each winning coalition below
+  pub excess-are : (es : List ℕ) → ExcessIs v a.place a.prefix es → AreExcesses v a.place a.prefix es
+  excess-are es is-e = λ i below c prefix won. grind (arith, is-e i below, meets i c, there-and-comes i c, sum-here)
 
-  pub enough-is : (i e : ℕ) → i < length v.rules → e ≡ (lane_at a.lanes i).sum - asked_at a.asked i a.place
-      → weight (take a.place (rule_at v.rules i).weights) a.prefix - (rule_at v.rules i).quota ≤ e
-  enough-is i e below is-e = grind (arith, sum-here)
-
-  -- what the quota asks for beside what is there and what vetoers bring
-  pub short-need : (i e : ℕ) (s : Vetoes) → i < length v.rules → IsSplit v i s
-      → e ≡ (lane_at a.lanes i).quota - min (2 ^ 64 - 1) ((lane_at a.lanes i).sum + get_or s.brings a.place 0)
-      → IsNeed v a.place a.prefix s e
-  short-need i e s below split is-e = λ c prefix won.
-      grind (arith, meets i c, there-and-comes i c, lane-here is i, split.parts a.place c is.place.to won)
+  -- where more is needed than can come, nothing wins below
+  pub out-of-reach : (i need : ℕ) → i < a.rules → get_or (lane_at a.lanes i).rest a.place 0 < need → IsNeed v a.place a.prefix i need
+      → NothingBelow v a.place a.prefix
+  out-of-reach i need below more comes = λ c prefix. false_from_ne_true _ (λ min.
+      let won = ((needs-each-member v c).0 min).0 in
+      let most = weight-le (drop a.place (rule_at v.rules i).weights) c in
+      omega (arith, comes c prefix won, most, (lane-here is i below).rest a.place is.place.to))
 
   -- ---- who can be spared
   -- a member whom each rule can spare, by what each coalition below has beyond the quotas, is needed in none of them
@@ -106,10 +96,10 @@ module _ {v : Votes} {a : Cursor} (is : CursorIs v a) where
       grind (arith, both_ways, false_from_ne_true, has-below, needs-each-member, still-wins)
 
   -- a winning prefix of which no member can be spared is minimal
-  pub kept-minimal : (es : List ℕ) → IsEnough v a.place a.prefix es → NoneSpared v a.place a.prefix es
+  pub kept-minimal : (es : List ℕ) → ExcessIs v a.place a.prefix es → NoneSpared v a.place a.prefix es
       → wins_at v.rules a.place a.prefix ≡ true
       → minimal v (a.prefix * 2 ^ (v.members - a.place)) ≡ true
-  kept-minimal es enough kept won =
+  kept-minimal es excess kept won =
       let x : ℕ = a.prefix * 2 ^ (v.members - a.place) in
       let whole = wins-prefix v.members v.rules is.game.rules a.place a.prefix is.place.to in
       (needs-each-member v x).1 (
@@ -119,7 +109,7 @@ module _ {v : Votes} {a : Cursor} (is : CursorIs v a) where
             let met = met-at v.rules (without v.members q x) i still lt in
             let less = sum-without v.members (rule_at v.rules i) x q _ rule below in'
             (sym (weight-block rule a.place a.prefix is.place.to)) in
-            omega (arith, met, rule.some, less, enough i lt))),
+            omega (arith, met, rule.some, less, excess i lt))),
       )
 
   -- all members of the prefix are still to be tried

@@ -4,9 +4,8 @@ use Rattle.mwc_walk.proofs.Imports.{cond-false, cond_both, list_all, RuleView, V
 use Rattle.mwc_walk.proofs.Imports.{min, true, false, List, ◌++◌, map, length, take, get_or, refl, Lane, Cursor, On, Give, End, lane_with}
 use Rattle.mwc_walk.proofs.Imports.{lane_without, IsPlace, lane_at, LanesStand, ap, ◌∙◌, arith, common_steps, shr-shr, pow_pos, pow_mono}
 use Rattle.mwc_walk.proofs.Imports.{cases_lt, both_ways, sum_by-take-drop, weight, weight-le, rule_at, LaneIs, leb, get_or-take}
-use Rattle.mwc_walk.proofs.Imports.{get_or_default, sum, drop, length-take, nat_tests}
+use Rattle.mwc_walk.proofs.Imports.{get_or_default, sum, sym, drop, length-take, nat_tests}
 use Rattle.mwc_walk.specs.Inner.{Cursor.Steps, Cursor.Starts, Lanes.no_lane, Lanes.lane_reaches, Lanes.lane_wins, Places.LanesAre}
-use Rattle.mwc_walk.specs.{Inner.Asked.AreAsked, declared.asked.Asked.Asked}
 use Rattle.std.proofs.Common.{All, cond, ltb, pow-suc, lt-ltb, le-ltb}
 use Rattle.std.proofs.lemmas.Nat.{shl_below, shl_whole}
 use Rattle.mwc_walk.proofs.Rest.{dead-nothing, left-nothing, left-won, left-take, left-none, left-all}
@@ -52,6 +51,10 @@ pub record IsPart (f : Lane → Lane) (old new : List Lane) (k : ℕ) : Type 0 w
 pub is-part : (f : Lane → Lane) (new q old : List Lane) (k : ℕ) → new ≡ map f (take k old) → k ≤ length old → IsPart f old (new ++ q) k
 is-part f new q old k e le = grind (arith, common_steps)
 
+-- the weight of a place, by its lane
+pub lane-weight : {n : ℕ} {r : RuleView} {l : Lane} → LaneIs n r l → (q : ℕ) → q < n → get_or l.weights q 0 ≡ get_or r.weights q 0
+lane-weight {n} {r} {l} is q below = sym (get_or-take n l.weights q 0 below) ∙ ap (λ (ws : List ℕ). get_or ws q 0) is.weights
+
 -- the lane with another sum
 lane-moved : {n : ℕ} {r : RuleView} {l : Lane} (s : ℕ) → LaneIs n r l → LaneIs n r (record l { sum = s })
 lane-moved s is = grind arith
@@ -64,7 +67,7 @@ module _ (v : Votes) (p q x y : ℕ) (below : p < v.members) (next : q ≡ p + 1
   lanes-in old new k more all part are = (
     λ i lt. rw (part.each i (omega (arith, lt, all))) (lane-moved _ (are.0 i lt)),
     λ i lt. rw (part.each i (omega (arith, lt, all))) (let own = are.0 i lt in
-        omega (arith, weight-step own.rule p q x y 1 below next more (omega arith), are.1 i lt, own.weights p below)),
+        omega (arith, weight-step own.rule p q x y 1 below next more (omega arith), are.1 i lt, lane-weight own p below)),
   )
 
   -- it comes out again
@@ -78,7 +81,7 @@ module _ (v : Votes) (p q x y : ℕ) (below : p < v.members) (next : q ≡ p + 1
       weight-step own.rule p q (y / 2) x 1 below next (omega arith) (omega arith),
       weight-over own.rule p q (y / 2) y below next (omega arith),
       are.1 i lt,
-      own.weights p below,
+      lane-weight own p below,
     )),
   )
 
@@ -130,7 +133,7 @@ module _ {v : Votes} {a : Cursor} (is : CursorIs v a) where
           let step = weight-step own.rule (a.place - 1) a.place (a.prefix / 2) a.prefix 1 (omega (arith, is.place.to, is.place.from))
           (omega arith) (omega arith) (omega arith) in
           rw (get_or-take a.rules a.lanes i d below, get_or_default a.lanes i d no_lane (omega (arith, below, is.room)))
-          (omega (arith, step, sum-here i below, own.weights (a.place - 1) (omega (arith, is.place.to, is.place.from))))
+          (omega (arith, step, sum-here i below, lane-weight own (a.place - 1) (omega (arith, is.place.to, is.place.from))))
 
   -- nothing is left
   pub back-end : a.fresh ≡ false → a.place ≡ a.bits → Steps v a End a
@@ -188,7 +191,7 @@ module _ {v : Votes} {a : Cursor} (is : CursorIs v a) where
           weight-le (take a.place (rule_at v.rules i).weights) a.prefix,
           own.rule.light,
           sum-here i below,
-          own.weights a.place in-room,
+          lane-weight own a.place in-room,
         ))
 
     -- the next member is taken in
@@ -232,10 +235,10 @@ pub lanes-first : (v : Votes) (k x m : ℕ) (ls : List Lane) → k ≤ v.members
 unfolding LanesAre
 lanes-first v k x m ls le mask own sums = (own, λ i lt. sums i lt ∙ rw mask (weight-block (own i lt).rule k x le))
 
-pub starts : (v : Votes) (k j x m n fixed : ℕ) (ls : List Lane) (qs : List Asked) → IsVotes v → k ≤ v.members → j < 2 ^ k → n ≡ v.members
-    → m ≡ length v.rules → m ≤ length ls → AreAsked v qs → fixed ≡ (2 ^ k - 1 - j) * 2 ^ (v.members - k) → LanesStand v ls
+pub starts : (v : Votes) (k j x m n fixed : ℕ) (ls : List Lane) → IsVotes v → k ≤ v.members → j < 2 ^ k → n ≡ v.members
+    → m ≡ length v.rules → m ≤ length ls → fixed ≡ (2 ^ k - 1 - j) * 2 ^ (v.members - k) → LanesStand v ls
     → ((i : ℕ) → i < length v.rules → (lane_at ls i).sum ≡ weight (rule_at v.rules i).weights fixed) → x ≡ 2 ^ k - 1 - j
     → Starts v k j
-    (record { lanes = ls; asked = qs; rules = m; members = n; bits = k; number = j; prefix = x; place = k; fresh = true; visits = k })
-starts v k j x m n fixed ls qs game le below members rules room asked mask own sums prefix =
+    (record { lanes = ls; rules = m; members = n; bits = k; number = j; prefix = x; place = k; fresh = true; visits = k })
+starts v k j x m n fixed ls game le below members rules room mask own sums prefix =
     grind (arith, cond-false, le-ltb, left-all, pow_pos, lanes-first v k x fixed ls le (rw prefix mask) own sums)

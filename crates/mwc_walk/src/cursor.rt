@@ -1,58 +1,42 @@
 //! How far a walk has come, and its steps.
-ghost use Rattle.std.specs.Prelude.{◌≡◌, ◌≢◌, ℕ, ◌*◌, ◌+◌, ◌-◌, ◌^◌, ◌<◌, ◌≤◌, false, true, bit_and, min, length, slice_index};
+ghost use Rattle.std.specs.Prelude.{◌≡◌, ◌≢◌, ℕ, ◌*◌, ◌+◌, ◌-◌, ◌^◌, ◌<◌, ◌≤◌, false, true, bit_and, length};
 ghost use Rattle.std.specs.Prelude.{IfSome, MatchOption};
-ghost use Rattle.coalitions.specs.declared.limits.TheConstants.{BITS, MEMBERS, RULES};
+ghost use Rattle.coalitions.specs.declared.limits.TheConstants.{BITS, MEMBERS};
 ghost use Rattle.council_game.specs.Game.{votes_of};
 ghost use Rattle.council_game.specs.Votes.{has, without, minimal};
-ghost use Rattle.mwc_walk.specs.Inner.Places.{reaches, wins_at, NothingBelow, IsExcess, AreExcesses, CanSpare};
-ghost use Rattle.mwc_walk.specs.Inner.Asked.{asked_at};
-ghost use Rattle.mwc_walk.specs.Inner.Lanes.{lane_at};
-ghost use Rattle.mwc_walk.specs.Inner.Spared.{IsEnough, IsNeed, AreNeeds, NoneSpared, Tried};
-ghost use Rattle.mwc_walk.specs.Inner.Vetoes.{vetoes_at};
-ghost use Rattle.mwc_walk.specs.Inner.Ahead.{AheadIs};
+ghost use Rattle.mwc_walk.specs.Inner.Places.{reaches, wins_at, NothingBelow, AreExcesses, CanSpare};
+ghost use Rattle.mwc_walk.specs.Inner.Prices.{ArePrices};
+ghost use Rattle.mwc_walk.specs.Inner.Spared.{ExcessIs, IsNeed, NoneSpared, Tried};
 ghost use Rattle.mwc_walk.specs.Inner.Cursor.{CursorIs, Steps, SomeSteps, Starts};
 
-use crate::ahead::Ahead;
-use crate::asked::Asked;
 use crate::lane::{Lane, all_reach, all_win, lanes_of, leave_out, take_in};
+use crate::price::PriceTable;
 use crate::step::Step;
 use council_game::{Coalition, Game, limits};
 
-/// The steps after which what can still come is looked at, where they came to no coalition.
+/// After so many steps without a coalition a walk over several rules also asks what the prices say.
 const NEAR: u64 = 512;
 
 /// How far the walk over one slice has come: the first `place` places are decided, as the binary
-/// digits of `prefix` say, the heaviest first.
+/// digits of `prefix` say, the first place first.
 #[derive(Drop)]
 pub(crate) struct Cursor {
-    /// A lane for each rule, and copies past the last.
+    /// A lane for each rule; copies of the first after them.
     pub(crate) lanes: [Lane; limits::RULES],
-    /// What each rule asks of a prefix, and copies past the last.
-    pub(crate) asked: [Asked; limits::RULES],
     pub(crate) rules: usize,
     pub(crate) members: usize,
-    /// How many places are fixed: the walk goes back no further.
+    /// How many places are fixed: the walk never goes back past them.
     pub(crate) bits: usize,
     /// The number of the slice.
     pub(crate) number: u16,
     pub(crate) prefix: u64,
     pub(crate) place: usize,
-    /// Whether nothing below this prefix was looked at yet; else all of it was.
+    /// True if nothing below this prefix was examined yet; false if all of it was.
     pub(crate) fresh: bool,
     pub(crate) visits: u64,
 }
 
-/// Makes what the game has ahead. It stands apart since so large a value has its price at each call of a function that
-/// has room for it, made or not.
-#[cold]
-#[inline(never)]
-fn look_ahead(game: &Game, ahead: &mut Option<Ahead>)
-    ensures { IfSome ahead.new (AheadIs (votes_of game.now)) }
-{
-    *ahead = Some(Ahead::of(game));
-}
-
-/// The fixed places of a slice, as a number.
+/// Returns the fixed places of a slice, as a number.
 #[inline(always)]
 fn first_prefix(bits: usize, number: u16) -> u64
     requires few { bits ≤ BITS }
@@ -62,7 +46,7 @@ fn first_prefix(bits: usize, number: u16) -> u64
     (1 << bits) - 1 - number as u64
 }
 
-/// The rank mask of the members of a prefix.
+/// Returns the rank mask of the members of a prefix.
 #[tactic(auto, using(crate::proofs::Steps::masks))]
 #[inline(always)]
 fn mask_of(prefix: u64, place: usize, members: usize) -> u64
@@ -76,7 +60,7 @@ fn mask_of(prefix: u64, place: usize, members: usize) -> u64
 }
 
 impl Cursor {
-    /// The cursor at the fixed places of a slice, which is all still to come.
+    /// Returns the cursor at the fixed places of a slice, with the whole slice still to come.
     pub(crate) fn start(game: &Game, bits: u8, number: u16) -> Cursor
         requires few { bits ≤ BITS }
         requires bits { bits ≤ length game.now.names }
@@ -88,11 +72,8 @@ impl Cursor {
         let bits = bits as usize;
         let prefix = first_prefix(bits, number);
         let fixed = Coalition::of_mask(mask_of(prefix, bits, members));
-        let lanes = lanes_of(game, fixed);
-        let asked = Asked::of_each(game, &lanes[..rules]);
         Cursor {
-            lanes,
-            asked,
+            lanes: lanes_of(game, fixed),
             rules,
             members,
             bits,
@@ -104,14 +85,15 @@ impl Cursor {
         }
     }
 
-    /// Steps up to the next coalition of the slice, or to its end. Under several rules what can still come is looked
-    /// at where the first steps came to none; `ahead` keeps what the game has ahead, once it was asked for.
-    pub(crate) fn find(&mut self, game: &Game, ahead: &mut Option<Ahead>) -> Step
+    /// Steps to the next coalition of the slice, or to its end.
+    ///
+    /// Under several rules the first steps do without the prices; `prices` keeps them after they were needed once.
+    pub(crate) fn find(&mut self, game: &Game, prices: &mut Option<PriceTable>) -> Step
         requires is { CursorIs (votes_of game.now) self.old }
-        requires ahead { IfSome ahead.old (AheadIs (votes_of game.now)) }
+        requires prices { IfSome prices.old (ArePrices (votes_of game.now)) }
         ensures steps { SomeSteps (votes_of game.now) self.old result self.new }
         ensures comes { result ≢ Step.On }
-        ensures ahead { IfSome ahead.new (AheadIs (votes_of game.now)) }
+        ensures prices { IfSome prices.new (ArePrices (votes_of game.now)) }
     {
         if self.rules == 1 {
             return self.next(game, None);
@@ -120,25 +102,25 @@ impl Cursor {
             Step::On => {}
             step => return step,
         }
-        if ahead.is_none() {
-            look_ahead(game, ahead);
+        if prices.is_none() {
+            self.find_prices(game, prices);
         }
-        self.next(game, ahead.as_ref())
+        self.next(game, prices.as_ref())
     }
 
-    /// As `find`, but at most `visits` visits further. Under one rule it always comes to a coalition or to the end.
-    pub(crate) fn seek(&mut self, game: &Game, ahead: &mut Option<Ahead>, visits: u64) -> Step
+    /// Does as `find`, but stops after `visits` more visits. Under one rule it never stops before a coalition or the end.
+    pub(crate) fn seek(&mut self, game: &Game, prices: &mut Option<PriceTable>, visits: u64) -> Step
         requires is { CursorIs (votes_of game.now) self.old }
-        requires ahead { IfSome ahead.old (AheadIs (votes_of game.now)) }
+        requires prices { IfSome prices.old (ArePrices (votes_of game.now)) }
         ensures steps { SomeSteps (votes_of game.now) self.old result self.new }
         ensures not_yet { result ≡ Step.On →
             (self.new.visits ≡ self.old.visits + visits) × (self.new.visits < 2 ^ 64) }
         ensures one { self.old.rules ≡ 1 → result ≢ Step.On }
         ensures few { self.old.rules ≢ 1 → self.new.visits ≤ self.old.visits + visits }
-        ensures ahead { IfSome ahead.new (AheadIs (votes_of game.now)) }
+        ensures prices { IfSome prices.new (ArePrices (votes_of game.now)) }
     {
         let Some(most) = self.most_visits(visits) else {
-            let step = self.find(game, ahead);
+            let step = self.find(game, prices);
             // for the prover alone: that the count fits its type
             let _visits = self.visits;
             return step;
@@ -147,14 +129,24 @@ impl Cursor {
             Step::On => {}
             step => return step,
         }
-        if ahead.is_none() {
-            look_ahead(game, ahead);
+        if prices.is_none() {
+            self.find_prices(game, prices);
         }
-        self.up_to(game, ahead.as_ref(), most)
+        self.up_to(game, prices.as_ref(), most)
     }
 
-    /// How many visits there are to be after `more` of them; none where nothing is to stop a walk: under one rule, and
-    /// where the count can not hold them.
+    /// Finds the prices of the game. Kept out of line: inlined, so large a value would cost stack on every call.
+    #[cold]
+    #[inline(never)]
+    fn find_prices(&self, game: &Game, prices: &mut Option<PriceTable>)
+        requires { CursorIs (votes_of game.now) self.now }
+        ensures { IfSome prices.new (ArePrices (votes_of game.now)) }
+    {
+        *prices = Some(PriceTable::new(game, &self.lanes));
+    }
+
+    /// Returns the number of visits after `more` of them; none if nothing is to stop the walk, because there is one
+    /// rule or because the count cannot hold so many.
     fn most_visits(&self, more: u64) -> Option<u64>
         ensures { MatchOption result (self.now.rules ≢ 1 → 2 ^ 64 ≤ self.now.visits + more)
             (λ most. (self.now.rules ≢ 1) × (most ≡ self.now.visits + more)) }
@@ -165,7 +157,7 @@ impl Cursor {
         self.visits.checked_add(more)
     }
 
-    /// At most `steps` steps: up to the next coalition of the slice, or to its end.
+    /// Makes at most `steps` steps towards the next coalition of the slice or its end, without the prices.
     fn some_steps(&mut self, game: &Game, steps: u64) -> Step
         requires { CursorIs (votes_of game.now) self.old }
         ensures steps { SomeSteps (votes_of game.now) self.old result self.new }
@@ -180,17 +172,17 @@ impl Cursor {
         Step::On
     }
 
-    /// Steps up to the next coalition of the slice, to its end, or until there were `visits` visits.
-    fn up_to(&mut self, game: &Game, ahead: Option<&Ahead>, visits: u64) -> Step
+    /// Steps to the next coalition of the slice, to its end, or until there were `visits` visits.
+    fn up_to(&mut self, game: &Game, prices: Option<&PriceTable>, visits: u64) -> Step
         requires is { CursorIs (votes_of game.now) self.old }
-        requires ahead { IfSome ahead (λ a. AheadIs (votes_of game.now) a.now) }
+        requires prices { IfSome prices (λ t. ArePrices (votes_of game.now) t.now) }
         requires more { self.old.visits ≤ visits }
         ensures steps { SomeSteps (votes_of game.now) self.old result self.new }
         ensures not_yet { result ≡ Step.On → self.new.visits ≡ visits }
         ensures few { self.new.visits ≤ visits }
     {
         while self.visits < visits {
-            match self.step(game, ahead) {
+            match self.step(game, prices) {
                 Step::On => {}
                 step => return step,
             }
@@ -198,52 +190,49 @@ impl Cursor {
         Step::On
     }
 
-    /// Steps up to the next coalition of the slice, or to its end, and looks at what can still come where that
-    /// is told.
-    fn next(&mut self, game: &Game, ahead: Option<&Ahead>) -> Step
+    /// Steps to the next coalition of the slice, or to its end.
+    fn next(&mut self, game: &Game, prices: Option<&PriceTable>) -> Step
         requires is { CursorIs (votes_of game.now) self.old }
-        requires ahead { IfSome ahead (λ a. AheadIs (votes_of game.now) a.now) }
+        requires prices { IfSome prices (λ t. ArePrices (votes_of game.now) t.now) }
         ensures steps { SomeSteps (votes_of game.now) self.old result self.new }
         ensures comes { result ≢ Step.On }
     {
         loop {
-            match self.step(game, ahead) {
+            match self.step(game, prices) {
                 Step::On => {}
                 step => return step,
             }
         }
     }
 
-    /// One step, by which there is one visit more at most. (It stands in each loop that makes it: a call for each step
-    /// would double the time of a walk.)
+    /// Makes one step, and at most one visit. Inlined into each loop: a call per step would double the time of a walk.
     #[inline(always)]
-    fn step(&mut self, game: &Game, ahead: Option<&Ahead>) -> Step
+    fn step(&mut self, game: &Game, prices: Option<&PriceTable>) -> Step
         requires is { CursorIs (votes_of game.now) self.old }
-        requires ahead { IfSome ahead (λ a. AheadIs (votes_of game.now) a.now) }
+        requires prices { IfSome prices (λ t. ArePrices (votes_of game.now) t.now) }
         ensures steps { Steps (votes_of game.now) self.old result self.new }
         ensures few { self.new.visits ≤ self.old.visits + 1 }
     {
         if self.fresh {
-            self.enter(game, ahead)
+            self.enter(game, prices)
         } else {
             self.back(game)
         }
     }
 
-    /// Looks at a fresh prefix: passes by one that can no longer meet some quota, and one below which no
-    /// coalition is minimal; takes the next member into one that does not win yet; and gives one that
-    /// wins, never going on below it.
+    /// Examines a fresh prefix: passes by it if no coalition below is minimal or some quota cannot be met any more,
+    /// takes in the next member if it does not win yet, and gives it if it wins.
     #[inline(always)]
-    fn enter(&mut self, game: &Game, ahead: Option<&Ahead>) -> Step
+    fn enter(&mut self, game: &Game, prices: Option<&PriceTable>) -> Step
         requires is { CursorIs (votes_of game.now) self.old }
-        requires ahead { IfSome ahead (λ a. AheadIs (votes_of game.now) a.now) }
+        requires prices { IfSome prices (λ t. ArePrices (votes_of game.now) t.now) }
         requires fresh { self.old.fresh ≡ true }
         ensures steps { Steps (votes_of game.now) self.old result self.new }
         ensures few { self.new.visits ≤ self.old.visits + 1 }
     {
         let rules = self.rules;
         let place = self.place;
-        if !self.reaches(game) || self.passes_by(game, ahead) {
+        if !self.reaches(game) || self.passes_by(game, prices) {
             self.fresh = false;
             return Step::On;
         }
@@ -277,12 +266,12 @@ impl Cursor {
         all_win(&self.lanes[..self.rules])
     }
 
-    /// Whether the prefix is passed by, since no coalition below it is minimal: a member can be spared by what is
-    /// there, or, where that is looked at, by what can still come. A winning prefix that is not passed by is minimal.
+    /// Whether the prefix is passed by, because no coalition below it is minimal: it has a member that each rule can
+    /// spare, or the prices say so. A winning prefix that is not passed by is minimal.
     #[inline(always)]
-    fn passes_by(&self, game: &Game, ahead: Option<&Ahead>) -> bool
+    fn passes_by(&self, game: &Game, prices: Option<&PriceTable>) -> bool
         requires is { CursorIs (votes_of game.now) self.now }
-        requires ahead { IfSome ahead (λ a. AheadIs (votes_of game.now) a.now) }
+        requires prices { IfSome prices (λ t. ArePrices (votes_of game.now) t.now) }
         ensures some { result ≡ true →
             NothingBelow (votes_of game.now) self.now.place self.now.prefix }
         ensures one { result ≡ true → self.now.rules ≡ 1 → self.now.place ≡ self.now.bits }
@@ -294,15 +283,15 @@ impl Cursor {
         if self.spares_one(game) {
             return true;
         }
-        match ahead {
-            Some(ahead) => self.rules > 1 && self.leads_nowhere(game, ahead),
+        match prices {
+            Some(prices) => self.rules > 1 && self.prunes(game, prices),
             None => false,
         }
     }
 
-    /// Whether the prefix has a member whom each rule can spare by what is there, here and so in each coalition
-    /// below. Sought only where a member was taken in, and at the fixed places; never past them with one rule,
-    /// under which the last member is the lightest and was needed.
+    /// Whether the prefix has a member that each rule can spare, here and so in each coalition below. Sought only at
+    /// the fixed places and after a member was taken in. With one rule not after that either: the last member is the
+    /// lightest, and was needed.
     #[inline(always)]
     fn spares_one(&self, game: &Game) -> bool
         requires { CursorIs (votes_of game.now) self.now }
@@ -320,146 +309,77 @@ impl Cursor {
         self.has_spared(game, &self.excess(game))
     }
 
-    /// By how much each rule's quota is passed by what is there and what vetoers bring; 0 where it is not. All four at once: a
-    /// loop over the rules writes the array number by number, and a copy that reads it at once waits for that.
+    /// Returns by how much the prefix passes each rule's quota; 0 if it does not. All four at once: a loop
+    /// over the rules would write the array number by number, and a copy that reads it at once waits for that.
     #[inline(always)]
     fn excess(&self, game: &Game) -> [u64; limits::RULES]
         requires { CursorIs (votes_of game.now) self.now }
-        ensures are { AreExcesses (votes_of game.now) self.now.place self.now.prefix result }
-        ensures enough { IsEnough (votes_of game.now) self.now.place self.now.prefix result }
+        ensures { ExcessIs (votes_of game.now) self.now.place self.now.prefix result }
     {
         [
-            self.passed_by(0),
-            self.passed_by(1),
-            self.passed_by(2),
-            self.passed_by(3),
+            self.lanes[0].excess(),
+            self.lanes[1].excess(),
+            self.lanes[2].excess(),
+            self.lanes[3].excess(),
         ]
     }
 
-    /// By how much a rule's quota is passed by what is there and what vetoers bring.
-    #[inline(always)]
-    fn passed_by(&self, rule: usize) -> u64
-        requires rule { rule < RULES }
-        requires place { self.now.place ≤ MEMBERS }
-        ensures { result ≡ (lane_at self.now.lanes rule).sum - asked_at self.now.asked rule self.now.place }
-    {
-        self.lanes[rule]
-            .sum
-            .saturating_sub(self.asked[rule].before[self.place])
-    }
-
-    /// Whether no coalition below is minimal by what can still come: some quota can not be met by any sum that
-    /// can, or each is passed by enough to spare a member.
+    /// Whether the prices show that no coalition below is minimal: some rule needs more than can still come, or
+    /// what must come lets each rule pass its quota by enough to spare a member.
     #[inline(never)]
-    fn leads_nowhere(&self, game: &Game, ahead: &Ahead) -> bool
+    fn prunes(&self, game: &Game, prices: &PriceTable) -> bool
         requires is { CursorIs (votes_of game.now) self.now }
-        requires ahead { AheadIs (votes_of game.now) ahead.now }
+        requires prices { ArePrices (votes_of game.now) prices.now }
         ensures { result ≡ true → NothingBelow (votes_of game.now) self.now.place self.now.prefix }
     {
-        let short = self.short_of_each(game, ahead);
         let mut excess = [0; limits::RULES];
         for rule in 0..self.rules {
-            match self.excess_ahead(game, ahead, &short, rule) {
-                Some(least) => excess[rule] = least,
-                None => return true,
+            let lane = &self.lanes[rule];
+            let need = self.need(game, prices, rule);
+            if need > lane.rest[self.place] {
+                return true;
             }
+            excess[rule] = lane.sum.saturating_add(need).saturating_sub(lane.quota);
         }
         self.has_spared(game, &excess)
     }
 
-    /// The least by which each winning coalition below passes a rule's quota; none where there is none, so that none is minimal.
-    fn excess_ahead(
-        &self,
-        game: &Game,
-        ahead: &Ahead,
-        short: &[u64; limits::RULES],
-        rule: usize,
-    ) -> Option<u64>
+    /// Returns what each winning coalition below gets under a rule from the places to come, at least: what the
+    /// rule lacks, and what comes with the needs of the other rules.
+    fn need(&self, game: &Game, prices: &PriceTable, rule: usize) -> u64
         requires is { CursorIs (votes_of game.now) self.now }
-        requires ahead { AheadIs (votes_of game.now) ahead.now }
-        requires short { AreNeeds (votes_of game.now) self.now.place self.now.prefix ahead.now.vetoes short.now }
+        requires prices { ArePrices (votes_of game.now) prices.now }
         requires rule { rule < self.now.rules }
-        ensures { MatchOption result (NothingBelow (votes_of game.now) self.now.place self.now.prefix)
-            (λ e. IsExcess (votes_of game.now) self.now.place self.now.prefix rule e) }
+        ensures { IsNeed (votes_of game.now) self.now.place self.now.prefix rule result }
     {
-        let need = self.need(game, ahead, short, rule);
-        match ahead.outlooks[rule].sums.from[self.place].least_from(need) {
-            Some(comes) => {
-                let all = self.there(ahead, rule).saturating_add(comes);
-                Some(all.saturating_sub(self.lanes[rule].quota))
-            }
-            None => None,
-        }
-    }
-
-    /// What others than vetoers bring to each winning coalition below, at the least: what the rule needs, and what
-    /// comes with the needs of the other rules.
-    fn need(&self, game: &Game, ahead: &Ahead, short: &[u64; limits::RULES], rule: usize) -> u64
-        requires is { CursorIs (votes_of game.now) self.now }
-        requires ahead { AheadIs (votes_of game.now) ahead.now }
-        requires short { AreNeeds (votes_of game.now) self.now.place self.now.prefix ahead.now.vetoes short.now }
-        requires rule { rule < self.now.rules }
-        ensures { IsNeed (votes_of game.now) self.now.place self.now.prefix (vetoes_at ahead.now.vetoes rule) result }
-    {
-        let mut need = short[rule];
+        let mut need = self.lanes[rule].lacks();
         for other in 0..self.rules {
             if other != rule {
-                need = need.max(self.bought(game, ahead, short, rule, other));
+                need = need.max(self.need_via_other_rule(game, prices, rule, other));
             }
         }
         need
     }
 
-    /// What comes by a rule with the need of another one, at the least.
+    /// Returns what comes under a rule with what another rule lacks, at least.
     #[inline(always)]
-    fn bought(
+    fn need_via_other_rule(
         &self,
         game: &Game,
-        ahead: &Ahead,
-        short: &[u64; limits::RULES],
+        prices: &PriceTable,
         rule: usize,
         other: usize,
     ) -> u64
         requires is { CursorIs (votes_of game.now) self.now }
-        requires ahead { AheadIs (votes_of game.now) ahead.now }
-        requires short { AreNeeds (votes_of game.now) self.now.place self.now.prefix ahead.now.vetoes short.now }
+        requires prices { ArePrices (votes_of game.now) prices.now }
         requires rule { rule < self.now.rules }
         requires other { other < self.now.rules }
-        ensures { IsNeed (votes_of game.now) self.now.place self.now.prefix (vetoes_at ahead.now.vetoes rule) result }
+        ensures { IsNeed (votes_of game.now) self.now.place self.now.prefix rule result }
     {
-        ahead.outlooks[rule].prices[other].from[self.place].of(short[other])
+        prices.by[rule][other].from[self.place].of(self.lanes[other].lacks())
     }
 
-    /// What each rule's quota still asks for, beside what vetoers bring.
-    fn short_of_each(&self, game: &Game, ahead: &Ahead) -> [u64; limits::RULES]
-        requires is { CursorIs (votes_of game.now) self.now }
-        requires ahead { AheadIs (votes_of game.now) ahead.now }
-        ensures { AreNeeds (votes_of game.now) self.now.place self.now.prefix ahead.now.vetoes result }
-    {
-        let mut short = [0; limits::RULES];
-        for rule in 0..self.rules {
-            short[rule] = self.lanes[rule]
-                .quota
-                .saturating_sub(self.there(ahead, rule));
-        }
-        short
-    }
-
-    /// What is there under a rule, with what vetoers bring.
-    fn there(&self, ahead: &Ahead, rule: usize) -> u64
-        requires rule { rule < RULES }
-        requires place { self.now.place ≤ MEMBERS }
-        ensures { result ≡ min (2 ^ 64 - 1)
-            ((lane_at self.now.lanes rule).sum
-            + slice_index (vetoes_at ahead.now.vetoes rule).brings self.now.place) }
-    {
-        self.lanes[rule]
-            .sum
-            .saturating_add(ahead.vetoes[rule].brings[self.place])
-    }
-
-    /// Whether the prefix has a member whom each rule can spare that passes its quota by its `excess`. Tried from the
-    /// last by rank, up to one whom the first rule can not spare: by that rule no member before it is lighter.
+    /// Whether the prefix has a member that each rule can spare if it passes its quota by its `excess`.
     #[inline(always)]
     fn has_spared(&self, game: &Game, excess: &[u64; limits::RULES]) -> bool
         requires { CursorIs (votes_of game.now) self.now }
@@ -471,9 +391,6 @@ impl Cursor {
         let mut rest = self.may_be_spared(game, excess);
         while rest != 0 {
             let place = self.last_place(game, rest);
-            if self.lanes[0].weights[place] > excess[0] {
-                return false;
-            }
             if self.spares(game, excess, place) {
                 return true;
             }
@@ -482,7 +399,7 @@ impl Cursor {
         false
     }
 
-    /// The last place of a mask of some members.
+    /// Returns the last place of a mask of some members.
     #[inline(always)]
     fn last_place(&self, game: &Game, rest: u64) -> usize
         requires is { CursorIs (votes_of game.now) self.now }
@@ -490,15 +407,13 @@ impl Cursor {
         requires short { rest < 2 ^ (votes_of game.now).members }
         ensures below { result < (votes_of game.now).members }
         ensures inside { has (votes_of game.now).members result rest ≡ true }
-        ensures last { (q : ℕ) → q < (votes_of game.now).members →
-            has (votes_of game.now).members q rest ≡ true → q ≤ result }
         ensures left { bit_and rest (rest - 1) ≡ without (votes_of game.now).members result rest }
     {
         self.members - 1 - rest.trailing_zeros() as usize
     }
 
-    /// Of the members of the prefix those that each rule may spare: a rule that passes its quota by nothing spares
-    /// none that has a weight.
+    /// Returns those members of the prefix that each rule may spare: a rule that passes its quota by less than the
+    /// lightest member weighs can spare only members without weight.
     #[inline(always)]
     fn may_be_spared(&self, game: &Game, excess: &[u64; limits::RULES]) -> u64
         requires { CursorIs (votes_of game.now) self.now }
@@ -506,8 +421,9 @@ impl Cursor {
     {
         let mut few = mask_of(self.prefix, self.place, self.members);
         for rule in 0..self.rules {
-            if excess[rule] == 0 {
-                few &= self.lanes[rule].weightless;
+            let lane = &self.lanes[rule];
+            if excess[rule] < lane.lightest[self.place] {
+                few &= lane.weightless;
             }
         }
         few
@@ -529,7 +445,7 @@ impl Cursor {
         true
     }
 
-    /// Comes back: leaves the last member out, where it is in, or goes up by one place.
+    /// Comes back: leaves the last member out if it is in, or else goes up by one place.
     #[inline(always)]
     fn back(&mut self, game: &Game) -> Step
         requires is { CursorIs (votes_of game.now) self.old }

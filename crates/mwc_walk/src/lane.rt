@@ -1,6 +1,6 @@
 //! What the walk knows of each rule. Most games have one rule: the functions over all rules then go
-//! straight to its lane, which takes a fifth off the time of a walk.
-ghost use Rattle.std.specs.Prelude.{◌≡◌, ◌==◌, ◌+◌, ◌^◌, ◌<◌, ◌≤◌, ℕ, length, take, drop, map, slice_index};
+//! straight to its lane, which saves a fifth of the time of a walk.
+ghost use Rattle.std.specs.Prelude.{◌≡◌, ◌==◌, ◌+◌, ◌-◌, ◌^◌, ◌<◌, ◌≤◌, ℕ, length, take, drop, map, slice_index};
 ghost use Rattle.std.specs.List.{list_all, All, sum};
 ghost use Rattle.coalitions.specs.declared.limits.TheConstants.{MEMBERS, RULES};
 ghost use Rattle.council_game.specs.Game.{votes_of};
@@ -18,14 +18,16 @@ pub(crate) struct Lane {
     pub(crate) sum: u64,
     /// The rank mask of the members without weight.
     pub(crate) weightless: u64,
+    /// For each place the least weight but 0 of the members before it; the greatest number if none has weight.
+    pub(crate) lightest: [u64; limits::SIZES],
     /// The weights, in rank order.
     pub(crate) weights: [u64; limits::MEMBERS],
-    /// What the places from each one on weigh together.
+    /// For each place what the members from it on weigh together.
     pub(crate) rest: [u64; limits::SIZES],
 }
 
 impl Lane {
-    /// The lane of a rule, with the members of a coalition in.
+    /// Returns the lane of a rule, with the members of a coalition in.
     pub(crate) fn new(game: &Game, rule: usize, fixed: Coalition) -> Lane
         requires { rule < length game.now.rules }
         ensures lane { LaneIs (votes_of game.now).members
@@ -38,6 +40,7 @@ impl Lane {
             quota: game.rule_quota(rule),
             sum: game.rule_weight_of(rule, fixed),
             weightless: weightless_of(&weights, members),
+            lightest: lightest_of(&weights, members),
             weights,
             rest: rest_of(&weights, members),
         }
@@ -48,7 +51,23 @@ impl Lane {
         requires { place ≤ MEMBERS }
         ensures { result ≡ lane_reaches place self.now }
     {
-        self.quota.saturating_sub(self.sum) <= self.rest[place]
+        self.lacks() <= self.rest[place]
+    }
+
+    /// Returns what is missing from the quota; 0 if it is met.
+    #[inline(always)]
+    pub(crate) fn lacks(&self) -> u64
+        ensures { result ≡ self.now.quota - self.now.sum }
+    {
+        self.quota.saturating_sub(self.sum)
+    }
+
+    /// Returns by how much the quota is passed; 0 if it is not.
+    #[inline(always)]
+    pub(crate) fn excess(&self) -> u64
+        ensures { result ≡ self.now.sum - self.now.quota }
+    {
+        self.sum.saturating_sub(self.quota)
     }
 
     /// Whether the quota is met.
@@ -59,7 +78,7 @@ impl Lane {
     }
 }
 
-/// The lane of each rule, with the members of a coalition in, and copies past the last.
+/// Returns the lane of each rule, with the members of a coalition in; copies of the first after them.
 pub(crate) fn lanes_of(game: &Game, fixed: Coalition) -> [Lane; limits::RULES]
     ensures long { length result ≡ RULES }
     ensures lanes { LanesStand (votes_of game.now) result }
@@ -74,7 +93,7 @@ pub(crate) fn lanes_of(game: &Game, fixed: Coalition) -> [Lane; limits::RULES]
     lanes
 }
 
-/// The weights of a rule, in rank order.
+/// Returns the weights of a rule, in rank order.
 fn weights_of(game: &Game, rule: usize) -> [u64; limits::MEMBERS]
     requires { rule < length game.now.rules }
     ensures long { length result ≡ MEMBERS }
@@ -88,8 +107,8 @@ fn weights_of(game: &Game, rule: usize) -> [u64; limits::MEMBERS]
     weights
 }
 
-/// What the places from each one on weigh together.
-pub(crate) fn rest_of(weights: &[u64; limits::MEMBERS], members: usize) -> [u64; limits::SIZES]
+/// Returns for each place what the members from it on weigh together.
+fn rest_of(weights: &[u64; limits::MEMBERS], members: usize) -> [u64; limits::SIZES]
     requires { members ≤ MEMBERS }
     ensures { sum (take members weights.now) < 2 ^ 64 → (q : ℕ) → q ≤ members →
         slice_index result q ≡ sum (drop q (take members weights.now)) }
@@ -101,7 +120,7 @@ pub(crate) fn rest_of(weights: &[u64; limits::MEMBERS], members: usize) -> [u64;
     rest
 }
 
-/// The rank mask of the members without weight.
+/// Returns the rank mask of the members without weight.
 #[tactic(auto, using(crate::proofs::Rules::weightless))]
 fn weightless_of(weights: &[u64; limits::MEMBERS], members: usize) -> u64
     requires { members ≤ MEMBERS }
@@ -114,6 +133,21 @@ fn weightless_of(weights: &[u64; limits::MEMBERS], members: usize) -> u64
         }
     }
     none.mask()
+}
+
+/// Returns for each place the least weight but 0 of the members before it.
+fn lightest_of(weights: &[u64; limits::MEMBERS], members: usize) -> [u64; limits::SIZES]
+    requires { members ≤ MEMBERS }
+    ensures { (p q : ℕ) → p ≤ members → q < p → slice_index weights.now q < slice_index result p →
+        slice_index weights.now q ≡ 0 }
+{
+    let mut lightest = [u64::MAX; limits::SIZES];
+    for place in 0..members {
+        let least = lightest[place];
+        let weight = weights[place];
+        lightest[place + 1] = if weight == 0 { least } else { least.min(weight) };
+    }
+    lightest
 }
 
 /// Whether each quota can still be met, by all members from a place on.

@@ -8,6 +8,6 @@ pub enum Seek {
     Found(Coalition),
     /// Nothing is left of the slice.
     End,
-    /// Neither of these yet, after as many visits as were asked for.
+    /// Neither of these yet, after as many visits as you asked for.
     NotYet,
 }

@@ -8,7 +8,7 @@ use crate::Walk;
 use council_game::{Coalition, Game, Memory};
 use std::alloc::Global;
 
-/// The number of slices at `bits` bits, at most 10: 2^bits.
+/// Returns the number of slices at `bits` bits, at most 10: 2^bits.
 pub fn slice_count(bits: u8) -> u16
     requires { bits ≤ BITS }
     ensures { result ≡ 2 ^ bits }
@@ -16,14 +16,14 @@ pub fn slice_count(bits: u8) -> u16
     1 << bits
 }
 
-/// The first `most` coalitions of slice `j` at `bits` bits, in listing order, or all of them where
-/// there are no more.
+/// Returns the first `most` coalitions of slice `j` at `bits` bits, in listing order, or all of them
+/// if there are no more.
 ///
 /// There are at most 10 bits, and no more than members; `j` is below 2^bits.
 ///
 /// # Errors
 ///
-/// `Memory` where a growth was refused.
+/// `Memory` if a growth was refused.
 pub fn list_slice(
     alloc: Global,
     game: &Game,
@@ -40,7 +40,7 @@ pub fn list_slice(
     list_next(alloc, &mut walk, most)
 }
 
-/// The next `most` coalitions of a walk, or all that are still to come where there are no more.
+/// Returns the next `most` coalitions of a walk, or all that are still to come if there are no more.
 pub(crate) fn list_next(
     alloc: Global,
     walk: &mut Walk<'_>,

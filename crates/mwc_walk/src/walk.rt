@@ -6,17 +6,19 @@ ghost use Rattle.mwc_walk.specs.Slices.{slice};
 ghost use Rattle.mwc_walk.specs.WalkView.{given, given_count};
 ghost use Rattle.mwc_walk.specs.Seeks.{Seeks, seeks_left};
 
-use crate::ahead::Ahead;
 use crate::cursor::Cursor;
+use crate::price::PriceTable;
 use crate::seek::Seek;
 use crate::step::Step;
 use council_game::{Coalition, Game};
 use std::marker::Model;
 
-/// A walk over the minimal winning coalitions of one slice, in listing order, which stops at each
-/// and goes on. It takes no memory. Under one rule a visit past the fixed places costs the same for any
-/// number of members. At the fixed places, and under several rules at each visit, those members of the
-/// prefix are tried whom each rule may spare, and where one can be spared nothing below is visited.
+/// A walk over the minimal winning coalitions of one slice, in listing order.
+///
+/// It stops at each coalition and goes on from there, and allocates nothing. Under one rule a visit
+/// past the fixed places costs the same for any number of members. At the fixed places, and under
+/// several rules at each visit, the walk looks for a member that each rule can spare: if the prefix
+/// has one, nothing below it is visited.
 ///
 /// Contracts see the votes of its game, the bits, the number of its slice, the coalitions that are
 /// still to come, and the count of visits.
@@ -24,8 +26,8 @@ use std::marker::Model;
 pub struct Walk<'a> {
     game: &'a Game,
     cursor: Cursor,
-    /// What the game has ahead, once it was looked at.
-    ahead: Option<Ahead>,
+    /// The prices of the game, once the walk has needed them.
+    prices: Option<PriceTable>,
 }
 
 impl<'a> Model for Walk<'a> {
@@ -41,14 +43,14 @@ impl<'a> Model for Walk<'a> {
 }
 
 impl<'a> Walk<'a> {
-    /// The walk over slice `j` of a game at `bits` bits, with the whole slice to come: the minimal
-    /// winning coalitions whose first `bits` places are those of the number 2^bits - 1 - j.
+    /// Returns the walk over slice `j` of a game at `bits` bits, with the whole slice to come.
     ///
-    /// There are at most 10 bits, and no more than members; `j` is below 2^bits. The check of each
-    /// fixed place is a visit.
+    /// The slice has the minimal winning coalitions whose first `bits` places are those of the number
+    /// 2^bits - 1 - j. There are at most 10 bits, and no more than members; `j` is below 2^bits. The
+    /// check of each fixed place is a visit.
     ///
-    /// Listing order goes by members, the heaviest first, and not by weight: what comes first has the heaviest
-    /// members, and may weigh less than what comes later.
+    /// Listing order goes by rank place and not by weight: a coalition that comes first has members of
+    /// lower rank places, and may weigh less than one that comes later.
     pub fn new(game: &'a Game, bits: u8, j: u16) -> Walk<'a>
         requires few { bits ≤ BITS }
         requires bits { bits ≤ length game.now.names }
@@ -65,12 +67,13 @@ impl<'a> Walk<'a> {
         Walk {
             game,
             cursor: Cursor::start(game, bits, j),
-            ahead: None,
+            prices: None,
         }
     }
 
-    /// The next coalition of the slice; none at its end, and ever after. What was given so far and what is
-    /// still to come are the whole slice.
+    /// Returns the next coalition of the slice; none at its end, and ever after.
+    ///
+    /// What was given so far and what is still to come are together the whole slice.
     pub fn next(&mut self) -> Option<Coalition>
         ensures next { MatchOption result ((self.old.to_come ≡ []) × (self.new.to_come ≡ []))
             (λ c. self.old.to_come ≡ c ∷ self.new.to_come) }
@@ -83,15 +86,16 @@ impl<'a> Walk<'a> {
         ensures number { self.new.number ≡ self.old.number }
         ensures counted { self.old.visits ≤ self.new.visits }
     {
-        match self.cursor.find(self.game, &mut self.ahead) {
+        match self.cursor.find(self.game, &mut self.prices) {
             Step::Give(coalition) => Some(coalition),
             Step::End | Step::On => None,
         }
     }
 
-    /// Seeks the next coalition of the slice as `next` does, but makes at most `visits` visits, 1 or more: after these
-    /// it answers NotYet, and goes on when it is called again. Nothing else is changed then. Under one rule, where the
-    /// next coalition is near, it never answers NotYet, nor where the count of visits could not hold that many more.
+    /// Seeks the next coalition of the slice as `next` does, but makes at most `visits` visits, 1 or more.
+    ///
+    /// After these it answers `NotYet`, with nothing else changed, and goes on when you call it again. It never answers
+    /// `NotYet` under one rule, where the next coalition is near, or if the count of visits could not hold that many more.
     #[tactic(auto, unfolding(crate::specs::Seeks::seeks_left))]
     pub fn seek(&mut self, visits: u64) -> Seek
         requires { 0 < visits }
@@ -105,20 +109,21 @@ impl<'a> Walk<'a> {
         ensures few { length self.old.votes.rules ≢ 1 → self.new.visits ≤ self.old.visits + visits }
         ensures falls { result ≢ Seek.End → seeks_left self.new < seeks_left self.old }
     {
-        match self.cursor.seek(self.game, &mut self.ahead, visits) {
+        match self.cursor.seek(self.game, &mut self.prices, visits) {
             Step::On => Seek::NotYet,
             Step::Give(coalition) => Seek::Found(coalition),
             Step::End => Seek::End,
         }
     }
 
-    /// How many visits there were. Each fixed place is visited once, when it is checked, and a later place
-    /// each time that the walk comes to it from above to decide whether its member is in; the decision
-    /// to leave the member out after all belongs to that visit. The count stays at the greatest number
-    /// that it can hold.
+    /// Returns how many visits there were.
     ///
-    /// It is never below the number of coalitions given. With one rule it is at most `bits` plus,
-    /// for each coalition given, the number of places that are not fixed.
+    /// Each fixed place is visited once, when it is checked, and a later place each time that the walk
+    /// comes to it from above to decide whether its member is in; the decision to leave the member out
+    /// after all belongs to that visit. The count stops at the greatest number that it can hold.
+    ///
+    /// It is never below the number of coalitions given. With one rule it is at most `bits` plus, for
+    /// each coalition given, the number of places that are not fixed.
     pub fn visits(&self) -> u64
         ensures count { result ≡ self.now.visits }
         ensures rest { self.now.to_come ≡

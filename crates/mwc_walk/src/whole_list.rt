@@ -9,13 +9,14 @@ use crate::slices::list_next;
 use council_game::{Coalition, Game, Memory};
 use std::alloc::Global;
 
-/// All minimal winning coalitions of a game in listing order, listed in this thread; none where there
-/// are more than `most` of them. For a game of few members it is the list that
+/// Returns all minimal winning coalitions of a game in listing order; none if there are more than `most`.
+///
+/// They are listed in this thread. For a game of few members it is the list that
 /// `council_game::plain_list` gives by trying each coalition.
 ///
 /// # Errors
 ///
-/// `Memory` where a growth was refused.
+/// `Memory` if a growth was refused.
 pub fn list_all(alloc: Global, game: &Game, most: u32) -> Result<Option<Vec<Coalition>>, Memory>
     ensures all { IfOk result (λ o. IfSome o (λ v. ListsAll game.now most v.items)) }
     ensures more { IfOk result

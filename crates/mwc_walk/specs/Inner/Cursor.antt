@@ -5,7 +5,6 @@ use Rattle.mwc_walk.specs.declared.cursor.Cursor.{Cursor}
 use Rattle.mwc_walk.specs.declared.step.Step.{Step}
 use Rattle.mwc_walk.specs.declared.step.Step.TheVariants.{On, Give, End}
 use Rattle.mwc_walk.specs.Slices.{slice}
-use Rattle.mwc_walk.specs.Inner.Asked.{AreAsked}
 use Rattle.mwc_walk.specs.Inner.Places.{slice_below, reaches, wins_at, LanesAre}
 
 -- the numbers below this one are still to be looked at
@@ -52,7 +51,6 @@ pub record CursorIs (v : Votes) (c : Cursor) : Type 0 where
   pub rules : c.rules ≡ length v.rules
   pub room : c.rules ≤ length c.lanes
   pub lanes : LanesAre v c.place c.prefix c.lanes
-  pub asked : AreAsked v c.asked
   pub place : IsPlace v c.bits c.number c.place c.prefix
   pub visits :
       CountsVisits v c.bits c.number c.visits (new_visit c) (open_visits v c) (rest_of_slice v c)

@@ -3,8 +3,8 @@ use Rattle.std.specs.Prelude.{◌≡◌, true, IfSome}
 use Rattle.council_game.specs.Game.{votes_of}
 use Rattle.mwc_walk.specs.declared.walk.Walk.TheInside.{Inside}
 use Rattle.mwc_walk.specs.WalkView.{WalkView}
-use Rattle.mwc_walk.specs.Inner.Ahead.{AheadIs}
 use Rattle.mwc_walk.specs.Inner.Cursor.{CursorIs, rest_of_slice}
+use Rattle.mwc_walk.specs.Inner.Prices.{ArePrices}
 
 abbrev pub walk_view : Inside → WalkView
 walk_view w = record {
@@ -18,5 +18,5 @@ walk_view w = record {
 -- under one rule no descent is under way between two calls
 pub record IsInside (w : Inside) : Type 0 where
   pub cursor : CursorIs (votes_of w.game.now) w.cursor
-  pub ahead : IfSome w.ahead (AheadIs (votes_of w.game.now))
+  pub prices : IfSome w.prices (ArePrices (votes_of w.game.now))
   pub rests : w.cursor.rules ≡ 1 → w.cursor.fresh ≡ true → w.cursor.place ≡ w.cursor.bits

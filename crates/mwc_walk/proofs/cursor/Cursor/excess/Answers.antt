@@ -1,5 +1,5 @@
-use Rattle.mwc_walk.proofs.Imports.{◌≡◌, ◌<◌, ◌-◌, ◌∷◌, [], ℕ, suc, zero, slice_index, arith, asked_at, lane_at}
-use Rattle.mwc_walk.proofs.Spared.{excess-is, enough-is}
+use Rattle.mwc_walk.proofs.Imports.{◌≡◌, ◌<◌, ◌-◌, ◌∷◌, [], ℕ, suc, zero, slice_index, arith, lane_at}
+use Rattle.mwc_walk.proofs.Steps.{sum-here, lane-here}
 use Rattle.mwc_walk.proofs.cursor.Cursor.excess.Goals as goal
 
 -- a number for each of four rules
@@ -10,15 +10,10 @@ of-four f a b c d (suc (suc zero)) e0 e1 e2 e3 lt = e2
 of-four f a b c d (suc (suc (suc zero))) e0 e1 e2 e3 lt = e3
 of-four f a b c d (suc (suc (suc (suc i)))) e0 e1 e2 e3 lt = absurd (omega (arith, lt))
 
-each : (c : goal.After-passed_by-4) (i : ℕ) → i < 4
-    → slice_index (c.passed_by.result ∷ c.passed_by-2.result ∷ c.passed_by-3.result ∷ c.passed_by-4.result ∷ []) i
-    ≡ (lane_at c.args.self.now.lanes i).sum - asked_at c.args.self.now.asked i c.args.self.now.place
-each c i lt =
-    of-four (λ r. (lane_at c.args.self.now.lanes r).sum - asked_at c.args.self.now.asked r c.args.self.now.place) _ _ _ _ i
-    c.passed_by.ensures c.passed_by-2.ensures c.passed_by-3.ensures c.passed_by-4.ensures lt
-
-pub returns-clause-are : goal.returns-clause-are
-returns-clause-are c = λ i below. excess-is c.requires i _ below (each c i (omega (arith, below, c.requires.game.few_rules)))
-
-pub returns-clause-enough : goal.returns-clause-enough
-returns-clause-enough c = λ i below. enough-is c.requires i _ below (each c i (omega (arith, below, c.requires.game.few_rules)))
+pub returns : goal.returns
+returns c = λ i below.
+    let here = lane-here c.requires i (omega (arith, below, c.requires.rules)) in
+    let lanes = c.args.self.now.lanes in
+    let each = of-four (λ r. (lane_at lanes r).sum - (lane_at lanes r).quota) _ _ _ _ i
+    c.excess.ensures c.excess-2.ensures c.excess-3.ensures c.excess-4.ensures (omega (arith, below, c.requires.game.few_rules)) in
+    omega (arith, each, sum-here c.requires i (omega (arith, below, c.requires.rules)), here.quota)

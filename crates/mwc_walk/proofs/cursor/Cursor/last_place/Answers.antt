@@ -1,4 +1,4 @@
-use Rattle.mwc_walk.proofs.{Imports.arith, Imports.lowest-place, Spared.up-to-last}
+use Rattle.mwc_walk.proofs.{Imports.arith, Imports.lowest-place}
 use Rattle.coalitions.proofs.Shared.Digits.{lowest-cleared}
 use Rattle.mwc_walk.proofs.cursor.Cursor.last_place.Goals as goal
 
@@ -7,9 +7,6 @@ overflow_sub-result-2 c = omega (arith, (lowest-place _ c.args.rest c.requires.i
 
 pub returns-clause-inside : goal.returns-clause-inside
 returns-clause-inside c = grind (arith, lowest-place)
-
-pub returns-clause-last : goal.returns-clause-last
-returns-clause-last c = grind (arith, up-to-last)
 
 pub returns-clause-left : goal.returns-clause-left
 returns-clause-left c = grind (arith, lowest-cleared)

@@ -1,4 +1,4 @@
-use Rattle.mwc_walk.proofs.cursor.Cursor.may_be_spared.Goals.{then-excess-rule-eq0, else-excess-rule-eq0}
+use Rattle.mwc_walk.proofs.cursor.Cursor.may_be_spared.Goals.{then-excess-rule, else-excess-rule}
 use Rattle.mwc_walk.proofs.{Imports.arith, Spared.tried-first, Spared.tried-weightless, Steps.lane-here}
 use Rattle.mwc_walk.proofs.cursor.Cursor.may_be_spared.Goals as goal
 
@@ -6,9 +6,9 @@ pub loop-rule-init : goal.loop-rule-init
 loop-rule-init c = tried-first c.requires c.args.excess.now _ c.mask_of-few.ensures.mask
 
 pub loop-rule-preserved : goal.loop-rule-preserved
-loop-rule-preserved c = elim c.if-excess-rule-eq0.branch [
-  | then-excess-rule-eq0 w ↦ rw w.few-is (tried-weightless c.loop-rule.invariant c.loop-rule.rule _
-      (omega (arith, c.loop-rule-test.true, c.requires.rules)) (lane-here c.requires c.loop-rule.rule c.loop-rule-test.true)
-      w.if-excess-rule-eq0.true)
-  | else-excess-rule-eq0 w ↦ rw w.few-is c.loop-rule.invariant
+loop-rule-preserved c = elim c.if-excess-rule.branch [
+  | then-excess-rule w ↦ rw w.few-is (tried-weightless c.loop-rule.invariant c.loop-rule.rule _
+      (omega (arith, c.loop-rule-test.true, c.requires.rules)) c.requires.place.to
+      (lane-here c.requires c.loop-rule.rule c.loop-rule-test.true) w.if-excess-rule.true)
+  | else-excess-rule w ↦ rw w.few-is c.loop-rule.invariant
 ]

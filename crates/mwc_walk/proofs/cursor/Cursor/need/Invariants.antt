@@ -1,5 +1,5 @@
-use Rattle.mwc_walk.proofs.Imports.{votes_of, IsNeed, vetoes_at}
+use Rattle.mwc_walk.proofs.Imports.{votes_of, IsNeed}
 use Rattle.mwc_walk.proofs.cursor.Cursor.need.Given as goal
 
 abbrev pub invariant-loop-other : goal.invariant-loop-other
-invariant-loop-other l = IsNeed (votes_of l.game) l.self.place l.self.prefix (vetoes_at l.ahead.vetoes l.rule) l.need
+invariant-loop-other l = IsNeed (votes_of l.game) l.self.place l.self.prefix l.rule l.need

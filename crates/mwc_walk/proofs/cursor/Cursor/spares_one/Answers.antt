@@ -1,4 +1,4 @@
-use Rattle.mwc_walk.proofs.{Spared.kept-minimal, cursor.Cursor.spares_one.Goals.then-self-eq1, cursor.Cursor.spares_one.Goals.else-self-eq1}
+use Rattle.mwc_walk.proofs.{Spared.kept-minimal, Spared.excess-are, cursor.Cursor.spares_one.Goals.then-self-eq1, cursor.Cursor.spares_one.Goals.else-self-eq1}
 use Rattle.mwc_walk.proofs.Steps.{one-is, last-in}
 use Rattle.mwc_walk.proofs.Imports.{sym, ◌∙◌, arith, eqb-true}
 use Rattle.mwc_walk.proofs.cursor.Cursor.spares_one.Goals as goal
@@ -11,5 +11,8 @@ returns-then-self-eq0-clause-none c =
           absurd (omega (arith, last-in c.requires won c.if-self.true, eqb-true _ _ (sym w.value-is ∙ c.if-self-eq0.true)))
     ]
 
+pub returns-clause-some : goal.returns-clause-some
+returns-clause-some c = λ spared. c.has_spared.ensures.some spared (excess-are c.requires c.excess.result c.excess.ensures)
+
 pub returns-clause-none : goal.returns-clause-none
-returns-clause-none c = λ lost won. kept-minimal c.requires c.excess.result c.excess.ensures.enough (c.has_spared.ensures.none lost) won
+returns-clause-none c = λ lost won. kept-minimal c.requires c.excess.result c.excess.ensures (c.has_spared.ensures.none lost) won

@@ -1,4 +1,4 @@
-use Rattle.mwc_walk.proofs.{Coming.rounded-up, Imports.arith, Imports.mul-le}
+use Rattle.mwc_walk.proofs.{Prices.rounded-up, Imports.arith, Imports.mul-le}
 use Rattle.mwc_walk.proofs.price.Price.of.Goals as goal
 
 pub returns-in-Some : goal.returns-in-Some

@@ -1,4 +1,4 @@
-use Rattle.mwc_walk.proofs.{Coming.price-falls, Coming.price-stays, Imports.refl}
+use Rattle.mwc_walk.proofs.{Prices.price-falls, Prices.price-stays, Imports.refl}
 use Rattle.mwc_walk.proofs.price.Price.or.Goals as goal
 
 pub returns-then-is_above : goal.returns-then-is_above

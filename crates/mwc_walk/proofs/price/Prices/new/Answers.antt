@@ -1,5 +1,5 @@
 use Rattle.mwc_walk.proofs.Imports.{arith, ◌-◌, ◌+◌, take, drop, weight, IsPrice, length-set, Price}
-use Rattle.mwc_walk.proofs.{Coming.weight-past, Coming.price-step, Rules.set-keeps}
+use Rattle.mwc_walk.proofs.{Prices.weight-past, Prices.price-step, Rules.set-keeps}
 use Rattle.mwc_walk.proofs.price.Prices.new.Goals as goal
 
 pub loop-place-init : goal.loop-place-init

@@ -1,0 +1,5 @@
+use Rattle.mwc_walk.proofs.Spared.{lacks-need}
+use Rattle.mwc_walk.proofs.cursor.Cursor.need.Goals as goal
+
+pub loop-other-init : goal.loop-other-init
+loop-other-init c = lacks-need c.requires.is c.args.rule _ c.requires.rule c.lacks-need.ensures
