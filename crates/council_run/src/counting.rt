@@ -6,6 +6,7 @@ ghost use Rattle.power_index.specs.Tables.{AreCountsOfGame};
 
 use crate::fault::RunFault;
 use crate::found::{Coalitions, Found, on_heap};
+use crate::order::walked;
 use coalitions::{Gate, Memory, Options};
 use council_game::Game;
 use mwc_sums::{Coverage, count_by_sums};
@@ -34,7 +35,8 @@ fn count_by_threads<T: Threads + Wait + Sync, G: Gate + Sync>(
     ensures { IfOk result (λ counts. AreCountsOfGame game.now counts.value) }
 {
     let bits = options.bits.max(LEAST_BITS).min(game.members() as u8);
-    tally(rt, alloc, game, bits, options.workers, gate)
+    let ordered = game.by_contribution(alloc)?;
+    tally(rt, alloc, walked(game, &ordered), bits, options.workers, gate)
 }
 
 /// Counts all coalitions of a game by one walk.
@@ -42,10 +44,12 @@ fn count_by_threads<T: Threads + Wait + Sync, G: Gate + Sync>(
 fn count_walk(alloc: Global, game: &Game) -> Result<Box<Counts>, Memory>
     ensures { IfOk result (λ counts. AreCountsOfGame game.now counts.value) }
 {
-    game.was_checked();
     one_slice_is_the_whole();
     tallies_are_counts();
-    on_heap(alloc, tally_slice(game, 0, 0))
+    let ordered = game.by_contribution(alloc)?;
+    let walked = walked(game, &ordered);
+    walked.was_checked();
+    on_heap(alloc, tally_slice(walked, 0, 0))
 }
 
 /// Counts all coalitions of a game by sums, and what these leave by worker threads.
