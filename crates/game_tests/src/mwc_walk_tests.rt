@@ -73,6 +73,14 @@ fn random_game(rt: &impl Abort, alloc: Global, seed: u64, members: usize, count:
     game_of(rt, alloc, rules)
 }
 
+/// The game with its places by contribution.
+fn by_contribution(rt: &impl Abort, alloc: Global, game: Game) -> Game {
+    match game.by_contribution(alloc).expect(rt, "memory") {
+        Some(other) => other,
+        None => game,
+    }
+}
+
 /// The worked game: of the members one has 35 votes, one has 20 and three have 15, and 51 win.
 fn worked(rt: &impl Abort, alloc: Global) -> Game {
     game(rt, alloc, 51, &[35, 20, 15, 15, 15])

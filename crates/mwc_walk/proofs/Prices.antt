@@ -4,7 +4,7 @@ use Rattle.mwc_walk.proofs.Imports.{mul-le, drop_all, get_or-take, weight}
 use Rattle.mwc_walk.proofs.Imports.{IsPrice, get_or}
 use Rattle.mwc_walk.proofs.Imports.{ap, ◌∙◌, length-drop, common_steps, cases_lt, ◌≡◌, ℕ}
 use Rattle.mwc_walk.proofs.Imports.{Price}
-use Rattle.std.proofs.Common.{length-take-le, drop-cons, add-one}
+use Rattle.std.proofs.Common.{length-take-le, drop-cons}
 use Rattle.std.proofs.{Math.Nat.le_of_mul-le-mul_left}
 use Rattle.std.specs.{Int.div_ceil}
 use Rattle.council_game.proofs.Shared.WeightByDigits.{weight-nil, weight-cons}
@@ -56,4 +56,3 @@ pub price-step : (n p : ℕ) (own other : List ℕ) (before after : Price) → p
     → IsPrice after (weight (drop p (take n other)) c) (weight (drop p (take n own)) c)
 price-step n p own other before after below lo lt step c is =
     rw (weight-from other n p c below lt, weight-from own n p c below lo) (step _ _ (c / 2 ^ (n - (p + 1)) % 2) is)
-

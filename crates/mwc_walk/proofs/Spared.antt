@@ -1,8 +1,8 @@
 -- The members that each rule can spare, and the prefixes below which nothing is minimal.
-use Rattle.mwc_walk.proofs.Imports.{false_from_ne_true, nat_tests, shr-shr, RuleView, Votes, take, drop, get_or, refl, sym, ap, both_ways}
+use Rattle.mwc_walk.proofs.Imports.{false_from_ne_true, nat_tests, shr-shr, Votes, drop, get_or, refl, sym, ap, both_ways}
 use Rattle.mwc_walk.proofs.Imports.{le-leb, Cursor, LaneIs, NothingBelow, IsExcess, wins_at, IsNeed, Tried, rule_at, has, without, weight}
-use Rattle.mwc_walk.proofs.Imports.{trailing_zeros, pow_mono, cases_eq, cases_lt, cases_Bool, CursorIs, has-none, lane_at, IsVotes, ◌<◌}
-use Rattle.mwc_walk.proofs.Imports.{◌≤◌, min, true, List, [], length, IsRanked, ◌∙◌, arith, w64, get_or_default, list_all-from_AllPass}
+use Rattle.mwc_walk.proofs.Imports.{cases_eq, cases_Bool, CursorIs, has-none, lane_at, IsVotes, ◌<◌}
+use Rattle.mwc_walk.proofs.Imports.{◌≤◌, true, List, [], length, ◌∙◌, arith, get_or_default, list_all-from_AllPass}
 use Rattle.mwc_walk.proofs.Imports.{wins, minimal, needs-each-member, Lane, eq-eqb, ExcessIs, weight-le, ◌≡◌, ℕ, ◌+◌, ◌-◌, ◌*◌, ◌/◌, ◌^◌}
 use Rattle.std.proofs.lemmas.{Bool.and_parts, Bool.and_from, Nat.and_le_l, Nat.Bits.bit_at_and}
 use Rattle.std.proofs.Common.{◌&&◌, bit_and}

@@ -145,7 +145,11 @@ fn lightest_of(weights: &[u64; limits::MEMBERS], members: usize) -> [u64; limits
     for place in 0..members {
         let least = lightest[place];
         let weight = weights[place];
-        lightest[place + 1] = if weight == 0 { least } else { least.min(weight) };
+        lightest[place + 1] = if weight == 0 {
+            least
+        } else {
+            least.min(weight)
+        };
     }
     lightest
 }

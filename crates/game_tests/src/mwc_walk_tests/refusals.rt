@@ -52,7 +52,7 @@ fn walks_without_memory(rt: HostRuntime) {
 fn walks_under_two_rules_without_memory(rt: HostRuntime) {
     let game = game_by_groups(&rt, rt.alloc(), &[0, 1], &TWO_RULES);
     say(&rt, "call");
-    walks(&rt, &mut Walk::new(&game, 0, 0), 2, 5);
+    walks(&rt, &mut Walk::new(&game, 0, 0), 2, 6);
 }
 
 #[test]

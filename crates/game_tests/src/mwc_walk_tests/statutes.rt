@@ -55,22 +55,21 @@ fn random_statutes_by_every_subset(rt: HostRuntime) {
     }
 }
 
-/// Of 16 members the last alone is the one minimal winning coalition, which takes 16 visits. Sought
-/// by five visits at a time it is not met three times. Of a game of one rule each coalition is met,
-/// however few visits are asked for.
+/// Of 16 members the last alone is the one minimal winning coalition. Sought by 16 visits at a time
+/// it is not met twice, and takes 41 visits. Of a game of one rule each coalition is met, however few
+/// visits are asked for.
 #[test]
 fn seeks_within_so_many_visits(rt: HostRuntime) {
     let late = game_by_groups(&rt, rt.alloc(), &[0, 1, 2], &LATE);
     let mut walk = Walk::new(&late, 0, 0);
     for (sought, visits) in [
-        (Seek::NotYet, 5),
-        (Seek::NotYet, 10),
-        (Seek::NotYet, 15),
-        (Seek::Found(Coalition::of_mask(1)), 16),
-        (Seek::End, 16),
-        (Seek::End, 16),
+        (Seek::NotYet, 16),
+        (Seek::NotYet, 32),
+        (Seek::Found(Coalition::of_mask(1)), 41),
+        (Seek::End, 41),
+        (Seek::End, 41),
     ] {
-        same(&rt, walk.seek(5), sought, "sought by five visits");
+        same(&rt, walk.seek(16), sought, "sought by 16 visits");
         same(&rt, walk.visits(), visits, "visits");
     }
     let one = worked(&rt, rt.alloc());

@@ -1,4 +1,4 @@
-use Rattle.mwc_walk.proofs.Imports.{arith, ◌≡◌, ℕ, length-set, votes_of, IsExcess}
+use Rattle.mwc_walk.proofs.Imports.{arith, ℕ, length-set, votes_of, IsExcess}
 use Rattle.mwc_walk.proofs.Rules.{set-keeps}
 use Rattle.mwc_walk.proofs.Spared.{least-excess, out-of-reach}
 use Rattle.mwc_walk.proofs.cursor.Cursor.prunes.Goals as goal
