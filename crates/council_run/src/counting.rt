@@ -36,7 +36,14 @@ fn count_by_threads<T: Threads + Wait + Sync, G: Gate + Sync>(
 {
     let bits = options.bits.max(LEAST_BITS).min(game.members() as u8);
     let ordered = game.by_contribution(alloc)?;
-    tally(rt, alloc, walked(game, &ordered), bits, options.workers, gate)
+    tally(
+        rt,
+        alloc,
+        walked(game, &ordered),
+        bits,
+        options.workers,
+        gate,
+    )
 }
 
 /// Counts all coalitions of a game by one walk.

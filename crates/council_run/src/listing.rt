@@ -1,5 +1,5 @@
 //! Listing the coalitions of a game: by worker threads, or by one walk.
-ghost use Rattle.std.specs.Prelude.{◌≡◌, ◌≤◌, Err, IfErr, IfOk, IfSome, Some, unwrap_or};
+ghost use Rattle.std.specs.Prelude.{◌≡◌, ◌≤◌, Err, IfErr, IfOk, IfSome, Some, length, unwrap_or};
 ghost use Rattle.coalitions.specs.declared.limits.TheConstants.{WORKERS};
 ghost use Rattle.coalitions.specs.declared.report_lines.ReportLines.{ReportLines};
 ghost use Rattle.council_game.specs.Contribution.{by_contribution};
@@ -30,6 +30,7 @@ fn gather_all<T: Threads + Wait + Sync, G: Gate + Sync>(
     gate: &G,
 ) -> Result<Gathered, GatherFault>
     ensures whole { IfOk result (HoldAll game.now) }
+    ensures a_part_each { IfOk result (λ gathered. length gathered.parts.items ≡ options.now.workers) }
     ensures few { IfOk result (λ _. IsWithin (Some options.now.most) game.now) }
     ensures many { result ≡ Err GatherFault.TooMany → IsWithin (Some options.now.most) game.now → ⊥ }
 {
@@ -116,12 +117,7 @@ pub fn list_by_workers<T: Threads + Wait + Sync, G: Gate + Sync>(
 /// # Errors
 ///
 /// Too many coalitions, or out of memory.
-pub fn list_by_walk(
-    alloc: Global,
-    game: &Game,
-    most: u32,
-    list: bool,
-) -> Result<Found, RunFault>
+pub fn list_by_walk(alloc: Global, game: &Game, most: u32, list: bool) -> Result<Found, RunFault>
     ensures { (lines : ReportLines) → lines.list ≡ list → Finds (Some most) lines game.now result }
 {
     minimal_coalitions_can_be_counted();
