@@ -159,6 +159,7 @@ takes_memory council_game makes_a_game
 takes_memory council_game makes_a_game_of_two_rules
 takes_memory council_game lists_plainly
 takes_memory council_game lists_members
+takes_memory council_game orders_by_contribution
 asks_for_little council_game lists_members
 takes_memory council_file parses_toml
 takes_memory council_file parses_brackets
