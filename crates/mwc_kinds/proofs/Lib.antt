@@ -1,0 +1,7 @@
+mod Counted
+mod Digits
+mod Imports
+mod Listed
+mod Making
+mod Sums
+mod KindLaws
