@@ -9,7 +9,7 @@ unfolding choices
 choices-some v zero = omega arith
 choices-some v (suc j) = grind (arith, choices-some v j, mul-pos)
 
-choices-more : (v : Votes) (j : ℕ) → choices v (j + 1) ≡ choices v j * (members_of_kind v j + 1)
+pub choices-more : (v : Votes) (j : ℕ) → choices v (j + 1) ≡ choices v j * (members_of_kind v j + 1)
 unfolding choices
 choices-more v j = (let e : j + 1 ≡ suc j = omega arith in ap (choices v) e)
 

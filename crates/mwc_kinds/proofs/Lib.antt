@@ -5,3 +5,5 @@ mod Listed
 mod Making
 mod Sums
 mod KindLaws
+mod FewChoices
+mod Taken

@@ -29,6 +29,7 @@ fn choice_weight(game: &Game, kinds: &Kinds, rule: usize, choice: usize) -> u64
     requires rule { rule < length game.now.rules }
     ensures { result ≡ choice_weight (votes_of game.now) rule choice }
 {
+    game.was_checked();
     let mut sum = 0;
     for kind in &kinds.list {
         sum += kind.taken(choice) as u64 * weight(game, rule, kind.place);
@@ -41,6 +42,7 @@ fn choice_size(game: &Game, kinds: &Kinds, choice: usize) -> usize
     requires { AreKindsOf (votes_of game.now) kinds.now }
     ensures { result ≡ choice_size (votes_of game.now) choice }
 {
+    game.was_checked();
     let mut size = 0;
     for kind in &kinds.list {
         size += kind.taken(choice);
@@ -65,6 +67,7 @@ fn choice_is_minimal(game: &Game, kinds: &Kinds, wins: &[bool], choice: usize) -
     requires choice { choice < length wins.now }
     ensures { result ≡ choice_is_minimal (votes_of game.now) choice }
 {
+    game.was_checked();
     if !wins[choice] {
         return false;
     }

@@ -1,5 +1,5 @@
 //! The kinds of a game's members.
-ghost use Rattle.coalitions.specs.declared.limits.TheConstants.{WEIGHT};
+ghost use Rattle.coalitions.specs.declared.limits.TheConstants.{MEMBERS, WEIGHT};
 ghost use Rattle.council_game.specs.Game.{votes_of};
 ghost use Rattle.council_game.specs.Votes.{rule_at};
 ghost use Rattle.mwc_kinds.specs.Inner.Choices.{AreKindsOf, kind_of, strides};
@@ -73,8 +73,9 @@ fn first_places(alloc: Global, game: &Game) -> Result<Vec<usize>, Memory>
 /// Returns how many members are of the kind of a place.
 fn count_members(game: &Game, first: usize) -> usize
     requires { first < length game.now.names }
-    ensures { result ≡ length (filter (alike (votes_of game.now).rules first)
+    ensures count { result ≡ length (filter (alike (votes_of game.now).rules first)
         (range_with_len 0 (length game.now.names))) }
+    ensures few { result ≤ MEMBERS }
 {
     let mut count = 0;
     for place in 0..game.members() {
