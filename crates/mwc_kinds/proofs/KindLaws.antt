@@ -3,8 +3,9 @@ use Rattle.mwc_kinds.proofs.Imports.{◌≡◌, ◌∙◌, ℕ, zero, suc, ◌+�
 use Rattle.mwc_kinds.proofs.Imports.{map, filter, sym, ap, refl, arith, inl, inr, list_all, list_any, position_or_len, range_with_len, rule_at}
 use Rattle.mwc_kinds.proofs.Imports.{nat_tests, cases_Bool, cases_lt, length-range_with_len, places-at, RuleView, Votes, alike, is_known}
 use Rattle.mwc_kinds.proofs.Imports.{kinds, kind_of, members_of_kind, choices, IsVotes, eqb-true}
-use Rattle.std.proofs.Common.{eq-eqb}
-use Rattle.std.proofs.lemmas.List.{Folds.Any-from_list_any, Elements.All-filter, Elements.All-from_get_or}
+use Rattle.std.proofs.Common.{eq-eqb, AllPairs}
+use Rattle.std.proofs.lemmas.Bool.{both_ways, not-true}
+use Rattle.std.proofs.lemmas.List.{Folds.Any-from_list_any, Folds.list_any_at, Elements.All-filter, Elements.filter_passes, Kept.AllPairs-filter}
 use Rattle.std.proofs.lemmas.List.Sums.{AllPass-from_list_all, list_all-from_AllPass, fails_before_first, passes_at_first, position_or_len_is}
 use Rattle.power_index.proofs.Shared.Sums.{length-filter-le}
 use Rattle.mwc_kinds.specs.declared.kinds.Kind.{Kind}
@@ -23,8 +24,11 @@ any-of t n some =
     let (k, x, lt, at, passes) = Any-from_list_any t (range_with_len 0 n) some in
     grind (arith, length-range_with_len 0 n, places-at n k x)
 
+any-at : (t : ℕ → Bool) (n i : ℕ) → i < n → t i ≡ true → list_any t (range_with_len 0 n) ≡ true
+any-at t n i lt passes = grind (arith, list_any_at t (range_with_len 0 n) i 0, length-range_with_len 0 n, places-at n i 0 lt)
+
 -- what passes is kept
-kept : (f : ℕ → Bool) (xs : List ℕ) (i : ℕ) → i < length xs → f (get_or xs i 0) ≡ true
+pub kept : (f : ℕ → Bool) (xs : List ℕ) (i : ℕ) → i < length xs → f (get_or xs i 0) ≡ true
     → (k : ℕ) × (k < length (filter f xs)) × (get_or (filter f xs) k 0 ≡ get_or xs i 0)
 kept f [] i lt passes = absurd (omega arith)
 kept f (x ∷ xs) zero lt passes = (0, grind (arith, nat_tests), grind (arith, nat_tests))
@@ -50,6 +54,9 @@ module _ (rs : List RuleView) where
 
   alike-trans : (a b c : ℕ) → alike rs a b ≡ true → alike rs b c ≡ true → alike rs a c ≡ true
   alike-trans a b c ab bc = alike-of a c (λ r lt. alike-weight a b r ab lt ∙ alike-weight b c r bc lt)
+
+  alike-sym : (a b : ℕ) → alike rs a b ≡ true → alike rs b a ≡ true
+  alike-sym a b same = alike-of b a (λ r lt. sym (alike-weight a b r same lt))
 
 -- ---- the kind of a place
 module _ (v : Votes) where
@@ -86,6 +93,31 @@ module _ (v : Votes) where
       → alike v.rules (get_or (kinds v) k 0) p ≡ true → kind_of v p ≡ k
   unfolding kind_of
   kind-is p k lt before here = position_or_len_is (λ q. alike v.rules q p) (kinds v) k 0 (omega arith) before (λ _. here)
+
+  -- ---- each kind is another
+  climbs : AllPairs (λ a b. a < b) (kinds v)
+  unfolding kinds
+  climbs = AllPairs-filter (λ a b. a < b) (λ q. not (is_known v.rules q)) (range_with_len 0 v.members)
+      (λ i j d less lt. (let long = length-range_with_len 0 v.members in
+      let at = places-at v.members i d in let there = places-at v.members j d in omega (arith, long, less, lt, at, there)))
+
+  unknown : (j : ℕ) → j < length (kinds v) → is_known v.rules (get_or (kinds v) j 0) ≡ false
+  unfolding kinds
+  unknown j lt = not-true _ (filter_passes (λ q. not (is_known v.rules q)) (range_with_len 0 v.members) j 0 lt)
+
+  pub apart : (i j : ℕ) → i < j → j < length (kinds v) → alike v.rules (get_or (kinds v) i 0) (get_or (kinds v) j 0) ≡ false
+  apart i j less lt = elim (cases_Bool (alike v.rules (get_or (kinds v) i 0) (get_or (kinds v) j 0))) [
+    | inl same ↦ absurd (both_ways _ (unknown j lt)
+        (any-at (λ q. alike v.rules q (get_or (kinds v) j 0)) (get_or (kinds v) j 0) (get_or (kinds v) i 0) (climbs i j 0 less lt) same))
+    | inr other ↦ other
+  ]
+
+  pub kind-of : (p j : ℕ) → j < length (kinds v) → alike v.rules (get_or (kinds v) j 0) p ≡ true → kind_of v p ≡ j
+  kind-of p j lt same = kind-is p j lt
+      (λ i less. elim (cases_Bool (alike v.rules (get_or (kinds v) i 0) p)) [
+        | inl too ↦ absurd (both_ways _ (apart i j less lt) (alike-trans v.rules _ p _ too (alike-sym v.rules _ p same)))
+        | inr other ↦ other
+      ]) same
 
   pub first-below : (j : ℕ) → j < length (kinds v) → get_or (kinds v) j 0 < v.members
   unfolding kinds

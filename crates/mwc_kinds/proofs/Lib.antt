@@ -7,3 +7,4 @@ mod Sums
 mod KindLaws
 mod FewChoices
 mod Taken
+mod Choosing
