@@ -8,10 +8,11 @@ use Rattle.mwc_kinds.proofs.Imports.{choice_is_minimal, get_or-map-range_with_le
 use Rattle.std.proofs.Common.{mod-lt, eq-eqb}
 use Rattle.std.specs.Cmp.{both_ways as same_test}
 use Rattle.std.proofs.lemmas.Bool.{and_from, and_parts}
-use Rattle.std.proofs.lemmas.List.{Elements.filter_passes, Recursion.is_sum_by}
+use Rattle.std.proofs.lemmas.List.{get_or_default, Elements.filter_passes, Recursion.is_sum_by}
 use Rattle.std.proofs.lemmas.List.Sums.{AllPass-from_list_all, list_all-from_AllPass, length-filter, sum_by-le-sum_by}
 use Rattle.council_game.proofs.Shared.{Meanings.needs-each-member, Weights.weight-without, WinningByPlaces.rule-is}
 use Rattle.power_index.proofs.Shared.Sums.{length-filter-le, sum-by_size, sum-filter, sum-range}
+use Rattle.mwc_kinds.proofs.Counted.{filter-same}
 use Rattle.mwc_kinds.proofs.Digits.{choices-some, digit-is, made, made-below}
 use Rattle.mwc_kinds.proofs.KindLaws.{alike-weight, all-at, all-of, kept, kind-alike, kind-below, kind-of}
 use Rattle.mwc_kinds.proofs.Taken.{needs}
@@ -20,7 +21,7 @@ use Rattle.mwc_kinds.proofs.Taken.{needs}
 all-indexed : (f : RuleView → Bool) (t : ℕ → Bool) (rs : List RuleView) → ((i : ℕ) → i < length rs → t i ≡ f (rule_at rs i))
     → list_all t (range_with_len 0 (length rs)) ≡ list_all f rs
 all-indexed f t rs same =
-    same_test _ _ (λ all. list_all-from_AllPass f rs (λ i d lt. ?))
+    same_test _ _ (λ all. list_all-from_AllPass f rs (λ i d lt. ap f (get_or_default rs i d _ lt) ∙ sym (same i lt) ∙ all-at t (length rs) i lt all))
     (λ all. all-of t (length rs) (λ i lt. same i lt ∙ AllPass-from_list_all f rs all i _ lt))
 
 -- what passes the one passes the other
@@ -157,3 +158,33 @@ module _ (v : Votes) where
         | inr none ↦ (let own' = taken-own c j lt in grind (arith, nat_tests))
       ]))))
 
+  -- ---- no choice has more members than the game
+  kind-members : (j : ℕ) → j < length (kinds v)
+      → members_of_kind v j ≡ length (filter (λ p. ltb p v.members && (kind_of v p == j)) (range_with_len 0 v.members))
+  unfolding members_of_kind
+  kind-members j lt =
+      ap (λ (l : List ℕ). length l)
+      (filter-same (alike v.rules (get_or (kinds v) j 0)) (λ p. ltb p v.members && (kind_of v p == j)) (range_with_len 0 v.members) (λ k d below.
+      (let p : ℕ = get_or (range_with_len 0 v.members) k d in
+      let few : p < v.members = (let at = places-at v.members k d in let long = length-range_with_len 0 v.members in omega (arith, at, long, below)) in
+      same_test (alike v.rules (get_or (kinds v) j 0) p) (ltb p v.members && (kind_of v p == j))
+      (λ same. (let is = kind-of v p j lt same in grind (arith, nat_tests)))
+      (λ in'.
+      (let is : kind_of v p ≡ j = grind (arith, nat_tests) in
+      ap (λ (i : ℕ). alike v.rules (get_or (kinds v) i 0) p) (sym is) ∙ kind-alike v p few)))))
+
+  all-kinds : sum_by (members_of_kind v) (range_with_len 0 (length (kinds v))) ≤ v.members
+  all-kinds =
+      let each = sum-range (members_of_kind v) (λ j. length (filter (λ p. ltb p v.members && (kind_of v p == j)) (range_with_len 0 v.members)) * 1) 0
+      (length (kinds v)) (λ j _ below. omega (arith, kind-members j (omega (arith, below)))) in
+      let whole = sum-by_size (λ j. 1) (kind_of v) (λ p. ltb p v.members) 0 (length (kinds v)) (range_with_len 0 v.members)
+      (λ p in'. (let below : p < v.members = grind (arith, nat_tests) in (omega arith, omega (arith, kind-below v p below)))) in
+      let ones = is_sum_by (λ xs. length xs) (λ x. 1) refl (λ x xs. omega arith) (filter (λ p. ltb p v.members) (range_with_len 0 v.members)) in
+      omega (arith, each, whole, ones, length-filter-le (λ p. ltb p v.members) (range_with_len 0 v.members), length-range_with_len 0 v.members)
+
+  pub choice-few : (x : ℕ) → choice_size v x ≤ v.members
+  unfolding choice_size taken
+  choice-few x =
+      let each = sum_by-le-sum_by (λ j. taken v j x) (members_of_kind v) (range_with_len 0 (length (kinds v)))
+      (λ j. (let some : 0 < members_of_kind v j + 1 = omega arith in let low = mod-lt (x / choices v j) some in omega (arith, low))) in
+      omega (arith, each, all-kinds)

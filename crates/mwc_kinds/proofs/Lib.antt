@@ -8,3 +8,4 @@ mod KindLaws
 mod FewChoices
 mod Taken
 mod Choosing
+mod Totals

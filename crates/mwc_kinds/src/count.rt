@@ -19,6 +19,7 @@ fn counts_of(alloc: Global, game: &Game, kinds: &Kinds) -> Result<Box<Counts>, M
     requires { AreKindsOf (votes_of game.now) kinds.now }
     ensures { IfOk result (λ c. AreCountsOfGame game.now c.value) }
 {
+    game.was_checked();
     let strides = strides(alloc, game, kinds)?;
     let sizes = minimal_sizes(alloc, game, kinds)?;
     let ways = count_ways(alloc, &strides, kinds.choices)?;
