@@ -1,11 +1,11 @@
 -- The choice of a coalition.
-use Rattle.mwc_kinds.proofs.Imports.{◌≡◌, ◌∙◌, ◌↔◌, ℕ, zero, suc, ◌+◌, ◌-◌, ◌*◌, ◌/◌, ◌%◌, ◌^◌, ◌<◌, ◌≤◌, ◌==◌, ◌&&◌, ◌||◌, Bool, true, false}
-use Rattle.mwc_kinds.proofs.Imports.{not, cond, ltb, leb, List, [], ◌∷◌, length, get_or, filter, map, sum_by, sym, ap, refl, arith, inl, inr}
+use Rattle.mwc_kinds.proofs.Imports.{◌≡◌, ◌∙◌, ℕ, ◌+◌, ◌-◌, ◌*◌, ◌/◌, ◌%◌, ◌^◌, ◌<◌, ◌≤◌, ◌==◌, ◌&&◌, Bool, true, false}
+use Rattle.mwc_kinds.proofs.Imports.{cond, ltb, leb, List, length, get_or, filter, sum_by, sym, ap, refl, arith, inl, inr}
 use Rattle.mwc_kinds.proofs.Imports.{list_all, range_with_len, nat_tests, cases_Bool, cases_lt, length-range_with_len, places-at, eqb-true}
 use Rattle.mwc_kinds.proofs.Imports.{RuleView, Votes, IsVotes, rule_at, size, places_of, has, without, weight, wins, minimal, alike, all_choices}
 use Rattle.mwc_kinds.proofs.Imports.{kinds, members_of_kind, choices, kind_of, strides, taken, choice_weight, choice_size, choice_wins}
 use Rattle.mwc_kinds.proofs.Imports.{choice_is_minimal, get_or-map-range_with_len, length-map-range_with_len}
-use Rattle.std.proofs.Common.{mod-lt, eq-eqb}
+use Rattle.std.proofs.Common.{mod-lt}
 use Rattle.std.specs.Cmp.{both_ways as same_test}
 use Rattle.std.proofs.lemmas.Bool.{and_from, and_parts}
 use Rattle.std.proofs.lemmas.List.{get_or_default, Elements.filter_passes, Recursion.is_sum_by}
@@ -13,7 +13,7 @@ use Rattle.std.proofs.lemmas.List.Sums.{AllPass-from_list_all, list_all-from_All
 use Rattle.council_game.proofs.Shared.{Meanings.needs-each-member, Weights.weight-without, WinningByPlaces.rule-is}
 use Rattle.power_index.proofs.Shared.Sums.{length-filter-le, sum-by_size, sum-filter, sum-range}
 use Rattle.mwc_kinds.proofs.Counted.{filter-same}
-use Rattle.mwc_kinds.proofs.Digits.{choices-some, digit-is, made, made-below}
+use Rattle.mwc_kinds.proofs.Digits.{digit-is, made, made-below}
 use Rattle.mwc_kinds.proofs.KindLaws.{alike-weight, all-at, all-of, kept, kind-alike, kind-below, kind-of}
 use Rattle.mwc_kinds.proofs.Taken.{needs}
 
@@ -27,11 +27,15 @@ all-indexed f t rs same =
 -- what passes the one passes the other
 fewer : (q r : ℕ → Bool) (xs : List ℕ) → ((x : ℕ) → q x ≡ true → r x ≡ true) → length (filter q xs) ≤ length (filter r xs)
 fewer q r xs each =
-    omega (arith, length-filter q xs, length-filter r xs,
-    sum_by-le-sum_by (λ x. cond (q x) 1 0) (λ x. cond (r x) 1 0) xs (λ x. elim (cases_Bool (q x)) [
-      | inl in' ↦ (let there = each x in' in grind (arith, nat_tests))
-      | inr out ↦ grind (arith, nat_tests)
-    ]))
+    omega (
+      arith,
+      length-filter q xs,
+      length-filter r xs,
+      sum_by-le-sum_by (λ x. cond (q x) 1 0) (λ x. cond (r x) 1 0) xs (λ x. elim (cases_Bool (q x)) [
+        | inl in' ↦ (let there = each x in' in grind (arith, nat_tests))
+        | inr out ↦ grind (arith, nat_tests)
+      ]),
+    )
 
 module _ (v : Votes) where
   -- place p is in c, and of kind j
@@ -140,13 +144,16 @@ module _ (v : Votes) where
       same_test _ _
       (λ min.
       (let parts = and_parts _ _ min in
-      (needs-each-member v c).1 (sym (wins-is game c) ∙ parts.0, λ p lt inside.
-      (let j : ℕ = kind_of v p in
-      let here : needs v x j ≡ true = all-at (needs v x) (length (kinds v)) j (kind-below v p lt) parts.1 in
-      let some = own-some c p lt inside in
-      let own' = taken-own c j (kind-below v p lt) in
-      let loses : choice_wins v (x - choices v j) ≡ false = grind (arith, nat_tests) in
-      sym (wins-is game (without v.members p c)) ∙ ap (choice_wins v) (less-is c p lt inside) ∙ loses))))
+      (needs-each-member v c).1 (
+        sym (wins-is game c) ∙ parts.0,
+        λ p lt inside.
+            (let j : ℕ = kind_of v p in
+            let here : needs v x j ≡ true = all-at (needs v x) (length (kinds v)) j (kind-below v p lt) parts.1 in
+            let some = own-some c p lt inside in
+            let own' = taken-own c j (kind-below v p lt) in
+            let loses : choice_wins v (x - choices v j) ≡ false = grind (arith, nat_tests) in
+            sym (wins-is game (without v.members p c)) ∙ ap (choice_wins v) (less-is c p lt inside) ∙ loses),
+      )))
       (λ min.
       (let parts = (needs-each-member v c).0 min in
       and_from _ _ (wins-is game c ∙ parts.0) (all-of (needs v x) (length (kinds v)) (λ j lt. elim (cases_lt 0 (own c j)) [

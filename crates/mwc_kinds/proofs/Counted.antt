@@ -1,6 +1,6 @@
 -- Coalitions by their first place, and how many pass a test.
 use Rattle.mwc_kinds.proofs.Imports.{◌≡◌, ◌∙◌, ℕ, zero, suc, ◌+◌, ◌-◌, ◌^◌, ◌<◌, ◌==◌, ◌/◌, ◌%◌, ◌&&◌, Bool, true, false, cond, leb, List, [], ◌∷◌}
-use Rattle.mwc_kinds.proofs.Imports.{◌++◌, All, length, filter, get_or, map, sym, ap, refl, arith, has, weight, down, nat_tests, length-map}
+use Rattle.mwc_kinds.proofs.Imports.{◌++◌, All, length, filter, get_or, map, ap, refl, arith, has, weight, down, nat_tests, length-map}
 use Rattle.std.proofs.Common.{length-append}
 use Rattle.std.proofs.lemmas.Nat.Bits.{bit_at_cat_low, bit_at_cat_high, bit_at_above}
 use Rattle.std.proofs.lemmas.List.Elements.{All-head, All-tail, filter-append}

@@ -1,6 +1,6 @@
 -- The number of a choice, and its digits.
-use Rattle.mwc_kinds.proofs.Imports.{◌≡◌, ◌∙◌, ℕ, zero, suc, ◌+◌, ◌-◌, ◌*◌, ◌/◌, ◌%◌, ◌<◌, ◌≤◌, sum_by, sym, ap, arith, range_with_len}
-use Rattle.mwc_kinds.proofs.Imports.{refl, Votes, choices, members_of_kind, taken, sum_by-range-more, nat_tests}
+use Rattle.mwc_kinds.proofs.Imports.{◌≡◌, ◌∙◌, ℕ, zero, suc, ◌+◌, ◌-◌, ◌*◌, ◌/◌, ◌%◌, ◌<◌, ◌≤◌, sum_by, ap, arith, range_with_len}
+use Rattle.mwc_kinds.proofs.Imports.{Votes, choices, members_of_kind, taken, sum_by-range-more}
 use Rattle.std.proofs.Common.{mul-pos}
 use Rattle.std.proofs.lemmas.Nat.{div-mul-add, mod-mul-add, mul-le}
 

@@ -1,11 +1,11 @@
 -- How many choices there are of the first kinds.
 use Rattle.mwc_kinds.proofs.Imports.{◌≡◌, ◌∙◌, ℕ, zero, suc, ◌+◌, ◌*◌, ◌^◌, ◌%◌, ◌<◌, ◌≤◌, List, [], ◌∷◌, ◌++◌, length, get_or, map, filter, ap, sym, refl}
-use Rattle.mwc_kinds.proofs.Imports.{arith, inl, inr, cases_lt, range_with_len, ◌-◌, Votes, alike, choices, kinds, members_of_kind, all_choices}
+use Rattle.mwc_kinds.proofs.Imports.{arith, inl, inr, cases_lt, range_with_len, ◌-◌, Votes, alike, choices, kinds, members_of_kind}
 use Rattle.std.proofs.Common.{pow_mono}
 use Rattle.std.proofs.lemmas.Nat.{mul-le, one_shl}
 use Rattle.mwc_kinds.specs.declared.kinds.Kind.{Kind}
 use Rattle.mwc_kinds.specs.Inner.Choices.{kind_at}
-use Rattle.mwc_kinds.proofs.{Digits.choices-more, Digits.choices-some, Listed.pushed}
+use Rattle.mwc_kinds.proofs.{Digits.choices-more, Listed.pushed}
 
 pub coalitions-are : (m n : ℕ) → m ≡ n → n ≤ 40 → 1 * 2 ^ m % 18446744073709551616 ≡ 2 ^ n
 coalitions-are m n e few = one_shl m 64 (omega (arith, e, few)) ∙ ap (λ (k : ℕ). 2 ^ k) e

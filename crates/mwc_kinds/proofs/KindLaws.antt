@@ -1,8 +1,8 @@
 -- The kinds of a game's places.
-use Rattle.mwc_kinds.proofs.Imports.{◌≡◌, ◌∙◌, ℕ, zero, suc, ◌+◌, ◌<◌, ◌≤◌, ◌==◌, Bool, true, false, not, All, List, [], ◌∷◌, length, get_or}
-use Rattle.mwc_kinds.proofs.Imports.{map, filter, sym, ap, refl, arith, inl, inr, list_all, list_any, position_or_len, range_with_len, rule_at}
+use Rattle.mwc_kinds.proofs.Imports.{◌≡◌, ◌∙◌, ℕ, zero, suc, ◌<◌, ◌≤◌, ◌==◌, Bool, true, false, not, List, [], ◌∷◌, length, get_or}
+use Rattle.mwc_kinds.proofs.Imports.{map, filter, sym, ap, refl, arith, inl, inr, list_all, list_any, range_with_len, rule_at}
 use Rattle.mwc_kinds.proofs.Imports.{nat_tests, cases_Bool, cases_lt, length-range_with_len, places-at, RuleView, Votes, alike, is_known}
-use Rattle.mwc_kinds.proofs.Imports.{kinds, kind_of, members_of_kind, choices, IsVotes, eqb-true}
+use Rattle.mwc_kinds.proofs.Imports.{kinds, kind_of, members_of_kind, eqb-true}
 use Rattle.std.proofs.Common.{eq-eqb, AllPairs}
 use Rattle.std.proofs.lemmas.Bool.{both_ways, not-true}
 use Rattle.std.proofs.lemmas.List.{Folds.Any-from_list_any, Folds.list_any_at, Elements.All-filter, Elements.filter_passes, Kept.AllPairs-filter}

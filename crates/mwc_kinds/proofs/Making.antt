@@ -1,7 +1,7 @@
 -- How many coalitions make a number, of all and of those with a place.
 use Rattle.mwc_kinds.proofs.Imports.{◌≡◌, ◌∙◌, ℕ, zero, suc, ◌+◌, ◌-◌, ◌^◌, ◌<◌, ◌≤◌, ◌==◌, ◌&&◌, true, false, cond, leb, List, [], ◌∷◌}
-use Rattle.mwc_kinds.proofs.Imports.{length, get_or, map, sum, range_with_len, common_steps, cases_eq, sym, ap, arith, cases_lt, inl, inr, has, weight, down, ways_of, ways_with, nat_tests}
-use Rattle.std.proofs.Common.{drop, drop-cons, get_or-set_same, get_or-set_other, length-drop, length-set, pow_mono, replicate, set}
+use Rattle.mwc_kinds.proofs.Imports.{length, get_or, map, sum, range_with_len, common_steps, cases_eq, ap, arith, cases_lt, inl, inr, has, weight, down, ways_of, ways_with, nat_tests}
+use Rattle.std.proofs.Common.{drop, drop-cons, get_or-set_same, get_or-set_other, length-drop, pow_mono, replicate, set}
 use Rattle.std.proofs.lemmas.List.{drop_all, get_or_past, FromFn.fill_by_all, Sums.sum-map, Sums.sum_by-le-sum_by}
 use Rattle.coalitions.proofs.Shared.Lists.{get_or-zeros}
 use Rattle.council_game.proofs.Shared.WeightByDigits.{weight-nil}

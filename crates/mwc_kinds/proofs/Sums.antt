@@ -1,8 +1,8 @@
 -- Numbers added up by size.
-use Rattle.mwc_kinds.proofs.Imports.{◌≡◌, ◌∙◌, ℕ, ◌+◌, ◌*◌, ◌<◌, ◌≤◌, ◌==◌, List, length, get_or, sum, take, cond, ap, sym, arith, nat_tests}
-use Rattle.mwc_kinds.proofs.Imports.{common_steps, cases_eq, sum_by-range-more}
+use Rattle.mwc_kinds.proofs.Imports.{◌≡◌, ℕ, ◌+◌, ◌<◌, ◌≤◌, List, length, get_or, sum, take, cond, arith, nat_tests}
+use Rattle.mwc_kinds.proofs.Imports.{common_steps, sum_by-range-more}
 use Rattle.std.proofs.Common.{None, Some, Option, set}
-use Rattle.std.proofs.lemmas.List.Sums.{sum_by_more, sum_by_more_le}
+use Rattle.std.proofs.lemmas.List.Sums.{sum_by_more_le}
 use Rattle.coalitions.proofs.Shared.Lists.{bumped}
 use Rattle.mwc_kinds.specs.Inner.Ways.{has_size, of_size}
 

@@ -1,9 +1,9 @@
 -- The counts of a game from those of its choices.
-use Rattle.mwc_kinds.proofs.Imports.{◌≡◌, ◌∙◌, ℕ, zero, suc, ◌+◌, ◌*◌, ◌^◌, ◌<◌, ◌≤◌, ◌==◌, ◌&&◌, Bool, true, cond, All, List, [], ◌∷◌, length}
+use Rattle.mwc_kinds.proofs.Imports.{◌≡◌, ◌∙◌, ℕ, zero, suc, ◌*◌, ◌^◌, ◌<◌, ◌≤◌, ◌==◌, ◌&&◌, Bool, true, cond, List, length}
 use Rattle.mwc_kinds.proofs.Imports.{get_or, filter, map, sum, sum_by, sym, ap, refl, arith, range_with_len, nat_tests, cases_Bool, inl, inr}
 use Rattle.mwc_kinds.proofs.Imports.{Votes, IsVotes, size, has, weight, minimal, minimal_coalitions, down, all_choices, strides, ways_of, ways_with}
-use Rattle.mwc_kinds.proofs.Imports.{minimal_size, choice_is_minimal, choice_size, choices, kind_of, length-map}
-use Rattle.std.proofs.Common.{None, Some, Option, pow_mono}
+use Rattle.mwc_kinds.proofs.Imports.{minimal_size, choice_is_minimal, choices, kind_of}
+use Rattle.std.proofs.Common.{None, Option, pow_mono}
 use Rattle.std.specs.Option.{IfSome}
 use Rattle.std.proofs.lemmas.List.{Elements.All-map, Elements.filter_agree, Sums.length-filter, Sums.sum-map, Recursion.is_sum_by}
 use Rattle.coalitions.proofs.Shared.Lists.{filter-all, filter-both}

@@ -105,7 +105,11 @@ pub(crate) fn minimal_sizes(
     ensures { IfOk result (λ v. v.items ≡ map (minimal_size (votes_of game.now))
         (range_with_len 0 (all_choices (votes_of game.now)))) }
 {
-    let wins = listed(alloc, kinds.choices, |choice| choice_wins(game, kinds, choice))?;
+    let wins = listed(
+        alloc,
+        kinds.choices,
+        |choice| choice_wins(game, kinds, choice),
+    )?;
     let mut sizes = Vec::with_capacity(alloc, kinds.choices)?;
     for choice in 0..kinds.choices {
         sizes.push(minimal_size(game, kinds, &wins, choice))?;

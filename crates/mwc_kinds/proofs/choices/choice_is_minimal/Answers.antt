@@ -1,4 +1,4 @@
-use Rattle.mwc_kinds.proofs.Imports.{◌∙◌, ◌<◌, ◌≡◌, ◌-◌, ap, sym, arith, false, get_or, length, kinds, votes_of, choices, taken, choice_wins}
+use Rattle.mwc_kinds.proofs.Imports.{◌∙◌, ◌-◌, ap, sym, arith, length, kinds, votes_of, choice_wins}
 use Rattle.std.proofs.Common.{below_more}
 use Rattle.mwc_kinds.specs.declared.kinds.Kind.{Kind}
 use Rattle.mwc_kinds.specs.Inner.Choices.{kind_at}

@@ -1,4 +1,4 @@
-use Rattle.mwc_kinds.proofs.Imports.{◌∙◌, ◌<◌, ◌≡◌, ap, arith, length, kinds, votes_of, sum_by, range_with_len, taken, choice_size}
+use Rattle.mwc_kinds.proofs.Imports.{◌∙◌, ◌≡◌, ap, arith, length, kinds, votes_of, sum_by, range_with_len, taken, choice_size}
 use Rattle.mwc_kinds.specs.Inner.Choices.{kind_at}
 use Rattle.mwc_kinds.proofs.{KindLaws.held, KindLaws.kinds-few, Listed.listed-long, Taken.size-next, Taken.taken-is}
 use Rattle.mwc_kinds.proofs.choices.choice_size.Goals as goal

@@ -1,4 +1,4 @@
-use Rattle.mwc_kinds.proofs.Imports.{◌∙◌, ◌<◌, ◌≡◌, ap, arith, length, kinds, votes_of, sum_by, range_with_len, taken, choice_weight, rule_at, get_or, ◌*◌}
+use Rattle.mwc_kinds.proofs.Imports.{◌∙◌, ◌≡◌, ap, arith, length, kinds, votes_of, sum_by, range_with_len, taken, choice_weight, rule_at, get_or, ◌*◌}
 use Rattle.mwc_kinds.specs.Inner.Choices.{kind_at}
 use Rattle.mwc_kinds.proofs.{KindLaws.held, KindLaws.kinds-few, Listed.listed-long, Taken.weight-next, Taken.weight-fits, Taken.taken-is}
 use Rattle.mwc_kinds.proofs.choices.choice_weight.Goals as goal
@@ -25,7 +25,8 @@ overflow_add-sum c =
       arith,
       weight-fits c.taken.result c.weight.result c.loop-kind.kind-index c.loop-kind.sum c.taken.ensures.few c.weight.ensures.light
           c.loop-kind.invariant.few,
-      long, c.loop-kind-test.true,
+      long,
+      c.loop-kind-test.true,
       kinds-few (votes_of c.args.game.now),
       c.was_checked.ensures.votes.few,
     )

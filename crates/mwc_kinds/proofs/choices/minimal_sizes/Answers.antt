@@ -1,5 +1,5 @@
 use Rattle.std.proofs.Common.{rules}
-use Rattle.mwc_kinds.proofs.Imports.{◌∙◌, ◌≡◌, ap, arith, map, range_with_len, votes_of, choice_wins, minimal_size}
+use Rattle.mwc_kinds.proofs.Imports.{◌∙◌, ◌≡◌, arith, map, range_with_len, votes_of, choice_wins, minimal_size}
 use Rattle.mwc_kinds.proofs.Listed.{listed-long, pushed}
 use Rattle.mwc_kinds.proofs.choices.minimal_sizes.Goals as goal
 

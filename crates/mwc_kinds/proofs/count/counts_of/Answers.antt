@@ -1,5 +1,5 @@
 use Rattle.std.proofs.Common.{rules}
-use Rattle.mwc_kinds.proofs.Imports.{◌∙◌, ◌<◌, ℕ, true, ap, arith, get_or, length, has, kinds, strides, ways_of, ways_with, votes_of}
+use Rattle.mwc_kinds.proofs.Imports.{◌∙◌, ◌<◌, ℕ, true, ap, arith, length, has, kinds, strides, ways_of, ways_with, votes_of}
 use Rattle.power_index.proofs.Shared.Minimal.{minimal-are-coalitions, minimal-few}
 use Rattle.mwc_kinds.proofs.Digits.{choices-some}
 use Rattle.mwc_kinds.proofs.Choosing.{strides-long}

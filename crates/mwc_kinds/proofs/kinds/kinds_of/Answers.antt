@@ -1,6 +1,5 @@
-use Rattle.mwc_kinds.proofs.Imports.{◌∙◌, ◌≡◌, ◌+◌, ◌<◌, ◌*◌, ◌^◌, ℕ, length, arith, ap, sym, refl, pow_pos, votes_of, choices, get_or, kinds, members_of_kind, filter, alike, range_with_len, map}
+use Rattle.mwc_kinds.proofs.Imports.{◌∙◌, ◌≡◌, ◌+◌, ◌<◌, ◌^◌, length, arith, ap, sym, refl, pow_pos, votes_of, choices, get_or, kinds, range_with_len, map}
 use Rattle.mwc_kinds.specs.Inner.Choices.{kind_at}
-use Rattle.mwc_kinds.proofs.Digits.{choices-more}
 use Rattle.mwc_kinds.proofs.FewChoices.{coalitions-are, choices-next, choices-none, fits-next, kind-next, square-fits, too-many}
 use Rattle.mwc_kinds.proofs.KindLaws.{first-below}
 use Rattle.mwc_kinds.proofs.kinds.kinds_of.Goals as goal
@@ -43,8 +42,7 @@ returns-then-choices-coalitions-clause-few c =
     let are = c.deref-place-items.ensures.value ∙ c.in_ok-places.ensures in
     let first : get_or c.deref-place-items.result.now c.loop-place.place-index 0 ≡ get_or (kinds v) c.loop-place.place-index 0 = ap (λ l. get_or l c.loop-place.place-index 0) are in
     let below : c.loop-place.place-index < length (kinds v) = omega (arith, c.loop-place-test.true, ap length are) in
-    let next = choices-next v c.loop-place.place-index _ _ _ first c.count_members-members.ensures.count c.loop-place.invariant.choices in
-    (
+    let next = choices-next v c.loop-place.place-index _ _ _ first c.count_members-members.ensures.count c.loop-place.invariant.choices in (
       λ none. absurd (cc),
       λ few. absurd (too-many v (c.loop-place.place-index + 1) (length (kinds v)) _ (2 ^ length c.args.game.now.names) (omega (arith, below)) next
           (omega (arith, c.if-choices-coalitions.true, coalitions)) few),

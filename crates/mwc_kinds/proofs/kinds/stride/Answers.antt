@@ -1,4 +1,4 @@
-use Rattle.mwc_kinds.proofs.Imports.{◌∙◌, ◌<◌, ap, sym, arith, length, nat_tests, votes_of, choices, get_or, alike, kinds, kind_of}
+use Rattle.mwc_kinds.proofs.Imports.{◌∙◌, ap, sym, arith, length, votes_of, choices, alike, kinds, kind_of}
 use Rattle.std.proofs.Common.{below_more}
 use Rattle.mwc_kinds.specs.declared.kinds.Kind.{Kind}
 use Rattle.std.proofs.lemmas.Bool.{both_ways}

@@ -1,6 +1,6 @@
 use Rattle.std.proofs.Common.{None, length-set}
 use Rattle.mwc_kinds.proofs.ways.add_by_size.Goals.{in-Some, in_default}
-use Rattle.mwc_kinds.proofs.Imports.{◌∙◌, ◌<◌, length, arith, get_or, sym}
+use Rattle.mwc_kinds.proofs.Imports.{◌∙◌, ◌<◌, length, arith, sym}
 use Rattle.mwc_kinds.proofs.Sums.{few-next, size-none, size-some, sum-next}
 use Rattle.coalitions.proofs.Shared.Lists.{get_or-zeros}
 use Rattle.mwc_kinds.proofs.ways.add_by_size.Goals as goal

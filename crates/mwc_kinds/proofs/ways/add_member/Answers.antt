@@ -1,4 +1,4 @@
-use Rattle.mwc_kinds.proofs.Imports.{arith, cases_eq, cases_lt, ◌-◌, nat_tests}
+use Rattle.mwc_kinds.proofs.Imports.{arith, cases_eq, ◌-◌}
 use Rattle.std.proofs.Common.{get_or-set_same, get_or-set_other, length-set}
 use Rattle.mwc_kinds.proofs.ways.add_member.Goals as goal
 

@@ -1,4 +1,4 @@
-use Rattle.mwc_kinds.proofs.Imports.{arith, common_steps, nat_tests, ◌∙◌, ap, get_or, List, ℕ}
+use Rattle.mwc_kinds.proofs.Imports.{arith, common_steps, nat_tests}
 use Rattle.mwc_kinds.proofs.Making.{ways-all, ways-first, ways-next, ways-room}
 use Rattle.std.proofs.Common.{length-set}
 use Rattle.mwc_kinds.proofs.ways.count_ways.Goals as goal

@@ -1,5 +1,5 @@
 use Rattle.mwc_kinds.proofs.ways.count_ways_with.Goals.{then-choice-stride, else-choice-stride}
-use Rattle.mwc_kinds.proofs.Imports.{◌∙◌, arith, ap, sym, ways_of, ways_with}
+use Rattle.mwc_kinds.proofs.Imports.{◌∙◌, arith, sym, ways_with}
 use Rattle.mwc_kinds.proofs.{Listed.listed-at, Listed.listed-long, Listed.pushed, Making.with-le, Making.with-low, Making.with-next}
 use Rattle.mwc_kinds.proofs.ways.count_ways_with.Goals as goal
 
