@@ -95,6 +95,30 @@ fn counts_a_council_of_four_chambers(rt: HostRuntime) {
     );
 }
 
+/// Five members of weight 9, fifteen of weight 3, and sixteen of weight 1.
+#[test]
+fn counts_by_size(rt: HostRuntime) {
+    let mut weights = [1; 36];
+    for member in 0..20 {
+        weights[member] = if member < 5 { 9 } else { 3 };
+    }
+    let counts = counts(&rt, rt.alloc(), &[(52, &weights)]).expect(&rt, "few kinds");
+    assert!(rt; counts.members() == 36);
+    same(&rt, counts.wide_total(), 2_251_009_230, "in all");
+    for (size, number) in [
+        (8, 2_135),
+        (14, 143_365_950),
+        (18, 814_049_740),
+        (28, 455),
+        (29, 0),
+    ] {
+        same(&rt, counts.wide_of_size(size), number, size);
+    }
+    for (member, number) in [(4, 91_180_180), (5, 60_023_600), (20, 40_679_275)] {
+        same(&rt, counts.wide_of_member_size(member, 14), number, member);
+    }
+}
+
 /// Members of four different weights.
 #[test]
 fn leaves_members_who_all_differ(rt: HostRuntime) {

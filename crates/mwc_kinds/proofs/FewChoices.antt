@@ -1,31 +1,10 @@
 -- How many choices there are of the first kinds.
-use Rattle.mwc_kinds.proofs.Imports.{◌≡◌, ◌∙◌, ℕ, zero, suc, ◌+◌, ◌*◌, ◌^◌, ◌%◌, ◌<◌, ◌≤◌, List, [], ◌∷◌, ◌++◌, length, get_or, map, filter, ap, sym, refl}
-use Rattle.mwc_kinds.proofs.Imports.{arith, inl, inr, cases_lt, range_with_len, ◌-◌, Votes, alike, choices, kinds, members_of_kind}
-use Rattle.std.proofs.Common.{pow_mono}
-use Rattle.std.proofs.lemmas.Nat.{mul-le, one_shl}
+use Rattle.mwc_kinds.proofs.Imports.{◌≡◌, ◌∙◌, ℕ, zero, suc, ◌+◌, ◌*◌, ◌<◌, ◌≤◌, List, [], ◌∷◌, ◌++◌, length, get_or, map, filter, ap, sym, refl}
+use Rattle.mwc_kinds.proofs.Imports.{arith, range_with_len, ◌-◌, Votes, alike, choices, kinds, members_of_kind}
+use Rattle.std.proofs.lemmas.Nat.{mul-le}
 use Rattle.mwc_kinds.specs.declared.kinds.Kind.{Kind}
 use Rattle.mwc_kinds.specs.Inner.Choices.{kind_at}
 use Rattle.mwc_kinds.proofs.{Digits.choices-more, Listed.pushed}
-
-pub coalitions-are : (m n : ℕ) → m ≡ n → n ≤ 40 → 1 * 2 ^ m % 18446744073709551616 ≡ 2 ^ n
-coalitions-are m n e few = one_shl m 64 (omega (arith, e, few)) ∙ ap (λ (k : ℕ). 2 ^ k) e
-
-pub few-root : (c n : ℕ) → n ≤ 40 → c * c ≤ 2 ^ n → c ≤ 1048576
-few-root c n few square = elim (cases_lt 1048576 c) [
-  | inl big ↦
-      let up : 2 ^ n ≤ 2 ^ 40 = pow_mono few in
-      let more = mul-le 1048577 1048577 c c (omega arith) (omega arith) in
-      absurd (omega (arith, more, up, square))
-  | inr small ↦ small
-]
-
-pub fits-next : (c m n : ℕ) → n ≤ 40 → c * c ≤ 2 ^ n → m ≤ 40 → c * (m + 1) ≤ 42991616
-fits-next c m n few square low = let more = mul-le c (m + 1) 1048576 41 (few-root c n few square) (omega arith) in omega (arith, more)
-
-pub square-fits : (c m n : ℕ) → n ≤ 40 → c * c ≤ 2 ^ n → m ≤ 40 → c * (m + 1) * (c * (m + 1)) < 2 ^ 64
-square-fits c m n few square low =
-    let one = fits-next c m n few square low in
-    let more = mul-le (c * (m + 1)) (c * (m + 1)) 42991616 42991616 one one in omega (arith, more)
 
 rise : (v : Votes) (j d : ℕ) → choices v j ≤ choices v (j + d)
 rise v j zero = let e : j + zero ≡ j = omega arith in omega (arith, ap (choices v) e)
@@ -35,13 +14,11 @@ rise v j (suc d) =
     omega (arith, ap (choices v) e, choices-more v (j + d), more, rise v j d)
 
 -- too many choices of the first kinds are too many of all
-pub too-many : (v : Votes) (j k c x : ℕ) → j ≤ k → c ≡ choices v j → x < c * c → choices v k * choices v k ≤ x → ⊥
-too-many v j k c x le is more few =
+pub too-many : (v : Votes) (j k c : ℕ) → j ≤ k → c ≡ choices v j → 1048576 < c → choices v k ≤ 1048576 → ⊥
+too-many v j k c le is more few =
     let d : ℕ = k - j in
     let e : j + d ≡ k = omega arith in
-    let up : c ≤ choices v k = omega (arith, ap (choices v) e, rise v j d, is) in
-    let square = mul-le c c (choices v k) (choices v k) up up in
-    omega (arith, square, more, few)
+    omega (arith, ap (choices v) e, rise v j d, is, more, few)
 
 members-are : (v : Votes) (j p m : ℕ) → p ≡ get_or (kinds v) j 0 → m ≡ length (filter (alike v.rules p) (range_with_len 0 v.members))
     → m ≡ members_of_kind v j

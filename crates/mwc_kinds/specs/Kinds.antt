@@ -2,6 +2,7 @@
 use Rattle.std.specs.Prelude.{ℕ, zero, suc, ◌+◌, ◌*◌, ◌^◌, ◌≤◌, ◌==◌, Bool, not, List, length, slice_index}
 use Rattle.std.specs.List.{filter, list_all, list_any, range_with_len}
 use Rattle.council_game.specs.Votes.{RuleView, Votes, rule_at}
+use Rattle.mwc_kinds.specs.declared.kinds.TheConstants.{CHOICES, COALITIONS_EACH}
 use Rattle.council_game.specs.Game.{GameView, votes_of}
 
 -- the members of two places are of one kind: each rule gives them the same weight
@@ -32,6 +33,7 @@ choices v (suc k) = choices v k * (members_of_kind v k + 1)
 abbrev pub all_choices : Votes → ℕ
 all_choices v = choices v (length (kinds v))
 
--- the square of that is no more than the game has coalitions
-abbrev pub HasFewChoices : GameView → Type 0
-HasFewChoices g = all_choices (votes_of g) * all_choices (votes_of g) ≤ 2 ^ length g.names
+-- that is no great number, and a game has many coalitions for each choice
+pub record HasFewChoices (g : GameView) : Type 0 where
+  pub few : all_choices (votes_of g) ≤ CHOICES
+  pub coalitions : all_choices (votes_of g) * COALITIONS_EACH ≤ 2 ^ length g.names

@@ -31,8 +31,8 @@ fn counts_of(alloc: Global, game: &Game, kinds: &Kinds) -> Result<Box<Counts>, M
 /// Counts the minimal winning coalitions of a game whose members are of few kinds.
 ///
 /// Members are of one kind if they have the same weight under every rule. A coalition's choice is
-/// how many members of each kind it has. There are few choices if their square is at most the
-/// number of coalitions, and so at most 2^20 choices. It takes up to 50 MB. Of any other game
+/// how many members of each kind it has. There are few choices if they are at most `CHOICES`, and the
+/// game has at least `COALITIONS_EACH` coalitions for each. It takes up to 40 MB. Of any other game
 /// it returns `None`.
 ///
 /// # Errors

@@ -11,6 +11,12 @@ use coalitions::listed;
 use council_game::{Game, Memory};
 use std::alloc::Global;
 
+/// The most choices that are few.
+pub const CHOICES: usize = 1_048_576;
+
+/// How many coalitions a game has for each choice at least, if the choices are few.
+pub const COALITIONS_EACH: usize = 64;
+
 /// Members with the same weight under every rule.
 #[derive(Clone, Copy)]
 pub(crate) struct Kind {
@@ -92,7 +98,6 @@ pub(crate) fn kinds_of(alloc: Global, game: &Game) -> Result<Option<Kinds>, Memo
     ensures few { IfOk result (λ o. IsSome o ↔ HasFewChoices game.now) }
 {
     let places = first_places(alloc, game)?;
-    let coalitions = 1 << game.members();
     let mut list = Vec::with_capacity(alloc, places.len())?;
     let mut choices = 1;
     for place in &places {
@@ -103,9 +108,12 @@ pub(crate) fn kinds_of(alloc: Global, game: &Game) -> Result<Option<Kinds>, Memo
             stride: choices,
         })?;
         choices *= members + 1;
-        if choices * choices > coalitions {
+        if choices > CHOICES {
             return Ok(None);
         }
+    }
+    if choices * COALITIONS_EACH > 1 << game.members() {
+        return Ok(None);
     }
     Ok(Some(Kinds { list, choices }))
 }

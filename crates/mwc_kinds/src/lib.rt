@@ -18,3 +18,4 @@ mod kinds;
 mod ways;
 
 pub use count::count_by_kinds;
+pub use kinds::{CHOICES, COALITIONS_EACH};

@@ -26,7 +26,11 @@ fn counts<R: Abort + Print>(rt: &R, alloc: Global, rules: &[(u64, &[u64])]) {
 /// Two kinds, of which one has a single member.
 #[test]
 fn counts_by_kinds(rt: HostRuntime) {
-    counts(&rt, rt.alloc(), &[(7, &[1, 1, 1, 1, 5, 1, 1, 1, 1, 1])]);
+    counts(
+        &rt,
+        rt.alloc(),
+        &[(7, &[1, 1, 1, 1, 5, 1, 1, 1, 1, 1, 1, 1])],
+    );
 }
 
 /// Three kinds under two rules, in mixed order, one of them without weight.

@@ -1,4 +1,4 @@
-use Rattle.std.proofs.Common.{◌≡◌, ◌≤◌, ◌*◌, ◌^◌, length, map}
+use Rattle.std.proofs.Common.{◌≡◌, ◌≤◌, map}
 use Rattle.std.specs.List.{range_with_len}
 use Rattle.council_game.specs.Game.{votes_of}
 use Rattle.mwc_kinds.specs.Kinds.{choices}
@@ -9,5 +9,5 @@ abbrev pub invariant-loop-place : goal.invariant-loop-place
 invariant-loop-place l = record {
   list : l.list.items ≡ map (kind_at (votes_of l.game)) (range_with_len 0 l.place-index);
   choices : l.choices ≡ choices (votes_of l.game) l.place-index;
-  few : l.choices * l.choices ≤ 2 ^ length l.game.names;
+  few : l.choices ≤ 1048576;
 }
