@@ -13,7 +13,7 @@ use std::io::Print;
 use std::process::Abort;
 
 /// All numbers of two counts are the same.
-fn same_counts(rt: &impl Abort, found: &Counts, wanted: &Counts) {
+pub(crate) fn same_counts(rt: &impl Abort, found: &Counts, wanted: &Counts) {
     let members = found.members();
     assert!(rt; members == wanted.members());
     same(rt, found.wide_total(), wanted.wide_total(), "in all");
@@ -29,7 +29,7 @@ fn same_counts(rt: &impl Abort, found: &Counts, wanted: &Counts) {
 }
 
 /// The counts of the minimal ones of all subsets, of a game of at most 20 members.
-fn by_subsets(rt: &impl Abort, alloc: Global, game: &Game) -> Counts
+pub(crate) fn by_subsets(rt: &impl Abort, alloc: Global, game: &Game) -> Counts
     ensures { AreCountsOfGame game.now result }
 {
     assert!(rt; game.members() <= 20);

@@ -1,0 +1,11 @@
+mod Counted
+mod Digits
+mod Imports
+mod Listed
+mod Making
+mod Sums
+mod KindLaws
+mod FewChoices
+mod Taken
+mod Choosing
+mod Totals

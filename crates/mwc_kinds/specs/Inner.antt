@@ -1,0 +1,3 @@
+-- What only proofs, private functions and invariants need: no public contract mentions it.
+pub mod Choices
+pub mod Ways
