@@ -195,6 +195,9 @@ takes_memory mwc_sums counts_by_sums
 takes_memory mwc_sums counts_by_halves
 takes_memory mwc_sums counts_by_chambers
 takes_memory mwc_sums counts_in_part
+takes_memory mwc_sums counts_by_kinds
+takes_memory mwc_sums counts_by_kinds_under_two_rules
+takes_memory mwc_sums counts_by_kinds_under_four_rules
 # room for three desks; for each of three workers its room, and the start of its thread; and what comes then
 shape='o+(o{4,})(s+)\1\2\1\2o+'
 takes_memory mwc_gather gathers "not started"

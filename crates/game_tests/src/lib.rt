@@ -14,8 +14,6 @@ mod council_words_tests;
 #[cfg(test)]
 mod helpers;
 #[cfg(test)]
-mod mwc_kinds_tests;
-#[cfg(test)]
 mod mwc_sums_tests;
 #[cfg(test)]
 mod mwc_walk_tests;

@@ -1,10 +1,9 @@
 -- Coalitions that meet a need, and lose it without any one of their members, by their first member.
-use Rattle.mwc_sums.proofs.Imports.{◌≡◌, ◌∙◌, ◌↔◌, ◌⊎◌, ℕ, zero, suc, ◌+◌, ◌-◌, ◌^◌, ◌<◌, ◌≤◌, ◌==◌, true, false, cond, ltb, List, [], ◌∷◌}
+use Rattle.mwc_sums.proofs.Imports.{◌≡◌, ◌∙◌, ◌↔◌, ◌⊎◌, ℕ, zero, suc, ◌+◌, ◌-◌, ◌^◌, ◌<◌, ◌≤◌, ◌==◌, true, cond, ltb, List, [], ◌∷◌}
 use Rattle.mwc_sums.proofs.Imports.{◌++◌, length, get_or, map, sym, ap, refl, arith, inl, inr, cases_lt, RuleView, has, size, weight, wins}
 use Rattle.mwc_sums.proofs.Imports.{down, weight-without, nat_tests}
-use Rattle.std.proofs.Common.{eqb-true, ◌/◌, ◌%◌, pow_pos}
-use Rattle.std.proofs.lemmas.Nat.{ones_cat, Bits.bit_at_cat_low, Bits.bit_at_cat_high, Bits.bit_at_above}
-use native.Mathlib.Numerals.{unary_clauses}
+use Rattle.std.proofs.Common.{eqb-true, pow_pos}
+use Rattle.std.proofs.lemmas.Nat.{ones_cat, Bits.bit_at_cat_high, Bits.bit_at_above}
 use Rattle.coalitions.proofs.Shared.{Digits.has-none, Sizes.size-ones}
 use Rattle.power_index.proofs.Shared.Members.{size-pos-at}
 use Rattle.std.specs.Int.Count.{ones-ones}

@@ -1,8 +1,8 @@
 -- As many coalitions pass one test as pass another, and sets that win where they win under two
 -- conditions.
-use Rattle.mwc_sums.proofs.Imports.{◌≡◌, ◌∙◌, ◌↔◌, ◌==◌, ◌&&◌, ℕ, zero, suc, ◌^◌, ◌<◌, Bool, true, false, List, length, get_or, filter, sym}
-use Rattle.mwc_sums.proofs.Imports.{nat_tests, not, ◌||◌, true_from_ne_false, ◌+◌, size, filter-both, eqb, ap, refl, arith, sum_by}
-use Rattle.mwc_sums.proofs.Imports.{cases_eq, sum_by-cons, length-filter, down, sum-zero}
+use Rattle.mwc_sums.proofs.Imports.{◌≡◌, ◌∙◌, ◌↔◌, ◌==◌, ◌&&◌, ℕ, ◌^◌, ◌<◌, Bool, true, false, List, length, get_or, filter, sym}
+use Rattle.mwc_sums.proofs.Imports.{nat_tests, not, ◌||◌, true_from_ne_false, ◌+◌, size, eqb, ap, refl, arith, sum_by}
+use Rattle.mwc_sums.proofs.Imports.{down}
 use Rattle.std.proofs.lemmas.Bool.{both_ways, and_parts, and_from, false_from_ne_true}
 use Rattle.coalitions.proofs.Shared.Lists.{sum-swap}
 use Rattle.mwc_sums.proofs.VetoRules.{sum-parts}

@@ -1,6 +1,6 @@
 -- Coalitions of the first places of a ranking, and the sets of members that they hold.
 use Rattle.mwc_sums.proofs.Imports.{ap, refl, arith, sum_by, range_with_len, cases_eq, le-ltb, length-filter, nat_tests, has, size, without}
-use Rattle.mwc_sums.proofs.Imports.{◌≡◌, ◌∙◌, ◌↔◌, ◌&&◌, not, ℕ, zero, suc, ◌+◌, ◌^◌, ◌<◌, ◌≤◌, Bool, true, false, cond, List, get_or, sym}
+use Rattle.mwc_sums.proofs.Imports.{◌≡◌, ◌∙◌, ◌↔◌, ◌&&◌, not, ℕ, zero, suc, ◌^◌, ◌<◌, ◌≤◌, Bool, true, false, cond, List, get_or, sym}
 use Rattle.mwc_sums.proofs.Imports.{member_at, RanksAre, sum-range, eqb}
 use Rattle.coalitions.proofs.Shared.Digits.{has-kept, has-gone, same-places}
 use Rattle.council_game.specs.Ranks.{AreRankPlaces}

@@ -3,7 +3,7 @@
 use Rattle.mwc_sums.proofs.Imports.{sum_by-range-more, RuleView, sum-plus, get_or, wins, Votes, IsVotes, rule_at, length-map, filter-append}
 use Rattle.mwc_sums.proofs.Imports.{sum_by, range_with_len, sum_by-cons, sum-range, ◌≡◌, ◌∙◌, ℕ, suc, ◌+◌, ◌*◌, ◌<◌, Bool, true, false, met}
 use Rattle.mwc_sums.proofs.Imports.{rules_beside, can_veto, ◌^◌, map, filter, ap, refl, arith, All, sum, leb, ltb, List, [], ◌∷◌, rule-is}
-use Rattle.mwc_sums.proofs.Imports.{sum-filter, has, weight, length-range_with_len, places-at, All-head, All-tail, common_steps, rest_of}
+use Rattle.mwc_sums.proofs.Imports.{has, weight, length-range_with_len, places-at, All-head, All-tail, common_steps, rest_of}
 use Rattle.mwc_sums.proofs.Imports.{sum-zero, AreRulesOf, length-filter_both, not, ◌++◌, ◌≤◌, cases_lt, le-ltb, cond, nat_tests, weighs}
 use Rattle.mwc_sums.proofs.Imports.{length-map-range_with_len, All-from_recursion, GameView, IsGame, IsFair, take, statute, length}
 use Rattle.mwc_sums.proofs.Imports.{rule_for}

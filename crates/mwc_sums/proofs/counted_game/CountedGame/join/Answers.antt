@@ -1,4 +1,4 @@
-use Rattle.std.proofs.Common.{◌≡◌, ◌∙◌, ◌<◌, ℕ, List, [], arith, inl, inr, length, set, subst}
+use Rattle.std.proofs.Common.{◌∙◌, ◌<◌, ℕ, [], arith, inl, inr, length, subst}
 use Rattle.std.proofs.lemmas.{Bool.cases_eq, List.get_or-set_same, List.get_or-set_other, List.length-set}
 use Rattle.mwc_sums.proofs.Imports.{AreSizeCounts, has, minimal_coalitions, votes_of}
 use Rattle.mwc_sums.proofs.counted_game.CountedGame.join.Goals as goal

@@ -1,3 +1,0 @@
--- What only proofs, private functions and invariants need: no public contract mentions it.
-pub mod Choices
-pub mod Ways

@@ -1,5 +1,0 @@
-pub use Rattle.council_game.specs.Game
-pub use Rattle.council_game.specs.Votes
-pub use Rattle.power_index.specs.Tables
-pub mod Kinds
-pub mod Inner
