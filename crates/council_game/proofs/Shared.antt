@@ -12,5 +12,4 @@ pub mod Subsets
 pub mod Listing
 pub mod RankPlaces
 pub mod Sets
-pub mod Resorted
 pub mod Joins

@@ -1,7 +1,8 @@
 use Rattle.std.proofs.Common.{rules, ◌≡◌, ◌-◌, ◌<◌, ◌^◌, length, get_or, ap, sym, ◌∙◌, arith, subst, pow_mono, IsPermutation, map, List, ℕ, ◌≤◌}
 use Rattle.std.proofs.lemmas.List.{get_or-map, get_or_default, length-map, same_lists, Sorted.IsNonDecreasingBy-from_sort_by_key, Sorted.All-permutation}
 use Rattle.council_game.specs.{Game.votes_of, Votes.minimal_coalitions}
-use Rattle.council_game.proofs.Shared.{Games.few-members, Listing.listing-is, Resorted.resorted, Resorted.there-is, Sets.there}
+use Rattle.council_game.proofs.{Resorted.resorted, Resorted.there-is}
+use Rattle.council_game.proofs.Shared.{Games.few-members, Listing.listing-is, Sets.there}
 use Rattle.council_game.proofs.game.Game.renumber_all.Goals as goal
 
 pub loop-place-init : goal.loop-place-init
