@@ -1,9 +1,8 @@
-#!/usr/bin/env python3
 """Makes one page of HTML from reports of council, to send, open or print:
 
-    page.py [OPTIONS] REPORT.. >page.html
+    council-tools page [OPTIONS] [REPORT..] >page.html
 
-REPORT is a file, or - for standard input. The page has the title, the quotas, a table that a
+REPORT is a file; without one, or as -, it is standard input. The page has the title, the quotas, a table that a
 click sorts, bars, the coalitions if the report lists them (--list), what the indices are, and how
 to compute them again. With the game file, --game FILE, it also has the names of the rules,
 weights in the unit of the table, and the comments of the file, such as the source of the data. It
@@ -11,15 +10,14 @@ loads nothing from elsewhere.
 """
 import base64
 import hashlib
-import os
 import re
-import shutil
 import subprocess
 
-from command import Words, find_built_program, find_program, read_comments, read_report, run, warn_of_low_quotas
-from drawing import INDICES, SHARES, escape_xml, name_share, write_quota
-from game import write_game
-from report import Fault, round_half_up
+from ..engine import NotFound, find_program
+from .command import Words, read_comments, read_report, warn_of_low_quotas
+from .drawing import INDICES, SHARES, escape_xml, name_share, write_quota
+from ..game import write_game
+from ..reports import Fault, round_half_up
 
 MOST = 1000
 # comments that from_table.py writes, a line each; others are a text that may be wrapped
@@ -114,7 +112,7 @@ def make_columns(report, units):
     """Yields the columns of the table: the heading, the values to sort by, and the cells.
     Fractions, which may be long, come last."""
     members, several = report.members, len(report.quotas) > 1
-    dp, pg = [it.deegan_packel for it in members], [it.public_good for it in members]
+    dp, pg = [it.deegan_packel_exact for it in members], [it.public_good_exact for it in members]
     yield "Member", [it.name.casefold() for it in members], [write_name(it.name) for it in members]
     yield "Deegan-Packel", dp, [round_half_up(it, 6) for it in dp]
     yield "Public good", pg, [round_half_up(it, 6) for it in pg]
@@ -143,7 +141,7 @@ def write_table(report, units):
 def write_bars(report, units):
     kinds = [(f"s{rule}", name_share(report, units, rule)) for rule in range(len(units))]
     kinds += [("dp", INDICES[0][0]), ("pg", INDICES[1][0])]
-    rows = [(it.name, [*(report.share(it, rule) for rule in range(len(units))), it.deegan_packel, it.public_good]) for it in report.members]
+    rows = [(it.name, [*(report.share(it, rule) for rule in range(len(units))), it.deegan_packel_exact, it.public_good_exact]) for it in report.members]
     longest = max(max(values) for _, values in rows)
     yield '<ul class="keys">' + "".join(f'<li><span class="key" style="background: var(--{it})"></span>{escape_xml(what)}</li>' for it, what in kinds) + "</ul>"
     yield '<div class="bars">'
@@ -198,8 +196,8 @@ def write_coalitions(report):
     some = f", the first {MOST:,} of {has:,}" if has > MOST else ""
     yield f"<h2>Minimal winning coalitions{some}</h2>"
     yield f"<details{' open' if has <= 100 else ''}><summary>{min(has, MOST):,} coalitions, with their weights</summary><ol class=\"coalitions\">"
-    for it in report.coalitions:
-        yield f"<li>{', '.join(map(write_name, it.names))} <small>({' / '.join(unit.write(weight) for unit, weight in zip(report.units, it.weights))})</small></li>"
+    for it in report.first:
+        yield f"<li>{', '.join(map(write_name, it.members))} <small>({' / '.join(unit.write(weight) for unit, weight in zip(report.units, it.weights))})</small></li>"
     yield "</ol></details>"
 
 
@@ -219,15 +217,12 @@ def write_section(report, at, level):
 
 
 def find_version(named):
-    """Returns the program at hand and what it was proved with, or None. It asks no launcher that
-    would build first."""
-    beside = os.path.realpath(os.path.join(os.path.dirname(os.path.realpath(__file__)), "../../council"))
-    if named:
+    """Returns the program at hand and what it was proved with, or None."""
+    try:
         path = find_program(named)
-    else:
-        is_program = os.path.isfile(beside) and open(beside, "rb").read(4) == b"\x7fELF"
-        path = find_built_program() or (beside if is_program else shutil.which("council"))
-    if not path:
+    except NotFound as it:
+        if named:
+            raise Fault(it) from None
         return None
     try:
         done = subprocess.run([path, "--version"], stdin=subprocess.DEVNULL, stdout=subprocess.PIPE, stderr=subprocess.DEVNULL, timeout=20)
@@ -266,18 +261,19 @@ def read(path, game, source):
     comments of its game file."""
     first = []
     report = read_report(path, lambda it: first.append(it) if len(first) < MOST else None)
-    report.coalitions, report.source = first, source
+    report.first, report.source = first, source
     report.comments, report.units = read_comments(game, report)
     return report
 
 
 def main(words):
-    reader = Words(__doc__)
-    reader.add_argument("reports", metavar="REPORT", nargs="+", help="a report of council; - is standard input")
+    reader = Words("page", __doc__)
+    reader.add_argument("reports", metavar="REPORT", nargs="*", help="a report of council; without one, or as -, standard input")
     reader.add_argument("--game", metavar="FILE", action="append", default=[], help="the game file of a report, once for each in their order")
     reader.add_argument("--source", metavar="TEXT", help="where the data come from")
     reader.add_argument("--program", metavar="PROGRAM", help="the program whose version the page names; else the one of this clone or archive, or the one on the PATH")
     words = reader.parse_args(words)
+    words.reports = words.reports or ["-"]
     if words.game and len(words.game) != len(words.reports):
         raise Fault(f"give --game once for each report: there are {len(words.reports)} reports, and {len(words.game)} game files", 2)
     games = words.game or [None] * len(words.reports)
@@ -286,7 +282,3 @@ def main(words):
         print(line)
     for it in reports:
         warn_of_low_quotas(it.quotas, it.totals)
-
-
-if __name__ == "__main__":
-    run(main)

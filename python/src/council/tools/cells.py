@@ -6,8 +6,8 @@ import math
 import re
 from fractions import Fraction
 
-from game import quote
-from report import Fault
+from ..game import quote
+from ..reports import Fault
 
 BLANKS = " \u00a0\u2007\u2009\u202f"
 # digits in groups of three, with a blank or an apostrophe between them

@@ -6,8 +6,8 @@ import unicodedata
 from fractions import Fraction
 from xml.sax.saxutils import escape
 
-from game import quote
-from report import round_half_up
+from ..game import quote
+from ..reports import round_half_up
 
 # what XML has no place for, and what would turn the direction of a line
 REFUSED = re.compile("[^\t\n\r -\ud7ff\ue000-\ufffd\U00010000-\U0010ffff]|[\x7f-\x9f\u200e\u200f\u202a-\u202e\u2066-\u2069]|[\ufdd0-\ufdef]")

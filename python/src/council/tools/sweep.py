@@ -1,40 +1,99 @@
-#!/usr/bin/env python3
 """Computes both indices of a game for each quota of a range, in one long table:
 
-    sweep.py [OPTIONS] GAME >TABLE
+    council-tools sweep [OPTIONS] [GAME] >TABLE
 
-GAME is a game file, or - for standard input. The table has a line for each quota and member: the
-quota, the member, and the two indices as fractions and as decimals, separated by TABs. Without
---from and --to it goes from 1 to the total of the rule. --picture draws a line for each member;
-members whose lines are the same share one.
+GAME is a game file; without one, or as -, it is standard input. The table has a line for each
+quota and member, with the columns quota, name, deegan_packel and public_good (decimals, cut off
+after six), deegan_packel_exact and public_good_exact (fractions), separated by TABs. Without --from
+and --to it goes from 1 to the total of the rule. Lines are written as they are computed.
+--picture draws a line for each member; members whose lines are the same share one.
 """
+import itertools
 import math
 import sys
+import time
 
-from cells import count_decimals
-from command import Words, compute, find_program, make_printable, note, prepare, run
-from drawing import COLORS, DASHES, find_round_step, find_ticks, measure, wrap, write_picture, write_text
-from game import find_comments, quote, read_units, write_game
-from report import Fault, round_half_up
+from .cells import count_decimals
+from .command import Words, make_printable, note
+from .drawing import COLORS, DASHES, find_round_step, find_ticks, measure, wrap, write_picture, write_text
+from ..engine import Refused, compute, find_program
+from ..game import find_comments, quote, read_units, write_game
+from ..reports import Fault, Report, cut_off, ignore, round_half_up, write_fraction
 
 MOST = 20000
 LEFT, WIDE, SMALL = 60, 560, 10
-KINDS = {"dp": ("Deegan-Packel index", lambda it: it.deegan_packel), "pg": ("public good index", lambda it: it.public_good)}
+KINDS = {"deegan_packel": ("Deegan-Packel index", lambda it: it.deegan_packel_exact), "public_good": ("public good index", lambda it: it.public_good_exact)}
 
 
 def sweep(program, start, rule, quotas):
-    """Returns the report of the game for each of these quotas of a rule. It tries the first and the
-    last quota before the others, so you hear at once of one that is out of range."""
+    """Yields each of these quotas of a rule, with the report of the game. It tries the last quota
+    before the others, so you hear at once of one that is out of range."""
     names = [it.name for it in start.members]
     weights = [it.weights for it in start.members]
-    reports = {}
-    for quota in dict.fromkeys([quotas[0], quotas[-1], *quotas]):
+
+    def find_report(quota):
         its = [*start.quotas[:rule], quota, *start.quotas[rule + 1 :]]
         try:
-            reports[quota] = compute(program, write_game(names, its, weights).encode("utf-8"), "--tally")
-        except Fault as it:
-            raise Fault(f"quota {quota}: {it}", it.status) from None
-    return [(quota, reports[quota]) for quota in quotas]
+            return Report.from_text(compute(write_game(names, its, weights).encode("utf-8"), program=program))
+        except Refused as it:
+            raise Fault(f"quota {quota}: council: {it.fault}", it.status) from None
+
+    last = find_report(quotas[-1])
+    for quota in quotas[:-1]:
+        yield quota, find_report(quota)
+    yield quotas[-1], last
+
+
+class Progress:
+    """A line on the terminal that says how far a sweep is, if its rows go elsewhere."""
+
+    def __init__(self, number):
+        self.number, self.begun, self.done, self.shown = number, time.monotonic(), 0, 0.0
+        self.is_on = sys.stderr.isatty() and not sys.stdout.isatty()
+
+    def step(self):
+        """Counts a quota. The line comes after a second, and changes five times a second."""
+        self.done += 1
+        now = time.monotonic()
+        if self.is_on and now - self.begun > 1 and now - self.shown > 0.2:
+            self.shown = now
+            left = (now - self.begun) / self.done * (self.number - self.done)
+            print(f"\rcouncil-tools sweep: {self.done:,} of {self.number:,} quotas, some {left:,.0f} s left\x1b[K", end="", file=sys.stderr, flush=True)
+
+    def end(self):
+        """Takes the line away."""
+        if self.shown:
+            print("\r\x1b[K", end="", file=sys.stderr, flush=True)
+
+
+def write_rows(reports, progress, take):
+    """Writes the table row by row, as the reports come. `take` gets each of them."""
+    print("quota", "name", "deegan_packel", "public_good", "deegan_packel_exact", "public_good_exact", sep="\t")
+    # a file gets each name as it is, and a terminal none that moves it
+    write_name = make_printable if sys.stdout.isatty() else str
+    try:
+        for quota, report in reports:
+            for it in report.members:
+                dp, pg = it.deegan_packel_exact, it.public_good_exact
+                print(quota, write_name(it.name), cut_off(dp), cut_off(pg), write_fraction(dp), write_fraction(pg), sep="\t")
+            sys.stdout.flush()
+            take((quota, report))
+            progress.step()
+    finally:
+        progress.end()
+
+
+def find_quotas(words, total):
+    """Returns the quotas of the sweep."""
+    first = 1 if words.first is None else words.first
+    last = total if words.last is None else words.last
+    if words.step < 1 or first > last:
+        raise Fault(f"there is no quota from {first} to {last} in steps of {words.step}", 2)
+    # (Python has no length of a range of twenty digits)
+    number = (last - first) // words.step + 1
+    if number > MOST:
+        raise Fault(f"from {first} to {last} there are {number} quotas, and {MOST} are the most: --from, --to and --step choose some", 2)
+    return range(first, last + 1, words.step)
 
 
 def warn_of_half(start, rule, quotas):
@@ -130,14 +189,14 @@ def draw(start, rule, reports, kind, unit):
 
 
 def main(words):
-    reader = Words(__doc__)
-    reader.add_argument("game", metavar="GAME", help="a game file, or - for standard input")
+    reader = Words("sweep", __doc__)
+    reader.add_argument("game", metavar="GAME", nargs="?", default="-", help="a game file; without one, or as -, standard input")
     reader.add_argument("--rule", metavar="N", type=int, default=1, help="the rule whose quota is changed, counted from 1; else the first")
     reader.add_argument("--from", metavar="QUOTA", dest="first", type=int, help="the first quota; else 1")
     reader.add_argument("--to", metavar="QUOTA", dest="last", type=int, help="the last quota; else the total")
     reader.add_argument("--step", metavar="N", type=int, default=1, help="from one quota to the next; else 1")
     reader.add_argument("--picture", metavar="FILE", help="also draw the sweep, as an SVG file")
-    reader.add_argument("--index", choices=sorted(KINDS), default="pg", help="the index that is drawn; else the public good index")
+    reader.add_argument("--index", choices=sorted(KINDS), default="public_good", help="the index that is drawn; else the public good index")
     reader.add_argument("--program", metavar="PROGRAM", help="the program council; else the one of this clone or archive, or the one on the PATH")
     words = reader.parse_args(words)
     if words.game == "-":
@@ -145,32 +204,22 @@ def main(words):
     else:
         with open(words.game, "rb") as it:
             game = it.read()
-    program = prepare(find_program(words.program))
-    start = compute(program, game, "--tally")
+    program = find_program(words.program) if words.program else None
+    start = Report.from_text(compute(game, program=program))
     if not 1 <= words.rule <= len(start.quotas):
         raise Fault(f"there is no rule {words.rule}: the game has {len(start.quotas)}", 2)
-    first = 1 if words.first is None else words.first
-    last = start.totals[words.rule - 1] if words.last is None else words.last
-    if words.step < 1 or first > last:
-        raise Fault(f"there is no quota from {first} to {last} in steps of {words.step}", 2)
-    quotas = range(first, last + 1, words.step)
-    # (Python has no length of a range of twenty digits)
-    number = (last - first) // words.step + 1
-    if number > MOST:
-        raise Fault(f"from {first} to {last} there are {number} quotas, and {MOST} are the most: --from, --to and --step choose some", 2)
-    reports = sweep(program, start, words.rule - 1, quotas)
-    warn_of_half(start, words.rule - 1, quotas)
-    if words.picture:
-        with open(words.picture, "w", encoding="utf-8", newline="\n") as it:
-            unit = read_units(find_comments(game.decode("utf-8-sig")), len(start.quotas))[words.rule - 1]
-            it.writelines(line + "\n" for line in draw(start, words.rule - 1, reports, words.index, unit))
-    print("quota", "member", "deegan_packel", "dp", "public_good", "pg", sep="\t")
-    # a file gets each name as it is, and a terminal none that moves it
-    write_name = make_printable if sys.stdout.isatty() else str
-    for quota, report in reports:
-        for it in report.members:
-            print(quota, write_name(it.name), it.dp_fraction, it.dp_decimals, it.pg_fraction, it.pg_decimals, sep="\t")
-
-
-if __name__ == "__main__":
-    run(main)
+    rule = words.rule - 1
+    quotas = find_quotas(words, start.totals[rule])
+    reports = sweep(program, start, rule, quotas)
+    # the first report shows that no quota is out of range
+    first = next(reports)
+    warn_of_half(start, rule, quotas)
+    rows, progress = itertools.chain([first], reports), Progress(len(quotas))
+    if not words.picture:
+        write_rows(rows, progress, ignore)
+        return
+    with open(words.picture, "w", encoding="utf-8", newline="\n") as it:
+        unit = read_units(find_comments(game.decode("utf-8-sig")), len(start.quotas))[rule]
+        kept = []
+        write_rows(rows, progress, kept.append)
+        it.writelines(line + "\n" for line in draw(start, rule, kept, words.index, unit))

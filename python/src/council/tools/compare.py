@@ -1,7 +1,6 @@
-#!/usr/bin/env python3
 """Shows two games or more side by side, member by member:
 
-    compare.py [OPTIONS] REPORT REPORT..
+    council-tools compare [OPTIONS] REPORT REPORT..
 
 Each game has its weights and both indices, and each but the first also the differences to the
 first. A dash means that a game does not have the member. Members are matched by their exact
@@ -12,9 +11,9 @@ import difflib
 import functools
 import unicodedata
 
-from command import Words, make_printable, note, read_report, run
-from game import quote, quote_for_shell, write_grouped
-from report import Fault, round_half_up
+from .command import Words, make_printable, note, read_report
+from ..game import quote, quote_for_shell, write_grouped
+from ..reports import Fault, cut_off, round_half_up
 
 
 def write_signed(value):
@@ -82,10 +81,11 @@ def make_cells(games, name):
     first = games[0].get(name)
     for at, members in enumerate(games):
         it = members.get(name)
-        yield [write_grouped(it.weights), it.dp_decimals, it.pg_decimals] if it else ["-", "-", "-"]
-        if at:
-            whole = it and first
-            yield [write_signed(it.deegan_packel - first.deegan_packel), write_signed(it.public_good - first.public_good)] if whole else ["-", "-"]
+        yield [write_grouped(it.weights), cut_off(it.deegan_packel_exact), cut_off(it.public_good_exact)] if it else ["-", "-", "-"]
+        if at and it and first:
+            yield [write_signed(it.deegan_packel_exact - first.deegan_packel_exact), write_signed(it.public_good_exact - first.public_good_exact)]
+        elif at:
+            yield ["-", "-"]
 
 
 def measure(text):
@@ -116,7 +116,7 @@ def write_table(games):
 
 
 def main(words):
-    reader = Words(__doc__)
+    reader = Words("compare", __doc__)
     reader.add_argument("reports", metavar="REPORT", nargs="+", help="a report of council; - is standard input")
     reader.add_argument("--same", metavar=("NAME", "OTHER"), nargs=2, action="append", default=[], help="two names that are one member")
     words = reader.parse_args(words)
@@ -133,7 +133,3 @@ def main(words):
     for line in write_table(games):
         print(line)
     warn(games)
-
-
-if __name__ == "__main__":
-    run(main)

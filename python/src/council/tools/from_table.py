@@ -1,7 +1,8 @@
-#!/usr/bin/env python3
 """Makes a game file from a table: a CSV or TSV file, as a spreadsheet exports it.
 
-    from_table.py [OPTIONS] QUOTA.. <TABLE >GAME
+    council-tools from-table [OPTIONS] QUOTA.. [TABLE] >GAME
+
+Without TABLE, or if it is -, standard input is the table.
 
 The table has a row for each member: the name, and a weight for each rule. Commas, semicolons or
 TABs separate the columns. Weights may have decimals, with a point or a comma, thousands
@@ -17,14 +18,15 @@ Give a QUOTA for each rule, in quotes if it has a >:
     heads:15   a rule under which each member weighs 1; it takes no column (also heads:55%, 'heads:>1/2')
 """
 import math
+import os
 import re
 import sys
 from fractions import Fraction
 
-from cells import Number, Table, count_decimals, write_plain
-from command import Words, note, run, warn_of_low_quotas
-from game import MEMBERS, NAME, RULES, WEIGHT, is_text, quote, write_game, write_rule_comment
-from report import Fault
+from .cells import Number, Table, count_decimals, write_plain
+from .command import Words, note, warn_of_low_quotas
+from ..game import MEMBERS, NAME, RULES, WEIGHT, is_text, quote, write_game, write_rule_comment
+from ..reports import Fault
 
 MOST = 1 << 24
 # headings of a column of names
@@ -408,7 +410,7 @@ def make_game(data, quotas, words):
     left_out += merge(members, [values for values, _, _ in read])
 
     number = "1 member" if len(members) == 1 else f"{len(members)} members"
-    comments = [f"From a table of {number}, by from_table.py; {quote(table.delimiter)} separates the columns"]
+    comments = [f"From a table of {number}, by council-tools from-table; {quote(table.delimiter)} separates the columns"]
     if decimal:
         comments[0] += f", and {quote(decimal)} is the decimal sign"
     if words.source:
@@ -454,9 +456,38 @@ def find_unused(rows, columns, words):
     return said
 
 
+def find_quotas(words):
+    """Returns the quotas, and the path of the table: a word that is no quota, if there is such a
+    file; else standard input."""
+    quotas, path = [], None
+    for it in words:
+        if path is None and (it == "-" or os.path.exists(it)) and not is_quota(it):
+            path = it
+        else:
+            quotas.append(Quota(it))
+    return quotas, path or "-"
+
+
+def is_quota(word):
+    try:
+        return bool(Quota(word))
+    except Fault:
+        return False
+
+
+def read_table(path):
+    """Reads the table, and no more of it than shows that it is too long."""
+    if path != "-":
+        with open(path, "rb") as it:
+            return it.read(MOST + 1)
+    if sys.stdin.isatty():
+        raise Fault("no table: name a file, as in council-tools from-table 65% table.csv >game.toml", 2)
+    return sys.stdin.buffer.read(MOST + 1)
+
+
 def main(words):
-    reader = Words(__doc__)
-    reader.add_argument("quotas", metavar="QUOTA", nargs="*", help="a quota for each rule")
+    reader = Words("from-table", __doc__)
+    reader.add_argument("quotas", metavar="QUOTA", nargs="*", help="a quota for each rule, and the file of the table")
     reader.add_argument("--title", metavar="TEXT", help="the title of the game")
     reader.add_argument("--source", metavar="TEXT", help="where the table comes from, for a comment")
     reader.add_argument("--name", metavar="COLUMN", help="the column of the names, by its heading or its number; else the first")
@@ -472,16 +503,10 @@ def main(words):
     reader.add_argument("--round", metavar="N", type=int, choices=range(13), help="round weights to N decimals, a half upwards")
     reader.add_argument("--encoding", metavar="NAME", help="the encoding of the table, as cp1252; else UTF-8 or UTF-16")
     words = reader.parse_args(words)
-    quotas = [Quota(it) for it in words.quotas]
+    quotas, path = find_quotas(words.quotas)
     if not 1 <= len(quotas) <= RULES:
         raise Fault(f"say a quota for each rule, 1 to {RULES} of them, as 65% or '>50%' in quotes", 2)
-    if sys.stdin.isatty():
-        raise Fault("no table: it is read from standard input, as in from_table.py 65% <table.csv >game.toml", 2)
-    data = sys.stdin.buffer.read(MOST + 1)
+    data = read_table(path)
     if len(data) > MOST:
         raise Fault("the table is longer than 16 MiB: keep the rows of the members, and the columns that you need")
     sys.stdout.write(make_game(data, quotas, words))
-
-
-if __name__ == "__main__":
-    run(main)
