@@ -63,7 +63,7 @@ if [ ! -x "$program" ]; then
     failed=1
 else
     # the longest first, as many at once as there are processors
-    scripts="look refusals hostile sizes tally too_many small_machine output using launcher examples workers prefixes pages"
+    scripts="look refusals hostile sizes tally too_many small_machine output using packages launcher examples workers prefixes pages"
     # these want the library
     callers="foreign archive"
     programs="random_games cases reading rooms memory_source gate_source"

@@ -227,8 +227,8 @@ same("words that are not UTF-8", (run.status, run.out, run.err), (2, "", "counci
 with open(f"{TEMP}/table.csv", "w", encoding="utf-8") as it:
     it.write("A,50\nB,49\nC,2\n")
 wanted = game("51", table="A,50\nB,49\nC,2\n").out
-for words in (["51", f"{TEMP}/table.csv"], [f"{TEMP}/table.csv", "51"]):
-    same(f"a file: {len(words[0])} letters first", Run(TOOL, *words).out, wanted)
+same("a file after the quota", Run(TOOL, "51", f"{TEMP}/table.csv").out, wanted)
+same("a file before the quota", Run(TOOL, f"{TEMP}/table.csv", "51").out, wanted)
 same("a file: - is standard input", game("51", "-", table="A,50\nB,49\nC,2\n").out, wanted)
 fault("a file that is not there", Run(TOOL, "51", f"{TEMP}/none.csv"), 2, no_quota(f"{TEMP}/none.csv"))
 fault("two files", Run(TOOL, "51", f"{TEMP}/table.csv", f"{TEMP}/table.csv"), 2, no_quota(f"{TEMP}/table.csv"))

@@ -112,7 +112,7 @@ def write_number(value: Any) -> str:
     """Writes a quota or a weight. A whole number stays exact, of whatever type it is; any other is
     written with its decimals, and council says what is wrong with it."""
     try:
-        return str(operator.index(value))
+        return str(int(operator.index(value)))
     except TypeError:
         if not is_number(value):
             raise TypeError(f"{value!r} is no number") from None
@@ -128,6 +128,6 @@ def write_name(value: Any) -> str:
     if isinstance(value, str):
         return str(value)
     try:
-        return str(operator.index(value))
+        return str(int(operator.index(value)))
     except TypeError:
         raise TypeError(f"{value!r} is no name") from None

@@ -10,6 +10,7 @@ from __future__ import annotations
 
 import ctypes
 import functools
+import mmap
 import os
 import re
 import shutil
@@ -18,8 +19,9 @@ import threading
 from typing import Optional
 
 MOST = 4_000_000
-# a report of few members without a list fits
-ROOM = 1 << 16
+# room for a report without a list, and for one with a list, whose pages take no memory until they
+# are written to; if it is too small, the library is asked a second time
+ROOM, ROOM_OF_LIST = 1 << 16, 1 << 30
 
 
 class NotFound(RuntimeError):
@@ -124,6 +126,16 @@ class Options(ctypes.Structure):
     _fields_ = [("most", ctypes.c_uint32), *[(it, ctypes.c_bool) for it in ("tally", "list", "sizes", "notation")]]
 
 
+def reserve(room: int) -> tuple[mmap.mmap, int]:
+    """Returns room for this many bytes, or for few if the system refuses so many at once."""
+    try:
+        return mmap.mmap(-1, room, mmap.MAP_PRIVATE | mmap.MAP_ANONYMOUS), room
+    except OSError:
+        if room != ROOM_OF_LIST:
+            raise MemoryError("out of memory") from None
+        return reserve(ROOM)
+
+
 class Library:
     """The library council as a shared object."""
 
@@ -135,12 +147,15 @@ class Library:
 
     def ask(self, game: bytes, options: Options) -> tuple[int, str]:
         """Returns the status and the text of a call."""
-        length, room = ctypes.c_uint64(), ROOM
+        length, room = ctypes.c_uint64(), ROOM_OF_LIST if options.list else ROOM
         while True:
-            text = ctypes.create_string_buffer(room)
-            status = self._call(game, len(game), ctypes.byref(options), text, room, ctypes.byref(length))
+            text, room = reserve(room)
+            place = (ctypes.c_char * room).from_buffer(text)
+            status = self._call(game, len(game), ctypes.byref(options), place, room, ctypes.byref(length))
+            del place
             if length.value <= room:
-                return status, ctypes.string_at(text, length.value).decode("utf-8")
+                with memoryview(text)[: length.value] as its:
+                    return status, str(its, "utf-8")
             room = length.value
 
     def ask_aside(self, game: bytes, options: Options) -> tuple[int, str]:

@@ -2,6 +2,7 @@
 the coalitions if it lists them."""
 from __future__ import annotations
 
+import gc
 import math
 from fractions import Fraction
 from typing import Any, Callable, Iterable, NamedTuple, Optional
@@ -166,9 +167,30 @@ class Report:
     def coalitions(self) -> Optional[list[Coalition]]:
         """The minimal winning coalitions, if they were asked for; else None."""
         if self._unread:
-            lines, self._unread = self._unread.split("\n")[:-1], ""
-            self._kept = [read_coalition(*line.split("\t")[1:]) for line in lines]
+            self._kept = self._read_coalitions(self._unread)
+            self._unread = ""
         return self._kept
+
+    def _read_coalitions(self, text: str) -> list[Coalition]:
+        """Reads the lines of coalitions. They share the texts of the names."""
+        names = {it.name: it.name for it in self.members}
+        weights: dict[str, tuple[int, ...]] = {}
+        kept = []
+        # (a list of millions of tuples has no cycles to look for)
+        collects = gc.isenabled()
+        gc.disable()
+        try:
+            for line in text.split("\n")[:-1]:
+                _, size, weight, *members = line.split("\t")
+                if weight not in weights:
+                    weights[weight] = read_numbers(weight)
+                if int(size) != len(members):
+                    raise Fault("the report is not whole, or its numbers are not those of council")
+                kept.append(Coalition(tuple([names[it] for it in members]), weights[weight]))
+        finally:
+            if collects:
+                gc.enable()
+        return kept
 
     def rows(self) -> list[dict[str, Any]]:
         """Returns a row for each member, with the columns of `council-tools export`: with several

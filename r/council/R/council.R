@@ -66,7 +66,7 @@ run_program <- function(program, bytes, coalitions) {
   on.exit(unlink(files))
   writeBin(bytes, files[1])
   words <- c("--explain", if (coalitions) c("--list", "--most", format(MOST, scientific = FALSE)) else "--tally")
-  status <- system2(shQuote(program), c(words, shQuote(files[1])), stdout = files[2], stderr = files[3])
+  status <- system2(program, c(words, shQuote(files[1])), stdout = files[2], stderr = files[3])
   read <- function(path) readLines(path, encoding = "UTF-8", warn = FALSE)
   list(status = status, out = read(files[2]), err = read(files[3]))
 }

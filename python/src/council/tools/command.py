@@ -23,6 +23,10 @@ class Words(argparse.ArgumentParser):
     def __init__(self, name, about):
         super().__init__(prog=f"council-tools {name}", description=about, formatter_class=argparse.RawDescriptionHelpFormatter, allow_abbrev=False)
 
+    def parse_args(self, words):
+        """Reads the words, with options before, between and after the files."""
+        return self.parse_intermixed_args(words)
+
     def error(self, message):
         raise Fault(f"{message} (--help says more)", 2)
 
