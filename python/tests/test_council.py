@@ -231,9 +231,9 @@ class Reports(unittest.TestCase):
         self.assertEqual(done.stdout, "no-such-program: no program of that name was found\n", done.stderr)
 
     def test_no_slower_than_the_program_with_one_worker(self):
-        for name in ("eec-1958", "eu-27-nice", "share-register"):
+        for name in ("eec-1958", "eu-27-nice"):
             path, ours, its = str(TOP / f"examples/{name}.toml"), [], []
-            for _ in range(5):
+            for _ in range(4):
                 begun = time.monotonic()
                 council.report(file=path)
                 ours.append(time.monotonic() - begun)

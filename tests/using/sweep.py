@@ -8,6 +8,7 @@ import pty
 import re
 import subprocess
 import sys
+import time
 from xml.etree import ElementTree
 
 from cases import HOSTILE, PROGRAM, TEMP, TOOLS, TOP, Run, case, done, fault, hostile_game, same
@@ -110,6 +111,21 @@ same("council-tools sweep: a name that could move a terminal, to a file", rows(s
 leader, follower = pty.openpty()
 subprocess.run([sys.executable, TOOLS, TOOL, "--program", PROGRAM, moves], stdout=follower, check=True)
 same("council-tools sweep: a name that could move a terminal, on one", os.read(leader, 4096).decode().split("\t")[-5], "A 2JB")
+
+# ---- rows are written as they are computed, and a terminal shows how far it is
+slow = put("slow", f'#!/bin/sh\nsleep 0.2\nexec "{PROGRAM}" "$@"\n')
+os.chmod(slow, 0o755)
+leader, follower = pty.openpty()
+begun = time.monotonic()
+child = subprocess.Popen([sys.executable, TOOLS, TOOL, "--program", slow, COUNCIL, "--from", "9"], stdout=subprocess.PIPE, stderr=follower)
+first = child.stdout.readline() + child.stdout.readline()
+early = time.monotonic() - begun
+others = child.stdout.read()
+child.wait()
+took = time.monotonic() - begun
+case("council-tools sweep: rows are written as they are computed", first.split(b"\n")[1].startswith(b"9\tGermany\t") and others.count(b"\n") == 9 * 6 - 1 and early < took - 1, (early, took))
+shown = os.read(leader, 4096).decode()
+case("council-tools sweep: a terminal shows how far it is", re.search(r"\rcouncil-tools sweep: \d of 9 quotas, some \d s left\x1b\[K", shown) and shown.endswith("\r\x1b[K"), shown)
 
 # ---- what is refused
 for name, words, status, text in [

@@ -166,7 +166,7 @@ class Library:
         def work() -> None:
             try:
                 answers.append(self.ask(game, options))
-            except BaseException as it:  # noqa: B902 (it is raised again by whoever waits)
+            except BaseException as it:  # whoever waits raises it again
                 faults.append(it)
 
         worker = threading.Thread(target=work, name="council", daemon=True)
@@ -189,7 +189,11 @@ def find_library() -> Optional[Library]:
         return load_library(os.path.realpath(said)) if said else None
     for path in [f"{HOME}/libcouncil.so", f"{HOME}/../lib/libcouncil.so"]:
         if os.path.isfile(path):
-            return load_library(os.path.realpath(path))
+            try:
+                return load_library(os.path.realpath(path))
+            except OSError:
+                # it is for another system: the program answers
+                return None
     return None
 
 

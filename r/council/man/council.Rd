@@ -29,7 +29,7 @@ A data frame with a row for each member, in the order of the game:
 \item{name}{the name}
 \item{weight}{the weight; with several rules there are columns \code{weight_1}, \code{weight_2}, ..}
 \item{coalitions}{in how many minimal winning coalitions the member is}
-\item{deegan_packel, public_good}{both indices, as numbers}
+\item{deegan_packel, public_good}{both indices, as numbers: the exact ones up to two units in the last place}
 \item{deegan_packel_exact, public_good_exact}{both indices as fractions in lowest terms, such as
   \code{"5/24"}; each column adds up to one exactly}
 It has the attributes \code{title}, \code{quota}, \code{total}, \code{minimal} (the number of minimal
