@@ -1,5 +1,5 @@
 #!/usr/bin/env bash
-# The archive of tools/release.sh, made of the program: twice the same, unpacked where nobody can write, used by another user without
+# The archive of tools/release.sh (wheel.sh tests the wheel), made of the program: twice the same, unpacked where nobody can write, used by another user without
 # a toolchain, installed and taken out again.
 . "$(dirname "$0")/common.sh"
 
@@ -142,27 +142,6 @@ if [ -f "$shared" ] && needs cc "$name: linked" && needs pkg-config "$name: link
     printed "$name: linked by pkg-config" "$here/examples/board.tsv"
 fi
 
-# ---- the wheel: installed without a network, by whoever has a Python that makes environments
-wheel=$temp/one/council-$version-py3-none-manylinux_2_34_x86_64.whl
-name="the wheel"
-if [ ! -f "$shared" ]; then
-    skipped "$name" "there was no library of these sources"
-else
-    if cmp -s "$wheel" "$temp/two/${wheel##*/}"; then ok "two wheels are the same bytes"; else failed "two wheels are the same bytes" "they differ, or there is none"; fi
-    if ! python3 -c 'import ensurepip, sys; assert sys.version_info >= (3, 9)' 2>/dev/null; then
-        skipped "$name, installed" "this Python is older than 3.9, or makes no environment: it lacks ensurepip"
-    elif python3 -m venv "$temp/venv" >"$temp/err" 2>&1 && "$temp/venv/bin/pip" install --no-index -q "$wheel" >>"$temp/err" 2>&1; then
-        ok "$name is installed without a network"
-        (cd "$temp/home" && env -i PATH=/usr/bin:/bin LC_ALL=C.UTF-8 "$temp/venv/bin/python" "$top/python/tests/test_council.py" "the wheel") >"$temp/out" 2>"$temp/err" ||
-            grep -q '^FAILED' "$temp/out" || failed "$name: its tests" "$(tail -n 1 "$temp/err")"
-        # (tests/packages.sh has found a Python with pandas, if there is one)
-        grep -v '^skipped the wheel: pandas' "$temp/out"
-        "$temp/venv/bin/python" -c 'import council.engine as it; print(it.find_library().path); print(it.find_program())' >"$temp/out" 2>"$temp/err"
-        if [ "$(grep -c "^$temp/venv/.*/council/\(libcouncil.so\|council\)$" "$temp/out")" -eq 2 ]; then ok "$name has the library and the program"; else failed "$name has the library and the program" "$(cat "$temp/out" "$temp/err" | tr '\n' ' ')"; fi
-    else
-        failed "$name is installed without a network" "$(tail -n 1 "$temp/err")"
-    fi
-fi
 # links of documents to files that only a clone has are no fault there, but those of LANGUAGES.md lead somewhere
 name="in the archive, its own links lead to files"
 missing=$(

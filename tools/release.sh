@@ -98,6 +98,10 @@ if [ -n "$library" ]; then
         -Wl,--version-script="$temp/exports" "$library"
     sed "s/@VERSION@/$version/" "$top/tools/archive/council.pc" >"$folder/lib/pkgconfig/council.pc"
     wheel=$(python3 "$top/python/backend.py" wheel "$temp" "$program" "$folder/lib/libcouncil.so")
+    case $wheel in
+    "council-$version-"*) ;;
+    *) stop "python/pyproject.toml has another version than the program: the wheel is $wheel" ;;
+    esac
 fi
 python3 "$top/tools/reference.py" "$folder/reference"
 {

@@ -6,6 +6,7 @@
 It tests the package that Python finds, else the one beside it. Each test is a line `ok NAME`,
 `FAILED NAME: why` or `skipped NAME: why`. `python3 -m unittest` runs it too.
 """
+import doctest
 import math
 import os
 import pickle
@@ -113,6 +114,10 @@ class Reports(unittest.TestCase):
                     self.assertIs(type(near), float)
                     others = [math.nextafter(near, end) for end in (-1, 2)]
                     self.assertTrue(all(abs(Fraction(near) - exact) <= abs(Fraction(other) - exact) for other in others))
+
+    def test_examples_of_the_documentation(self):
+        done = doctest.testmod(council)
+        self.assertEqual((done.failed, done.attempted > 3), (0, True))
 
     def test_ways_to_give_a_game(self):
         wanted = council.report(51, [50, 49, 1])

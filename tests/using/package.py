@@ -4,7 +4,7 @@ council-tools in a clone that was never built.
 
     tests/using/package.py PROGRAM
 
-What the package does with the library is tested by tests/archive.sh.
+What the package does with the library is tested by tests/wheel.sh.
 """
 import os
 import re
