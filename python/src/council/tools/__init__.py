@@ -12,8 +12,11 @@
 
 Each reads files or standard input. council-tools TOOL --help says more.
 """
+from __future__ import annotations
+
 import importlib
 import sys
+from typing import Optional
 
 from .. import __version__
 from ..reports import Fault
@@ -22,7 +25,7 @@ from .command import NAME, run
 TOOLS = ["from-table", "table", "export", "page", "bars", "sweep", "compare"]
 
 
-def choose(words):
+def choose(words: list[str]) -> None:
     """Runs the tool that the first word names on the others."""
     tool, *others = words or ["--help"]
     if tool in ("-h", "--help"):
@@ -36,7 +39,7 @@ def choose(words):
         importlib.import_module("." + tool.replace("-", "_"), __name__).main(others)
 
 
-def main(words=None):
+def main(words: Optional[list[str]] = None) -> int:
     """Runs council-tools on the words of its command line, and returns the exit status."""
     NAME[:] = ["council-tools"]
     return run(choose, sys.argv[1:] if words is None else words)

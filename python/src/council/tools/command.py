@@ -1,17 +1,21 @@
 """What the tools share: their options, their faults, and the files they read."""
+from __future__ import annotations
+
 import argparse
 import os
 import sys
+from typing import Callable, Iterable, NoReturn, Optional, Sequence, TextIO, TypeVar
 
 from ..engine import NotFound, Refused
-from ..game import GAME_FILE, check_same, find_comments, read_units
-from ..reports import Fault, Report, ignore
+from ..game import GAME_FILE, Unit, check_same, find_comments, read_units
+from ..reports import Coalition, Fault, Report, ignore
 
 # the name of the tool that runs
 NAME = ["council-tools"]
+T = TypeVar("T")
 
 
-def make_printable(text):
+def make_printable(text: object) -> str:
     """Puts a text of the user on one line: each letter that moves a terminal, ends a line or shows
     nothing is a blank."""
     return "".join(it if it.isprintable() else " " for it in str(text))
@@ -20,23 +24,23 @@ def make_printable(text):
 class Words(argparse.ArgumentParser):
     """Reads the words of a command line. A fault in them is one line, with status 2."""
 
-    def __init__(self, name, about):
+    def __init__(self, name: str, about: str) -> None:
         super().__init__(prog=f"council-tools {name}", description=about, formatter_class=argparse.RawDescriptionHelpFormatter, allow_abbrev=False)
 
-    def parse_args(self, words):
+    def parse_args(self, words: Sequence[str]) -> argparse.Namespace:
         """Reads the words, with options before, between and after the files."""
         return self.parse_intermixed_args(words)
 
-    def error(self, message):
+    def error(self, message: str) -> NoReturn:
         raise Fault(f"{message} (--help says more)", 2)
 
 
-def add_report(reader):
+def add_report(reader: argparse.ArgumentParser) -> None:
     """Adds the report that a tool reads."""
     reader.add_argument("report", metavar="REPORT", nargs="?", default="-", help="a report of council; without one, or as -, standard input")
 
 
-def run(main, words):
+def run(main: Callable[[list[str]], None], words: list[str]) -> int:
     """Runs a tool on its words, and returns the exit status. Each fault is one line and a status,
     never a traceback."""
     try:
@@ -70,7 +74,7 @@ def run(main, words):
     return 0
 
 
-def tell(text, status):
+def tell(text: object, status: int) -> int:
     """Says a line on standard error, if that takes it; returns the status."""
     try:
         print(f"{NAME[-1]}: {make_printable(text)}", file=sys.stderr, flush=True)
@@ -79,17 +83,17 @@ def tell(text, status):
     return status
 
 
-def drop(file):
+def drop(file: TextIO) -> None:
     """Discards what is written to a file from now on, and what it still has to write."""
     os.dup2(os.open(os.devnull, os.O_WRONLY), file.fileno())
 
 
-def note(text):
+def note(text: str) -> None:
     """Says what is no fault, but what a user may want to know."""
     tell(text, 0)
 
 
-def warn_of_low_quotas(quotas, totals):
+def warn_of_low_quotas(quotas: Sequence[int], totals: Sequence[int]) -> None:
     """Warns of each quota that is at most half of its total: of 0.85 read as one vote, and of a
     game in which two coalitions without a common member both win."""
     low = [rule for rule, (quota, total) in enumerate(zip(quotas, totals)) if 2 * quota <= total]
@@ -99,7 +103,7 @@ def warn_of_low_quotas(quotas, totals):
         note(f"the quota {quotas[rule]:,}{of} is at most half of the total, {totals[rule]:,}{both}")
 
 
-def read_lines(path, make):
+def read_lines(path: str, make: Callable[[TextIO], T]) -> T:
     """Makes something of the lines of a file; - is standard input."""
     if path == "-":
         return make(sys.stdin)
@@ -112,18 +116,18 @@ def read_lines(path, make):
             raise Fault(f"{path}: it is not UTF-8") from None
 
 
-def read_report(path, take=ignore):
+def read_report(path: str, take: Callable[[Coalition], None] = ignore) -> Report:
     """Reads the report in a file; - is standard input. `take` gets its coalitions."""
     return read_lines(path, lambda lines: Report(lines, take))
 
 
-def read_comments(path, report):
+def read_comments(path: Optional[str], report: Report) -> tuple[list[str], list[Unit]]:
     """Returns the comments of the game file of a report, and the units of its rules; none if there
     is no file."""
     if path is None:
         return [], read_units([], len(report.quotas))
 
-    def make(file):
+    def make(file: TextIO) -> str:
         text = file.read(GAME_FILE + 1)
         if len(text) > GAME_FILE:
             raise Fault(f"the game file is longer than {GAME_FILE} bytes")

@@ -14,6 +14,8 @@ public_good (both indices as decimals), deegan_packel_exact and public_good_exac
 fractions). With several rules there is a weight and a share for each. For a spreadsheet with a
 decimal comma, write CSV with --decimal , (in which semicolons separate the columns).
 """
+from __future__ import annotations
+
 import itertools
 import json
 import re
@@ -21,10 +23,12 @@ import shutil
 import sys
 import tempfile
 import unicodedata
+from fractions import Fraction
+from typing import Iterable, Iterator, Optional, Sequence
 
-from .command import Words, add_report, read_lines, read_report
 from ..game import quote
-from ..reports import Fault, Report, cut_off, round_half_up, write_fraction
+from ..reports import Coalition, Fault, Member, Report, cut_off, round_half_up, write_fraction
+from .command import Words, add_report, read_lines, read_report
 
 FORMATS = ["csv", "json", "latex", "markdown"]
 HEADINGS = {
@@ -40,22 +44,22 @@ TEXTS = ["name", "deegan_packel_exact", "public_good_exact"]
 class Column:
     """A column: its content, and its rule if there are several."""
 
-    def __init__(self, kind, rule=None):
+    def __init__(self, kind: str, rule: Optional[int] = None) -> None:
         self.kind, self.rule = kind, rule
 
-    def heading(self):
+    def heading(self) -> str:
         return self.kind if self.rule is None else f"{self.kind}_{self.rule + 1}"
 
-    def title(self):
+    def title(self) -> str:
         return HEADINGS[self.kind] + ("" if self.rule is None else f", rule {self.rule + 1}")
 
-    def write_for_people(self, report, member, places):
+    def write_for_people(self, report: Report, member: Member, places: Optional[int]) -> str:
         """Returns the cell of a member as people read it: whole numbers have commas between
         thousands."""
         text = self.write(report, member, places)
         return f"{int(text):,}" if self.kind in ("weight", "coalitions") else text
 
-    def write(self, report, member, places):
+    def write(self, report: Report, member: Member, places: Optional[int]) -> str:
         """Returns the cell of a member. Without a number of places, decimals are as the report has
         them; else rounded."""
         kind, rule = self.kind, self.rule or 0
@@ -70,7 +74,7 @@ class Column:
         return it if kind == "name" else str(it) if kind == "coalitions" else write_fraction(it)
 
 
-def choose_columns(report, kinds):
+def choose_columns(report: Report, kinds: Iterable[str]) -> Iterator[Column]:
     several = len(report.quotas) > 1
     for kind in kinds:
         if several and kind in ("weight", "share"):
@@ -79,7 +83,7 @@ def choose_columns(report, kinds):
             yield Column(kind)
 
 
-def write_csv(report, columns, places, decimal="."):
+def write_csv(report: Report, columns: Sequence[Column], places: Optional[int], decimal: str = ".") -> Iterator[str]:
     """Yields the lines of CSV. Semicolons separate the columns if the decimal sign is a comma."""
     between = "," if decimal == "." else ";"
     yield between.join(it.heading() for it in columns)
@@ -95,7 +99,7 @@ def write_csv(report, columns, places, decimal="."):
         yield between.join(cells)
 
 
-def escape_latex(text):
+def escape_latex(text: str) -> str:
     """Writes a text so that LaTeX prints it letter by letter."""
     names = {"\\": "textbackslash", "~": "textasciitilde", "^": "textasciicircum", "<": "textless", ">": "textgreater", "|": "textbar"}
     text = unicodedata.normalize("NFC", text)
@@ -118,7 +122,7 @@ def escape_latex(text):
     return "".join(letters)
 
 
-def write_latex(report, columns, places):
+def write_latex(report: Report, columns: Sequence[Column], places: Optional[int]) -> Iterator[str]:
     if report.title:
         yield f"% {report.title}"
     yield "% \\usepackage{booktabs}, and \\usepackage[T1]{fontenc} for letters with accents"
@@ -141,8 +145,8 @@ def write_latex(report, columns, places):
     yield "\\end{tabular}"
 
 
-def write_markdown(report, columns, places):
-    def write_row(cells):
+def write_markdown(report: Report, columns: Sequence[Column], places: Optional[int]) -> Iterator[str]:
+    def write_row(cells: Iterable[str]) -> str:
         return "| " + " | ".join(cells) + " |"
 
     yield write_row([it.title() for it in columns])
@@ -152,14 +156,14 @@ def write_markdown(report, columns, places):
         yield write_row([re.sub(r"([!-/:-@\[-`{-~])", r"\\\1", text) if kind == "name" else text for kind, text in cells])
 
 
-def make_pair(value):
+def make_pair(value: Fraction) -> list[int]:
     return [value.numerator, value.denominator]
 
 
-def describe(report, places):
+def describe(report: Report, places: Optional[int]) -> dict[str, object]:
     """Returns the whole report, except its coalitions, as one value."""
 
-    def write_index(value):
+    def write_index(value: Fraction) -> float:
         return float(cut_off(value) if places is None else round_half_up(value, places))
 
     return {
@@ -182,17 +186,17 @@ def describe(report, places):
     }
 
 
-def write_json(lines, places):
+def write_json(lines: Iterable[str], places: Optional[int]) -> None:
     """Writes a report as JSON. Its coalitions, which may be millions and come before the members,
     wait in a temporary file."""
 
-    def text(value):
+    def text(value: object) -> str:
         return json.dumps(value, indent=1, ensure_ascii=False)
 
     between = itertools.chain(["\n  "], itertools.repeat(",\n  "))
     with tempfile.TemporaryFile("w+", encoding="utf-8", newline="\n") as coalitions:
 
-        def take(it):
+        def take(it: Coalition) -> None:
             coalitions.write(next(between) + text({"members": it.members, "weights": it.weights}).replace("\n", "\n  "))
 
         report = Report(lines, take)
@@ -205,7 +209,7 @@ def write_json(lines, places):
         print(head)
 
 
-def main(words):
+def main(args: list[str]) -> None:
     reader = Words("export", __doc__)
     reader.add_argument("format", metavar="FORMAT", nargs="?", default="", help="csv, json, latex or markdown")
     add_report(reader)
@@ -214,7 +218,7 @@ def main(words):
                         help="decimals, 1 to 30, rounded from the fractions, a half upwards; else in csv and json six, cut off, and in tables four")
     reader.add_argument("--decimal", choices=[".", ","], default=".", help="the decimal sign of csv; with a comma, semicolons separate the columns")
     reader.add_argument("--mark", action="store_true", help="a byte order mark in front of csv, by which Excel knows UTF-8")
-    words = reader.parse_args(words)
+    words = reader.parse_args(args)
     if words.format not in FORMATS:
         said = f"{quote(words.format)} is no format" if words.format else "say a format"
         raise Fault(f"{said}: csv, json, latex or markdown", 2)

@@ -8,16 +8,20 @@ to compute them again. With the game file, --game FILE, it also has the names of
 weights in the unit of the table, and the comments of the file, such as the source of the data. It
 loads nothing from elsewhere.
 """
+from __future__ import annotations
+
 import base64
 import hashlib
 import re
 import subprocess
+from fractions import Fraction
+from typing import Any, Iterable, Iterator, Optional, Sequence
 
 from ..engine import NotFound, find_program
-from .command import Words, read_comments, read_report, warn_of_low_quotas
+from ..game import Unit, write_game
+from ..reports import Coalition, Fault, Report, round_half_up
+from .command import Words, read_comments, read_lines, warn_of_low_quotas
 from .drawing import INDICES, SHARES, escape_xml, name_share, write_quota
-from ..game import write_game
-from ..reports import Fault, round_half_up
 
 MOST = 1000
 # comments that from_table.py writes, a line each; others are a text that may be wrapped
@@ -93,22 +97,32 @@ SOURCES = [
 ]
 
 
-def write_name(text):
+class Section(Report):
+    """A report, with what the page shows beside it: its first coalitions, the source, and the
+    comments and units of the game file."""
+
+    first: list[Coalition]
+    source: Optional[str]
+    comments: list[str]
+    units: list[Unit]
+
+
+def write_name(text: str) -> str:
     """Writes a name, whose direction of writing stays its own."""
     return f"<bdi>{escape_xml(text)}</bdi>"
 
 
-def write_fraction(value):
+def write_fraction(value: Fraction) -> str:
     return f'<span class="fraction">{value.numerator}<u>/</u><i>{value.denominator}</i></span>'
 
 
-def rank(values):
+def rank(values: Iterable[Any]) -> list[int]:
     """Returns the place of each value among all: by it a column is sorted, exactly."""
     places = {it: at for at, it in enumerate(sorted(set(values)))}
     return [places[it] for it in values]
 
 
-def make_columns(report, units):
+def make_columns(report: Report, units: Sequence[Unit]) -> Iterator[tuple[str, list[Any], list[str]]]:
     """Yields the columns of the table: the heading, the values to sort by, and the cells.
     Fractions, which may be long, come last."""
     members, several = report.members, len(report.quotas) > 1
@@ -128,7 +142,7 @@ def make_columns(report, units):
     yield "Public good, exactly", pg, [write_fraction(it) for it in pg]
 
 
-def write_table(report, units):
+def write_table(report: Report, units: Sequence[Unit]) -> Iterator[str]:
     its = list(make_columns(report, units))
     yield '<div class="wide" tabindex="0" role="region" aria-label="Members"><table class="members"><thead><tr>'
     yield "".join(f'<th scope="col"><button type="button">{title}</button></th>' for title, _, _ in its)
@@ -138,7 +152,7 @@ def write_table(report, units):
     yield "</tbody></table></div>"
 
 
-def write_bars(report, units):
+def write_bars(report: Report, units: Sequence[Unit]) -> Iterator[str]:
     kinds = [(f"s{rule}", name_share(report, units, rule)) for rule in range(len(units))]
     kinds += [("dp", INDICES[0][0]), ("pg", INDICES[1][0])]
     rows = [(it.name, [*(report.share(it, rule) for rule in range(len(units))), it.deegan_packel_exact, it.public_good_exact]) for it in report.members]
@@ -155,7 +169,7 @@ def write_bars(report, units):
     yield "</div>"
 
 
-def write_quotas(report, units):
+def write_quotas(report: Report, units: Sequence[Unit]) -> Iterator[str]:
     """Says when a coalition wins, in the units of the rules and in percent of the total."""
     its = []
     for rule, unit in enumerate(units):
@@ -167,7 +181,7 @@ def write_quotas(report, units):
         yield "<p><b>At most half of the total wins, so two coalitions without a common member could both win.</b></p>"
 
 
-def write_source(report):
+def write_source(report: Section) -> Iterator[str]:
     """Shows where the data come from, as --source or the game file tells."""
     told = [it[len("Source:") :].strip() for it in report.comments if it.startswith("Source:")]
     source = report.source or "; ".join(told)
@@ -175,12 +189,13 @@ def write_source(report):
         yield f'<p class="source">Source of the data: {escape_xml(source)}</p>'
 
 
-def write_comments(comments):
+def write_comments(comments: Sequence[str]) -> Iterator[str]:
     """Shows the comments of the game file."""
     if not comments:
         return
     yield "<h2>About the data</h2>"
-    text, items = [], []
+    text: list[str] = []
+    items: list[str] = []
     for it in comments:
         (items if ITEM.fullmatch(it) else text).append(it)
     if text:
@@ -189,7 +204,7 @@ def write_comments(comments):
         yield "<ul>" + "".join(f"<li>{escape_xml(it)}</li>" for it in items) + "</ul>"
 
 
-def write_coalitions(report):
+def write_coalitions(report: Section) -> Iterator[str]:
     has = report.listed
     if not has:
         return
@@ -201,7 +216,7 @@ def write_coalitions(report):
     yield "</ol></details>"
 
 
-def write_section(report, at, level):
+def write_section(report: Section, at: int, level: int) -> Iterator[str]:
     title, units = escape_xml(report.heading()), report.units
     yield f'<section id="game{at}"><h{level}>{title}</h{level}>'
     yield from write_quotas(report, units)
@@ -216,7 +231,7 @@ def write_section(report, at, level):
     yield f"<details><summary>the game file</summary><pre>{escape_xml(text)}</pre></details></section>"
 
 
-def find_version(named):
+def find_version(named: Optional[str]) -> Optional[str]:
     """Returns the program at hand and what it was proved with, or None."""
     try:
         path = find_program(named)
@@ -232,7 +247,7 @@ def find_version(named):
     return ", ".join(it for it in lines if it) if done.returncode == 0 and lines[0].startswith("council ") else None
 
 
-def write_page(reports, version):
+def write_page(reports: Sequence[Section], version: Optional[str]) -> Iterator[str]:
     titles = [it.heading() for it in reports]
     title = titles[0] if len(reports) == 1 else f"{len(reports)} games"
     hashed = base64.b64encode(hashlib.sha256(SCRIPT.encode()).digest()).decode()
@@ -256,23 +271,23 @@ def write_page(reports, version):
     yield f"</ul></footer></main><script>{SCRIPT}</script></body></html>"
 
 
-def read(path, game, source):
+def read(path: str, game: Optional[str], source: Optional[str]) -> Section:
     """Reads the report in a file, with as many of its coalitions as the page shows, and the
     comments of its game file."""
-    first = []
-    report = read_report(path, lambda it: first.append(it) if len(first) < MOST else None)
+    first: list[Coalition] = []
+    report = read_lines(path, lambda lines: Section(lines, lambda it: first.append(it) if len(first) < MOST else None))
     report.first, report.source = first, source
     report.comments, report.units = read_comments(game, report)
     return report
 
 
-def main(words):
+def main(args: list[str]) -> None:
     reader = Words("page", __doc__)
     reader.add_argument("reports", metavar="REPORT", nargs="*", help="a report of council; without one, or as -, standard input")
     reader.add_argument("--game", metavar="FILE", action="append", default=[], help="the game file of a report, once for each in their order")
     reader.add_argument("--source", metavar="TEXT", help="where the data come from")
     reader.add_argument("--program", metavar="PROGRAM", help="the program whose version the page names; else the one of this clone or archive, or the one on the PATH")
-    words = reader.parse_args(words)
+    words = reader.parse_args(args)
     words.reports = words.reports or ["-"]
     if words.game and len(words.game) != len(words.reports):
         raise Fault(f"give --game once for each report: there are {len(words.reports)} reports, and {len(words.game)} game files", 2)

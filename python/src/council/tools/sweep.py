@@ -8,30 +8,35 @@ after six), deegan_packel_exact and public_good_exact (fractions), separated by 
 and --to it goes from 1 to the total of the rule. Lines are written as they are computed.
 --picture draws a line for each member; members whose lines are the same share one.
 """
+from __future__ import annotations
+
+import argparse
 import itertools
 import math
 import sys
 import time
+from fractions import Fraction
+from typing import Any, Callable, Iterable, Iterator, Optional, Sequence
 
+from ..engine import Refused, compute, find_program
+from ..game import Unit, find_comments, quote, read_units, write_game
+from ..reports import Fault, Member, Report, cut_off, ignore, round_half_up, write_fraction
 from .cells import count_decimals
 from .command import Words, make_printable, note
 from .drawing import COLORS, DASHES, find_round_step, find_ticks, measure, wrap, write_picture, write_text
-from ..engine import Refused, compute, find_program
-from ..game import find_comments, quote, read_units, write_game
-from ..reports import Fault, Report, cut_off, ignore, round_half_up, write_fraction
 
 MOST = 20000
 LEFT, WIDE, SMALL = 60, 560, 10
-KINDS = {"deegan_packel": ("Deegan-Packel index", lambda it: it.deegan_packel_exact), "public_good": ("public good index", lambda it: it.public_good_exact)}
+KINDS: dict[str, tuple[str, Callable[[Member], Fraction]]] = {"deegan_packel": ("Deegan-Packel index", lambda it: it.deegan_packel_exact), "public_good": ("public good index", lambda it: it.public_good_exact)}
 
 
-def sweep(program, start, rule, quotas):
+def sweep(program: Optional[str], start: Report, rule: int, quotas: range) -> Iterator[tuple[int, Report]]:
     """Yields each of these quotas of a rule, with the report of the game. It tries the last quota
     before the others, so you hear at once of one that is out of range."""
     names = [it.name for it in start.members]
     weights = [it.weights for it in start.members]
 
-    def find_report(quota):
+    def find_report(quota: int) -> Report:
         its = [*start.quotas[:rule], quota, *start.quotas[rule + 1 :]]
         try:
             return Report.from_text(compute(write_game(names, its, weights).encode("utf-8"), program=program))
@@ -47,11 +52,11 @@ def sweep(program, start, rule, quotas):
 class Progress:
     """A line on the terminal that says how far a sweep is, if its rows go elsewhere."""
 
-    def __init__(self, number):
+    def __init__(self, number: int) -> None:
         self.number, self.begun, self.done, self.shown = number, time.monotonic(), 0, 0.0
         self.is_on = sys.stderr.isatty() and not sys.stdout.isatty()
 
-    def step(self):
+    def step(self) -> None:
         """Counts a quota. The line comes after a second, and changes five times a second."""
         self.done += 1
         now = time.monotonic()
@@ -60,13 +65,13 @@ class Progress:
             left = (now - self.begun) / self.done * (self.number - self.done)
             print(f"\rcouncil-tools sweep: {self.done:,} of {self.number:,} quotas, some {left:,.0f} s left\x1b[K", end="", file=sys.stderr, flush=True)
 
-    def end(self):
+    def end(self) -> None:
         """Takes the line away."""
         if self.shown:
             print("\r\x1b[K", end="", file=sys.stderr, flush=True)
 
 
-def write_rows(reports, progress, take):
+def write_rows(reports: Iterable[tuple[int, Report]], progress: Progress, take: Callable[[Any], None]) -> None:
     """Writes the table row by row, as the reports come. `take` gets each of them."""
     print("quota", "name", "deegan_packel", "public_good", "deegan_packel_exact", "public_good_exact", sep="\t")
     # a file gets each name as it is, and a terminal none that moves it
@@ -83,7 +88,7 @@ def write_rows(reports, progress, take):
         progress.end()
 
 
-def find_quotas(words, total):
+def find_quotas(words: argparse.Namespace, total: int) -> range:
     """Returns the quotas of the sweep."""
     first = 1 if words.first is None else words.first
     last = total if words.last is None else words.last
@@ -96,7 +101,7 @@ def find_quotas(words, total):
     return range(first, last + 1, words.step)
 
 
-def warn_of_half(start, rule, quotas):
+def warn_of_half(start: Report, rule: int, quotas: range) -> None:
     """Warns of quotas of the sweep with which two coalitions without a common member could both
     win."""
     low = [it for it in quotas if 2 * it <= start.totals[rule]]
@@ -106,7 +111,7 @@ def warn_of_half(start, rule, quotas):
         note(f"quotas up to {low[-1]:,}{of} are at most half of the total, {start.totals[rule]:,}: two coalitions without a common member could both win")
 
 
-def spread(wanted, heights, first, last):
+def spread(wanted: Sequence[float], heights: Sequence[float], first: float, last: float) -> list[float]:
     """Returns a place for each label from `first` to `last`, near the wanted ones, and none over
     another."""
     order = sorted(range(len(wanted)), key=lambda it: wanted[it])
@@ -124,23 +129,23 @@ class Axes:
     """The axes of a sweep: the quota from left to right, the index upwards, each with round
     numbers."""
 
-    def __init__(self, first, last, top, unit, high):
+    def __init__(self, first: int, last: int, top: Fraction, unit: Unit, high: float) -> None:
         self.first, self.last, self.high, self.up, self.unit = first, last, high, 0, unit
         self.step = find_round_step(top, 5)
         self.top = self.step * math.ceil(top / self.step)
         most = max(1, min(6, int(WIDE / (measure(unit.write(last), SMALL) + 14))))
         self.quotas = [int(it) for it in find_ticks(first, last, most, whole=True)] or [first]
 
-    def find_x(self, quota):
+    def find_x(self, quota: int) -> float:
         return LEFT + (WIDE * (quota - self.first) / (self.last - self.first) if self.last > self.first else WIDE / 2)
 
-    def find_y(self, index):
+    def find_y(self, index: Fraction) -> float:
         return self.up + self.high - self.high * float(index / self.top)
 
-    def find_point(self, quota, index):
+    def find_point(self, quota: int, index: Fraction) -> str:
         return f"{self.find_x(quota):.2f},{self.find_y(index):.2f}"
 
-    def draw(self):
+    def draw(self) -> Iterator[str]:
         places = count_decimals(self.step)
         for at in range(int(self.top / self.step) + 1):
             y = self.find_y(self.step * at)
@@ -152,11 +157,11 @@ class Axes:
             yield write_text(x, self.up + self.high + 17, self.unit.write(it), SMALL, "middle", ' class="quota"')
 
 
-def draw(start, rule, reports, kind, unit):
+def draw(start: Report, rule: int, reports: Sequence[tuple[int, Report]], kind: str, unit: Unit) -> Iterator[str]:
     """Draws the picture: a line for each index over the quotas, with the names of its members at
     its end."""
     title, value = KINDS[kind]
-    lines = {}
+    lines: dict[tuple[Fraction, ...], list[str]] = {}
     for at, it in enumerate(start.members):
         lines.setdefault(tuple(value(report.members[at]) for _, report in reports), []).append(it.name)
     labels = [wrap(names, 260, 12, ", ") for names in lines.values()]
@@ -188,7 +193,7 @@ def draw(start, rule, reports, kind, unit):
     return write_picture(wide + 16, axes.up + axes.high + 30, parts, start.heading())
 
 
-def main(words):
+def main(args: list[str]) -> None:
     reader = Words("sweep", __doc__)
     reader.add_argument("game", metavar="GAME", nargs="?", default="-", help="a game file; without one, or as -, standard input")
     reader.add_argument("--rule", metavar="N", type=int, default=1, help="the rule whose quota is changed, counted from 1; else the first")
@@ -198,7 +203,7 @@ def main(words):
     reader.add_argument("--picture", metavar="FILE", help="also draw the sweep, as an SVG file")
     reader.add_argument("--index", choices=sorted(KINDS), default="public_good", help="the index that is drawn; else the public good index")
     reader.add_argument("--program", metavar="PROGRAM", help="the program council; else the one of this clone or archive, or the one on the PATH")
-    words = reader.parse_args(words)
+    words = reader.parse_args(args)
     if words.game == "-":
         game = sys.stdin.buffer.read()
     else:
@@ -220,6 +225,6 @@ def main(words):
         return
     with open(words.picture, "w", encoding="utf-8", newline="\n") as it:
         unit = read_units(find_comments(game.decode("utf-8-sig")), len(start.quotas))[rule]
-        kept = []
+        kept: list[tuple[int, Report]] = []
         write_rows(rows, progress, kept.append)
         it.writelines(line + "\n" for line in draw(start, rule, kept, words.index, unit))

@@ -2,14 +2,16 @@
 
     council-tools table [REPORT]
 """
+from __future__ import annotations
+
 from ..reports import write_fraction
 from .command import Words, add_report, make_printable, read_report
 
 
-def main(words):
+def main(args: list[str]) -> None:
     reader = Words("table", __doc__)
     add_report(reader)
-    report = read_report(reader.parse_args(words).report)
+    report = read_report(reader.parse_args(args).report)
     heading = ["", "weight", "Deegan-Packel", "public good"]
     rows = []
     for it in report.members:
