@@ -1,5 +1,5 @@
 #!/usr/bin/env bash
-# The archive of tools/release.sh, made of the program: twice the same, unpacked where nobody can write, used by another user without
+# The archive of tools/release.sh (wheel.sh tests the wheel), made of the program: twice the same, unpacked where nobody can write, used by another user without
 # a toolchain, installed and taken out again.
 . "$(dirname "$0")/common.sh"
 
@@ -30,7 +30,7 @@ fi
 mkdir -p "$temp/elsewhere/here"
 (cd "$temp" && CDPATH=$temp/elsewhere "$top/tools/release.sh" --draft --to here "$program") >"$temp/out" 2>&1
 name="an archive in a folder of the folder at hand, with CDPATH"
-if [ "$(cat "$temp/out")" = "$temp/here/${archive##*/}" ] && cmp -s "$temp/one/SHA256SUMS" "$temp/here/SHA256SUMS"; then
+if [ "$(sed -n 1p "$temp/out")" = "$temp/here/${archive##*/}" ] && cmp -s "$temp/one/SHA256SUMS" "$temp/here/SHA256SUMS"; then
     ok "$name"
 else
     failed "$name" "$(tail -n 1 "$temp/out")"
@@ -95,12 +95,17 @@ for game in "$here"/examples/*.toml "$here"/examples/*.txt; do
     case $game in *-lisbon.toml | *-register.toml) words=(--tally) ;; esac
     run_there "in the archive, example ${game##*/}" "${game%.toml}.tsv" ./council "${words[@]}" "examples/${game##*/}"
 done
-for script in sh py; do
-    [ "$script" = sh ] || needs python3 "in the archive, docs/using/table.py" || continue
-    name="in the archive, docs/using/table.$script"
-    (cd "$here" && as_user ./council examples/holler-1982.toml | as_user "$([ $script = sh ] && echo sh || echo python3)" "docs/using/table.$script") >"$temp/out" 2>"$temp/err"
-    if [ -s "$temp/out" ] && [ ! -s "$temp/err" ]; then ok "$name"; else failed "$name" "$(head -n 1 "$temp/err")"; fi
-done
+if as_user sh -c 'command -v python3' >/dev/null; then
+    (cd "$here" && as_user ./council examples/eec-1958.toml | as_user bin/council-tools table) >"$temp/out" 2>"$temp/err"
+    status=$?
+    printed "in the archive, council-tools table" "$top/tests/using/wanted/table.txt"
+    # it finds the program of the archive
+    name="in the archive, council-tools sweep"
+    (cd "$temp/home" && as_user "$here/bin/council-tools" sweep --from 12 --to 12 "$here/examples/eec-1958.toml") >"$temp/out" 2>"$temp/err"
+    if grep -qP '^12\tGermany\t0.208333\t0.200000\t5/24\t1/5$' "$temp/out" && [ ! -s "$temp/err" ]; then ok "$name"; else failed "$name" "$(head -n 1 "$temp/err")"; fi
+else
+    skipped "in the archive, council-tools" "/usr/bin and /bin have no python3"
+fi
 if command -v man >/dev/null; then
     name="in the archive, the manual page"
     (cd "$here" && as_user man -P cat docs/council.1) >"$temp/out" 2>"$temp/err" </dev/null
@@ -117,8 +122,34 @@ elif needs cc "$name"; then
     status=$?
     printed "$name" "$here/examples/board.tsv"
 fi
+shared=$here/lib/libcouncil.so
+name="in the archive, the shared object"
+if [ -f "$shared" ] && needs nm "$name: its calls"; then
+    found=$(nm -D --defined-only "$shared" | grep -v ' w ' | sed 's/.* //' | tr '\n' ' ')
+    if [ "$found" = "council_report " ]; then ok "$name: it exports its one call"; else failed "$name: it exports its one call" "$found"; fi
+fi
+if [ -f "$shared" ] && needs objdump "the C library that programs need"; then
+    for file in council lib/libcouncil.so; do
+        newest=$(objdump -T "$here/$file" | grep -o 'GLIBC_[0-9.]*' | sort -Vu | tail -n 1)
+        if [ "$(printf '%s\n' "$newest" GLIBC_2.34 | sort -V | tail -n 1)" = GLIBC_2.34 ]; then ok "$file needs no newer C library than 2.34"; else failed "$file needs no newer C library than 2.34" "$newest"; fi
+    done
+fi
+if [ -f "$shared" ] && needs cc "$name: linked" && needs pkg-config "$name: linked"; then
+    # shellcheck disable=SC2046
+    PKG_CONFIG_PATH=$here/lib/pkgconfig cc -o "$temp/linked" "$top/tests/foreign/report.c" $(PKG_CONFIG_PATH=$here/lib/pkgconfig pkg-config --cflags --libs council) >"$temp/err" 2>&1 &&
+        LD_LIBRARY_PATH=$here/lib timeout "$seconds" "$temp/linked" <"$here/examples/board.toml" >"$temp/out" 2>>"$temp/err"
+    status=$?
+    printed "$name: linked by pkg-config" "$here/examples/board.tsv"
+fi
+
+# links of documents to files that only a clone has are no fault there, but those of LANGUAGES.md lead somewhere
 name="in the archive, its own links lead to files"
-missing=$(grep -oE '\]\([^)#:]+\)' "$here/README.md" | tr -d '])(' | while IFS= read -r file; do [ -e "$here/$file" ] || echo "$file"; done)
+missing=$(
+    for page in README.md docs/LANGUAGES.md; do
+        cd "$here/$(dirname "$page")" || exit
+        grep -oE '\]\([^)#:]+[)#]' "${page##*/}" | tr -d '])(#' | while IFS= read -r file; do [ -e "$file" ] || echo "$page: $file"; done
+    done
+)
 if [ -z "$missing" ]; then ok "$name"; else failed "$name" "$missing"; fi
 name="in the archive, what was proved"
 if grep -q "^proved with: $("$program" --version | sed -n '2s/^proved with //p')$" "$here/PROVED" && grep -q "^commit: $(git -C "$top" rev-parse HEAD)" "$here/PROVED"; then
@@ -140,6 +171,10 @@ installs() {
     as_user "$root/bin/council" "$here/examples/board.toml" >"$temp/out" 2>"$temp/err"
     if ! cmp -s "$temp/out" "$top/examples/board.tsv" || [ ! -s "$root/share/man/man1/council.1" ] || [ ! -s "$root/share/doc/council/docs/USING.md" ]; then
         failed "$name" "the program or a document is not in its place: $(head -n 1 "$temp/err")"
+        return
+    fi
+    if as_user sh -c 'command -v python3' >/dev/null && ! as_user "$root/bin/council-tools" sweep --from 51 --to 51 "$here/examples/board.toml" >/dev/null 2>"$temp/err"; then
+        failed "$name" "council-tools: $(head -n 1 "$temp/err")"
         return
     fi
     as_user env "$before" "$root/share/doc/council/install.sh" --uninstall "${prefix[@]}" >"$temp/out" 2>"$temp/err" </dev/null

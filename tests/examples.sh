@@ -1,6 +1,6 @@
 #!/usr/bin/env bash
 # Each game of examples/ gives the report beside it, as a FILE and on standard input. Each game of
-# docs/using/statutes gives the report of tests/oracle.py, and a document names it.
+# docs/statutes gives the report of tests/oracle.py, and a document names it.
 . "$(dirname "$0")/common.sh"
 
 for game in "$top"/examples/*.toml "$top"/examples/*.txt; do
@@ -15,8 +15,8 @@ for game in "$top"/examples/*.toml "$top"/examples/*.txt; do
     printed "example $name on standard input" "$report"
 done
 
-for game in "$top"/docs/using/statutes/*; do
-    name=docs/using/statutes/$(basename "$game")
+for game in "$top"/docs/statutes/*; do
+    name=docs/statutes/$(basename "$game")
     if ! grep -qF "$(basename "$game")" "$top/docs/STATUTES.md" "$top/docs/USING.md"; then
         failed "$name" "no document names it"
     elif needs python3 "$name"; then

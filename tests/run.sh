@@ -63,9 +63,9 @@ if [ ! -x "$program" ]; then
     failed=1
 else
     # the longest first, as many at once as there are processors
-    scripts="look refusals hostile sizes tally too_many small_machine output using launcher examples workers prefixes pages"
+    scripts="look refusals hostile sizes tally too_many small_machine output using packages launcher examples workers prefixes pages"
     # these want the library
-    callers="foreign archive"
+    callers="foreign archive wheel"
     programs="random_games cases every_size reading rooms memory_source gate_source"
     command -v python3 >/dev/null || programs=
     # what one run may take is measured once, before anything else runs
@@ -81,6 +81,8 @@ else
         while [ "$(jobs -rp | wc -l)" -ge "$lanes" ]; do
             wait -n
         done
+        # the callers come last
+        [ "$name" != "${callers%% *}" ] || [ -z "$library" ] || wait "$library"
         case $name in
         bodies)
             if [ "${COUNCIL_BODIES:-0}" = 1 ]; then

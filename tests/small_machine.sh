@@ -43,8 +43,8 @@ done
 on_small_stack "a tally by sums" examples/eu-1995 --tally
 on_small_stack "a tally by halves" examples/share-register --tally
 on_small_stack "a tally of chambers" examples/us-federal --tally
-on_small_stack "a tally beside a vetoer" docs/using/statutes/veto --tally
-on_small_stack "a tally of a chamber with heads beside another" docs/using/statutes/two-holders --tally
+on_small_stack "a tally beside a vetoer" docs/statutes/veto --tally
+on_small_stack "a tally of a chamber with heads beside another" docs/statutes/two-holders --tally
 on_small_stack "a tally by threads" examples/eu-27-nice --tally --workers 16
 # the same Council beside six seats that it shares nothing with: threads count the Council alone
 member=0

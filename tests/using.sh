@@ -1,5 +1,5 @@
 #!/usr/bin/env bash
-# The programs of docs/using on the stored reports, and the commands of README.md, docs/USING.md and docs/STATUTES.md.
+# council-tools on the stored reports, and the commands of README.md, docs/USING.md and docs/STATUTES.md.
 . "$(dirname "$0")/common.sh"
 cd "$top" || exit 1
 export PYTHONDONTWRITEBYTECODE=1
@@ -13,45 +13,34 @@ draws() {
     printed "$name" "$wanted"
 }
 
-if needs python3 docs/using/table.py "docs/using/table.py on each example" "docs/using/table.py on a refused game"; then
-    draws docs/using/table.py docs/using/table.py.out python3 docs/using/table.py <examples/eec-1958.tsv
+tools=$top/tools/council-tools
+if needs python3 "council-tools table" "council-tools table on each example" "council-tools table on a refused game" "council-tools compare"; then
+    draws "council-tools table" tests/using/wanted/table.txt "$tools" table <examples/eec-1958.tsv
+    draws "council-tools compare" tests/using/wanted/compare.txt "$tools" compare examples/eec-1958.tsv examples/ec-1973.tsv
     why=
     for report in examples/*.tsv; do
-        python3 docs/using/table.py <"$report" >/dev/null 2>"$temp/err" || why="$report: $(tail -n 1 "$temp/err")"
+        "$tools" table "$report" >/dev/null 2>"$temp/err" || why="$report: $(tail -n 1 "$temp/err")"
     done
-    if [ -z "$why" ]; then ok "docs/using/table.py on each example"; else failed "docs/using/table.py on each example" "$why"; fi
-    told=$(python3 docs/using/table.py </dev/null 2>&1)
+    if [ -z "$why" ]; then ok "council-tools table on each example"; else failed "council-tools table on each example" "$why"; fi
+    told=$("$tools" table </dev/null 2>&1)
     status=$?
-    if [ "$status" -eq 1 ] && [ "$told" = "table.py: there is no report: nothing was read (was the game refused?)" ]; then
-        ok "docs/using/table.py on a refused game"
+    if [ "$status" -eq 1 ] && [ "$told" = "council-tools table: there is no report: nothing was read (was the game refused?)" ]; then
+        ok "council-tools table on a refused game"
     else
-        failed "docs/using/table.py on a refused game" "status $status: $told"
+        failed "council-tools table on a refused game" "status $status: $told"
     fi
 fi
-if needs python3 docs/using/compare.py; then
-    draws docs/using/compare.py docs/using/compare.py.out python3 docs/using/compare.py examples/eec-1958.tsv examples/ec-1973.tsv
-fi
-# What each program does with tables, names and reports of any kind, and what it refuses.
+# What each tool does with tables, names and reports of any kind, and what it refuses.
 if needs python3 tests/using; then
     for test in tests/using/*.py; do
-        [ "$test" != tests/using/cases.py ] || continue
+        case $test in */cases.py | */package.py | */r.py) continue ;; esac
         python3 "$test" "$program" 2>"$temp/err" || failed "$test" "it stopped: $(tail -n 1 "$temp/err")"
     done
-fi
-if needs column "docs/using/table.sh"; then
-    draws docs/using/table.sh docs/using/table.sh.out sh docs/using/table.sh <examples/eec-1958.tsv
-fi
-if needs Rscript "docs/using/table.R"; then
-    if Rscript docs/using/table.R examples/eec-1958.tsv >"$temp/out" 2>"$temp/err" && grep -q 'Luxembourg .* 0.000000' "$temp/out"; then
-        ok docs/using/table.R
-    else
-        failed docs/using/table.R "$(tail -n 1 "$temp/err")"
-    fi
 fi
 
 # Each command of the documents prints what the document shows after it: a line `$ ./council ..` and the
 # lines up to the next such line or the end of the block. Commands without the `$` succeed, in a folder that
-# has only the program, docs/using and examples.
+# has only the program, council-tools, and examples.
 command=
 : >"$temp/wanted"
 shows() {
@@ -65,15 +54,14 @@ shows() {
 runs() {
     number=$((number + 1))
     local name="$document, command $number"
-    if [ "${1%% *}" = Rscript ] && ! needs Rscript "$name"; then return; fi
-    (cd "$temp/folder" && bash -c "$1") >"$temp/out" 2>"$temp/err" </dev/null
+    (cd "$temp/folder" && PATH=$temp/bin:$PATH bash -c "$1") >"$temp/out" 2>"$temp/err" </dev/null
     status=$?
     if succeeded "$name"; then ok "$name"; fi
 }
-mkdir -p "$temp/bin" "$temp/folder/docs"
+mkdir -p "$temp/bin" "$temp/folder"
+ln -s "$tools" "$temp/bin/council-tools"
 ln -s "$program" "$temp/bin/council"
 ln -s "$program" "$temp/folder/council"
-cp -r docs/using "$temp/folder/docs/using"
 cp -r examples "$temp/folder/examples"
 for document in README.md docs/USING.md docs/STATUTES.md; do
     number=0
@@ -85,7 +73,7 @@ for document in README.md docs/USING.md docs/STATUTES.md; do
             : >"$temp/wanted"
             ;;
         '```'*) shows ;;
-        './council '* | 'python3 '* | 'Rscript '*)
+        './council '* | 'council-tools '*)
             if [ -n "$command" ]; then
                 printf '%s\n' "$line" >>"$temp/wanted"
             elif [ "$document" != README.md ]; then

@@ -1,11 +1,14 @@
 #!/bin/sh
-# Makes dist/council-VERSION-x86_64-linux.tar.gz, which needs no toolchain, and dist/SHA256SUMS beside it:
+# Makes dist/council-VERSION-x86_64-linux.tar.gz, which needs no toolchain, the wheel for Python, and
+# dist/SHA256SUMS beside them:
 #
 #     tools/release.sh [--draft] [--to FOLDER] [PROGRAM]
 #
-# from the program that ./council or .ci/run has proved and built of the sources at hand. All must be committed, and .ci/run
-# must have passed on that commit, which also makes the library for other languages; --draft makes an archive without, and the file PROVED in it says so. Two archives of one commit
-# and one program are the same bytes: names are sorted, owners fixed, times those of the commit.
+# from the program that ./council or .ci/run has proved and built of the sources at hand. All must be
+# committed, and .ci/run must have passed on that commit, which also makes the library for other
+# languages; --draft makes an archive without, and the file PROVED in it says so. Without the library
+# there is no wheel. Two releases of one commit and one program are the same bytes: names are sorted,
+# owners fixed, times those of the commit.
 set -eu
 top=$(CDPATH='' cd -P -- "$(dirname -- "$0")/.." >/dev/null && pwd -P)
 out=$top/crates/council/out
@@ -64,6 +67,8 @@ library=$top/crates/council_c/out/libcouncil.a
 [ -f "$library" ] && [ "$(cat "${library%/*}/built" 2>/dev/null)" = "$("$top/tools/built.sh" sources)" ] || library=
 [ -n "$draft$library" ] || stop "there is no library for other languages of these sources: tools/build.py --library makes it"
 
+[ -z "$library" ] || command -v cc >/dev/null || stop "the command cc was not found"
+
 name=council-$version-x86_64-linux
 temp=$(mktemp -d)
 trap 'rm -rf "$temp"' EXIT
@@ -71,18 +76,32 @@ trap 'exit 130' INT
 trap 'exit 143' TERM
 trap 'exit 129' HUP
 folder=$temp/$name
-mkdir -p "$folder/docs" "$to"
+mkdir -p "$folder/docs" "$folder/bin" "$to"
 cp "$program" "$folder/council"
 cp "$top/tools/archive/README.md" "$top/tools/archive/install.sh" "$folder/"
 # (no name of the repository has a blank)
-for file in $(git -C "$top" ls-files LICENSE CITATION.cff CHANGELOG.md docs/USING.md docs/FORMATS.md docs/STATUTES.md docs/council.1 docs/using examples completions); do
+for file in $(git -C "$top" ls-files LICENSE CITATION.cff CHANGELOG.md docs/USING.md docs/FORMATS.md docs/STATUTES.md docs/LANGUAGES.md docs/council.1 docs/statutes examples completions r); do
     mkdir -p "$folder/$(dirname "$file")"
     cp "$top/$file" "$folder/$file"
 done
+SOURCE_DATE_EPOCH=$time
+export SOURCE_DATE_EPOCH
+python3 "$top/python/backend.py" zipapp "$folder/bin/council-tools"
+wheel=
 if [ -n "$library" ]; then
-    mkdir -p "$folder/lib" "$folder/include"
+    mkdir -p "$folder/lib/pkgconfig" "$folder/include"
     cp "$library" "$folder/lib/libcouncil.a"
     cp "$top/include/council.h" "$folder/include/council.h"
+    # it exports its one call
+    echo '{ global: council_report; local: *; };' >"$temp/exports"
+    cc -shared -s -o "$folder/lib/libcouncil.so" -Wl,-soname,libcouncil.so -Wl,-u,council_report -Wl,-z,defs \
+        -Wl,--version-script="$temp/exports" "$library"
+    sed "s/@VERSION@/$version/" "$top/tools/archive/council.pc" >"$folder/lib/pkgconfig/council.pc"
+    wheel=$(python3 "$top/python/backend.py" wheel "$temp" "$program" "$folder/lib/libcouncil.so")
+    case $wheel in
+    "council-$version-"*) ;;
+    *) stop "python/pyproject.toml has another version than the program: the wheel is $wheel" ;;
+    esac
 fi
 python3 "$top/tools/reference.py" "$folder/reference"
 {
@@ -95,9 +114,12 @@ python3 "$top/tools/reference.py" "$folder/reference"
 } >"$folder/PROVED"
 find "$folder" -type d -exec chmod 755 {} +
 find "$folder" -type f -exec chmod 644 {} +
-chmod 755 "$folder/council" "$folder/install.sh"
+chmod 755 "$folder/council" "$folder/install.sh" "$folder/bin/council-tools"
 tar -C "$temp" --format=ustar --sort=name --owner=0 --group=0 --numeric-owner --mtime="@$time" -cf "$temp/it.tar" "$name"
 gzip -n -9 "$temp/it.tar"
 mv "$temp/it.tar.gz" "$to/$name.tar.gz"
-(CDPATH='' cd -- "$to" && sha256sum "$name.tar.gz" >SHA256SUMS)
+[ -z "$wheel" ] || mv "$temp/$wheel" "$to/$wheel"
+# (no name of a wheel has a blank)
+(CDPATH='' cd -- "$to" && sha256sum "$name.tar.gz" $wheel >SHA256SUMS)
 echo "$to/$name.tar.gz"
+[ -z "$wheel" ] || echo "$to/$wheel"

@@ -1,5 +1,5 @@
 #!/usr/bin/env python3
-"""What a browser shows of the pages and pictures of docs/using: at 390, 768 and 1280 pixels,
+"""What a browser shows of the pages and pictures of council-tools: at 390, 768 and 1280 pixels,
 light and dark.
 
     tests/using/browser.py PROGRAM
@@ -103,17 +103,17 @@ def are_apart(one, other):
 
 
 # ---- the pages and pictures
-fund = Run("from_table.py", "85%", "heads:3", "--source", "a report & more", "--title", "A fund",
+fund = Run("from-table", "85%", "heads:3", "--source", "a report & more", "--title", "A fund",
            input="Holder,Share held\nUnited States,16.50%\nJapan,6.14%\nChina,6.08%\nAll others,71.28%\n").out
 GAMES = {"one rule": open(f"{TOP}/examples/eec-1958.toml", encoding="utf-8").read(), "two rules": open(f"{TOP}/examples/eu-27-lisbon.toml", encoding="utf-8").read(),
          "four rules": hostile_game(4), "names and units": fund}
 PAGES, PICTURES = {}, {}
 for name, game in GAMES.items():
     path, data = put("game.toml", game), report(game)
-    PAGES[name] = Run("page.py", "--program", PROGRAM, "--game", path, put("game.tsv", data)).out
-    PICTURES[f"bars, {name}"] = Run("bars.py", "--game", path, input=data).out
+    PAGES[name] = Run("page", "--program", PROGRAM, "--game", path, put("game.tsv", data)).out
+    PICTURES[f"bars, {name}"] = Run("bars", "--game", path, input=data).out
 for name, words in [("one rule", []), ("two rules", ["--rule", "2", "--from", "14"]), ("four rules", ["--from", "60", "--to", "66"]), ("names and units", ["--from", "5001", "--step", "100"])]:
-    Run("sweep.py", "--program", PROGRAM, put("game.toml", GAMES[name]), *words, "--picture", f"{TEMP}/sweep.svg")
+    Run("sweep", "--program", PROGRAM, put("game.toml", GAMES[name]), *words, "--picture", f"{TEMP}/sweep.svg")
     with open(f"{TEMP}/sweep.svg", encoding="utf-8") as it:
         PICTURES[f"sweep, {name}"] = it.read()
 

@@ -1,6 +1,5 @@
-"""What the tests of docs/using share: each prints `ok NAME`, `FAILED NAME: why` or `skipped NAME:
+"""What the tests of council-tools share: each prints `ok NAME`, `FAILED NAME: why` or `skipped NAME:
 why` for a case."""
-import importlib.util
 import io
 import os
 import shutil
@@ -9,11 +8,15 @@ import sys
 import tempfile
 
 TOP = os.path.dirname(os.path.dirname(os.path.dirname(os.path.realpath(__file__))))
-TOOLS = os.path.join(TOP, "docs/using")
+TOOLS = os.path.join(TOP, "tools/council-tools")
 PROGRAM = os.path.realpath(sys.argv[1]) if len(sys.argv) > 1 else None
 TEMP = tempfile.mkdtemp()
 sys.dont_write_bytecode = True
-sys.path.insert(0, TOOLS)
+sys.path.insert(0, os.path.join(TOP, "python/src"))
+# the program at hand answers, wherever a tool or the package needs it
+os.environ["COUNCIL_LIBRARY"] = ""
+if PROGRAM:
+    os.environ["COUNCIL_PROGRAM"] = PROGRAM
 # names that a table, a page or a picture might take for something else
 HOSTILE = [
     "=1+1", "+1", "-1", "@x", '"quoted"', "it's", "<script>alert(1)</script>", "</title>&amp;", "]]>", "a|b `c` *d* [e](f)",
@@ -23,7 +26,7 @@ HOSTILE = [
 
 
 class Run:
-    """Runs a program of docs/using, and keeps its status, its standard output and its standard
+    """Runs a tool of council-tools, and keeps its status, its standard output and its standard
     error.
 
     It runs in this process, which takes a hundredth of the time, or with `apart` in its own, as for
@@ -33,7 +36,7 @@ class Run:
         self.tool = tool
         data = input.encode() if isinstance(input, str) else input
         if apart:
-            done = subprocess.run([sys.executable, os.path.join(TOOLS, tool), *words], input=data, capture_output=True)
+            done = subprocess.run([sys.executable, TOOLS, tool, *words], input=data, capture_output=True)
             self.status, self.raw, err = done.returncode, done.stdout, done.stderr
         else:
             self.status, self.raw, err = inside(tool, words, data)
@@ -41,21 +44,18 @@ class Run:
 
 
 def inside(tool, words, data):
-    """Runs a program of docs/using in this process, and returns what `Run` keeps."""
-    spec = importlib.util.spec_from_file_location("tool", os.path.join(TOOLS, tool))
-    module = importlib.util.module_from_spec(spec)
-    spec.loader.exec_module(module)
-    kept = sys.argv, sys.stdin, sys.stdout, sys.stderr
-    sys.argv = [tool, *(os.fsdecode(it) for it in words)]
+    """Runs a tool in this process, and returns what `Run` keeps."""
+    from council.tools import main
+
+    kept = sys.stdin, sys.stdout, sys.stderr
     sys.stdin, sys.stdout, sys.stderr = (io.TextIOWrapper(io.BytesIO(it), encoding="utf-8") for it in (data, b"", b""))
     try:
-        module.run(module.main)
-        status = 0
+        status = main([tool, *map(os.fsdecode, words)])
     except SystemExit as it:
         status = it.code or 0
     finally:
         out, err = sys.stdout, sys.stderr
-        sys.argv, sys.stdin, sys.stdout, sys.stderr = kept
+        sys.stdin, sys.stdout, sys.stderr = kept
     for it in out, err:
         it.flush()
     return status, out.buffer.getvalue(), err.buffer.getvalue()
@@ -71,7 +71,7 @@ def same(name, found, wanted):
 
 def fault(name, run, status, text):
     """Checks that a run ended with this status and one line of fault, and printed nothing."""
-    wanted = f"{run.tool}: {text}\n"
+    wanted = f"council-tools {run.tool}: {text}\n"
     case(name, (run.status, run.out, run.err) == (status, "", wanted), f"status {run.status}: {run.err!r}, {run.out[:60]!r}")
 
 
@@ -99,7 +99,8 @@ def report(game, *words):
 
 def hostile_game(rules=1):
     """Returns a game file of some rules, whose members have the hostile names."""
-    from game import write_game
+    from council.game import write_game
+
     weights = [[at % 5 + 1] + [1] * (rules - 1) for at in range(len(HOSTILE))]
     quotas = [sum(it[0] for it in weights) - 4] + [len(HOSTILE) - 2] * (rules - 1)
     return write_game(HOSTILE, quotas, weights, 'A <title> & "more" \\ % = $x$')

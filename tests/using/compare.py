@@ -1,8 +1,8 @@
 #!/usr/bin/env python3
-"""docs/using/compare.py: two reports or more side by side, differences, and names that look like
+"""council-tools compare: two reports or more side by side, differences, and names that look like
 one.
 
-    tests/using/compare.py PROGRAM
+    tests/using/council-tools compare PROGRAM
 """
 import difflib
 import os
@@ -12,7 +12,7 @@ import sys
 
 from cases import HOSTILE, TEMP, TOOLS, TOP, Run, case, done, fault, hostile_game, report, same
 
-TOOL = "compare.py"
+TOOL = "compare"
 
 
 def put(name, text):
@@ -33,27 +33,27 @@ def stored(name):
 # ---- titles, columns, differences
 run = Run(TOOL, stored("eec-1958"), stored("ec-1973"), stored("ec-1981"))
 lines = run.out.split("\n")
-same("compare.py: titles, quotas, numbers of coalitions", lines[0], "1  Council of the European Economic Community, 1958: 12 of 17, minimal winning coalitions: 4")
-case("compare.py: three reports", lines[2].startswith("3  ") and lines[4].split() == ["1", "2", "2", "-", "1", "3", "3", "-", "1"], lines[:6])
+same("council-tools compare: titles, quotas, numbers of coalitions", lines[0], "1  Council of the European Economic Community, 1958: 12 of 17, minimal winning coalitions: 4")
+case("council-tools compare: three reports", lines[2].startswith("3  ") and lines[4].split() == ["1", "2", "2", "-", "1", "3", "3", "-", "1"], lines[:6])
 row = next(it.split() for it in lines if it.startswith("Luxembourg"))
-same("compare.py: a member and its differences", row[1:9], ["1", "0.000000", "0.000000", "2", "0.034666", "0.034482", "+0.034667", "+0.034483"])
+same("council-tools compare: a member and its differences", row[1:9], ["1", "0.000000", "0.000000", "2", "0.034666", "0.034482", "+0.034667", "+0.034483"])
 row = next(it.split() for it in lines if it.startswith("Denmark"))
-same("compare.py: a member that the first has not", row[1:9], ["-", "-", "-", "3", "0.088000", "0.089655", "-", "-"])
-case("compare.py: columns stand below each other", len({it.rindex(it.split()[-1]) + len(it.split()[-1]) for it in lines[5:-1]}) == 1, lines[5:8])
+same("council-tools compare: a member that the first has not", row[1:9], ["-", "-", "-", "3", "0.088000", "0.089655", "-", "-"])
+case("council-tools compare: columns stand below each other", len({it.rindex(it.split()[-1]) + len(it.split()[-1]) for it in lines[5:-1]}) == 1, lines[5:8])
 run = Run(TOOL, stored("eu-27-nice"), stored("eu-27-lisbon"), apart=True)
-case("compare.py: several rules, as a user runs it", run.status == 0 and run.err == "" and "255/620/14 of 345/1,000/27" in run.out, run.err)
+case("council-tools compare: several rules, as a user runs it", run.status == 0 and run.err == "" and "255/620/14 of 345/1,000/27" in run.out, run.err)
 
 # ---- names that look like one
 old, new = game("old", "Czech Republic", "Germany (West)", "Iceland", "Türkiye"), game("new", "Czechia", "Germany", "Norway", "turkiye", "x")
 run = Run(TOOL, old, new)
 told = [f'{one} of report 1 and {other} of report 2' for one, other in [('"Czech Republic"', '"Czechia"'), ('"Germany (West)"', '"Germany"'), ('"Türkiye"', '"turkiye"')]]
-case("compare.py: names that look like one are told", run.status == 0 and [it.split(" may be")[0][12:] for it in run.err.split("\n")[:-1]] == told, run.err)
+case("council-tools compare: names that look like one are told", run.status == 0 and [it.split(" may be")[0][len("council-tools compare: ") :] for it in run.err.split("\n")[:-1]] == told, run.err)
 run = Run(TOOL, old, new, "--same", "Czechia", "Czech Republic", "--same", "Germany", "Germany (West)", "--same", "Türkiye", "turkiye")
 row = next(it.split() for it in run.out.split("\n") if it.startswith("Czechia"))
-case("compare.py: --same makes them one", run.err == "" and row[1:] == ["1", "0.250000", "0.250000", "1", "0.200000", "0.200000", "-0.050000", "-0.050000"], (run.err, row))
+case("council-tools compare: --same makes them one", run.err == "" and row[1:] == ["1", "0.250000", "0.250000", "1", "0.200000", "0.200000", "-0.050000", "-0.050000"], (run.err, row))
 for one, other in [("United Kingdom", "United States"), ("Slovakia", "Slovenia"), ("North Macedonia", "North Korea"), ("Alberta", "Belgium"), ("A", "B")]:
     run = Run(TOOL, game("one", one), game("other", other))
-    case(f"compare.py: {one} and {other} are told apart", run.err == "", run.err)
+    case(f"council-tools compare: {one} and {other} are told apart", run.err == "", run.err)
 
 # ---- many long names that differ: nearly no two are compared letter by letter
 random.seed(1)
@@ -62,15 +62,15 @@ ratio, compared = difflib.SequenceMatcher.ratio, []
 difflib.SequenceMatcher.ratio = lambda it: compared.append(it) or ratio(it)
 run = Run(TOOL, *many)
 difflib.SequenceMatcher.ratio = ratio
-case("compare.py: 120 long names", run.status == 0 and run.err == "" and len(compared) < 3 * 1600 / 10, (run.err, len(compared)))
+case("council-tools compare: 120 long names", run.status == 0 and run.err == "" and len(compared) < 3 * 1600 / 10, (run.err, len(compared)))
 run = Run(TOOL, stored("eu-27-nice"), stored("eu-36-lisbon"))
-case("compare.py: the examples name each country in one way", run.err == "", run.err)
+case("council-tools compare: the examples name each country in one way", run.err == "", run.err)
 
 # ---- names of any kind
 hard = put("hard", report(hostile_game()))
 run = Run(TOOL, hard, put("several", report(hostile_game(3))))
-case("compare.py: hostile names", run.status == 0 and all(it in run.out for it in HOSTILE if it.isprintable()), run.err)
-case("compare.py: no letter that moves a terminal", all(it.isprintable() or it == "\n" for it in run.out))
+case("council-tools compare: hostile names", run.status == 0 and all(it in run.out for it in HOSTILE if it.isprintable()), run.err)
+case("council-tools compare: no letter that moves a terminal", all(it.isprintable() or it == "\n" for it in run.out))
 
 # ---- what is told can be pasted into a shell, which then runs nothing and sees the names
 names = [*HOSTILE[:-6], "'; touch x'", "$(touch x)", "`touch x`", "Land\u009bA", "Land!1", "a\\'b\u0085 c"]
@@ -79,8 +79,8 @@ for name in (it for it in names if len(it.encode()) <= 60 and sum(map(str.isalnu
     run = Run(TOOL, put("one", ONE.replace("NAME", name)), put("two", ONE.replace("NAME", f"{name} 2")))
     option = run.err.split("may be one member: ")[-1].split(" makes them one")[0]
     found = subprocess.run(["bash", "-c", f"printf '%s\\0' {option}"], cwd=TEMP, capture_output=True, check=False)
-    same(f"compare.py: {name!r} in a shell", found.stdout.decode().split("\0")[:-1], ["--same", name, f"{name} 2"])
-case("compare.py: a shell runs none of it", not os.path.exists(f"{TEMP}/x"))
+    same(f"council-tools compare: {name!r} in a shell", found.stdout.decode().split("\0")[:-1], ["--same", name, f"{name} 2"])
+case("council-tools compare: a shell runs none of it", not os.path.exists(f"{TEMP}/x"))
 
 # ---- what is refused
 for name, words, text in [
@@ -90,24 +90,24 @@ for name, words, text in [
     ("names that nobody has", [old, new, "--same", "a\nb", "c"], "--same $'a\\012b' 'c': no report has one of them"),
     ("no report", [], "the following arguments are required: REPORT (--help says more)"),
 ]:
-    fault(f"compare.py refuses {name}", Run(TOOL, *words), 2, text)
+    fault(f"council-tools compare refuses {name}", Run(TOOL, *words), 2, text)
 for name, data, text in [
     ("a refused game", "", "there is no report: nothing was read (was the game refused?)"),
     ("a game file", "quota = 1\n", "line 1 is no line of a report of council"),
     ("half a report", "members\t1\nquota\t1\ntotal\t1\nminimal\t1\n", "the report is not whole, or its numbers are not those of council"),
 ]:
     path = put("bad", data)
-    fault(f"compare.py refuses {name}", Run(TOOL, hard, path), 1, f"{path}: {text}")
+    fault(f"council-tools compare refuses {name}", Run(TOOL, hard, path), 1, f"{path}: {text}")
 path = put("bytes", "")
 with open(path, "wb") as it:
     it.write(b"title\t\xff\n")
-fault("compare.py refuses bytes that are no text", Run(TOOL, path, hard), 1, f"{path}: it is not UTF-8")
-fault("compare.py refuses a file that is not there", Run(TOOL, hard, f"{TEMP}/none.tsv"), 1, f"{TEMP}/none.tsv: No such file or directory")
+fault("council-tools compare refuses bytes that are no text", Run(TOOL, path, hard), 1, f"{path}: it is not UTF-8")
+fault("council-tools compare refuses a file that is not there", Run(TOOL, hard, f"{TEMP}/none.tsv"), 1, f"{TEMP}/none.tsv: No such file or directory")
 
 # ---- a standard error that is closed, or that takes nothing
 wanted = Run(TOOL, old, new).out
 for error in ["&-"] + ["/dev/full"] * os.path.exists("/dev/full"):
-    words = ["bash", "-c", f'exec "$@" 2>{error}', "bash", sys.executable, f"{TOOLS}/{TOOL}", old, new]
+    words = ["bash", "-c", f'exec "$@" 2>{error}', "bash", sys.executable, TOOLS, TOOL, old, new]
     ran = subprocess.run(words, capture_output=True, check=False)
-    same(f"compare.py: standard error to {error}", (ran.returncode, ran.stdout.decode()), (0, wanted))
+    same(f"council-tools compare: standard error to {error}", (ran.returncode, ran.stdout.decode()), (0, wanted))
 done()

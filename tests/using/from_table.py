@@ -1,14 +1,14 @@
 #!/usr/bin/env python3
-"""docs/using/from_table.py: tables as spreadsheets export them, quotas, and what is refused.
+"""council-tools from-table: tables as spreadsheets export them, quotas, and what is refused.
 
-    tests/using/from_table.py PROGRAM
+    tests/using/council-tools from-table PROGRAM
 """
 import re
 
-from cases import HOSTILE, Run, case, done, fault, report, same
-from game import find_comments, read_units
+from cases import HOSTILE, TEMP, Run, case, done, fault, report, same
+from council.game import find_comments, read_units
 
-TOOL = "from_table.py"
+TOOL = "from-table"
 
 
 def game(*words, table):
@@ -16,7 +16,7 @@ def game(*words, table):
 
 
 def read(text):
-    """Returns the quotas and the weights of a game file that from_table.py wrote."""
+    """Returns the quotas and the weights of a game file that council-tools from-table wrote."""
     quotas = (re.search(r"^quotas? = (.*)$", text, re.M) or ["", "none"])[1]
     weights = re.findall(r"^weights? = (.*)$", text, re.M)
     return quotas, weights
@@ -91,7 +91,7 @@ gives("a member with the name of a subtotal", ["60%", "--all-rows"], "A,5\nB,3\n
 gives("members with colons", ["60%"], "A: x,5\nB: y,3\nC,1\n", "6", ["5", "3", "1"])
 fault("--no-total without a total", game("60%", "--no-total", table="A,5\nB,3\nC,1\n"), 2, "--no-total: neither the first row nor the last is the sum of all others")
 run = game("60%", "--no-total", table="A,5\nB,3\nTotal,9\n")
-case("a total that is none is left out aloud", read(run.out)[1] == ["5", "3"] and run.err == 'from_table.py: line 3, "Total", is left out, and is a total by its name, but not the sum of all others\n', run.err)
+case("a total that is none is left out aloud", read(run.out)[1] == ["5", "3"] and run.err == 'council-tools from-table: line 3, "Total", is left out, and is a total by its name, but not the sum of all others\n', run.err)
 case("what is left out is in a comment", "\n# Left out: line 3, \"Total\", a total by its name, but not the sum of all others\n" in run.out, run.out)
 
 # ---- a first row that may be a heading: the user says whether, unless other columns tell
@@ -115,11 +115,11 @@ run = game("85%", table=TABLE)
 same("a quota above half is not warned of", (run.status, run.err), (0, ""))
 run = game("50", table=TABLE)
 BOTH = ": two coalitions without a common member could both win"
-same("a quota of at most half is warned of", (run.status, run.err), (0, f"from_table.py: the quota 50 is at most half of the total, 101{BOTH}\n"))
+same("a quota of at most half is warned of", (run.status, run.err), (0, f"council-tools from-table: the quota 50 is at most half of the total, 101{BOTH}\n"))
 run = game("50%", "heads:1", table="A,4000\nB,3000\nC,3000\n")
-same("two such quotas", run.err, f"from_table.py: the quota 5,000 of rule 1 is at most half of the total, 10,000{BOTH}\nfrom_table.py: the quota 1 of rule 2 is at most half of the total, 3{BOTH}\n")
+same("two such quotas", run.err, f"council-tools from-table: the quota 5,000 of rule 1 is at most half of the total, 10,000{BOTH}\ncouncil-tools from-table: the quota 1 of rule 2 is at most half of the total, 3{BOTH}\n")
 run = game(">50%", "heads:1", table=TABLE)
-same("one such quota of two", run.err, "from_table.py: the quota 1 of rule 2 is at most half of the total, 3\n")
+same("one such quota of two", run.err, "council-tools from-table: the quota 1 of rule 2 is at most half of the total, 3\n")
 
 # ---- a table that is too long is refused, not cut
 fault("a table of more than 16 MiB", game("1", table="A,1\nB,2\n" + "\n" * (1 << 24)), 1, "the table is longer than 16 MiB: keep the rows of the members, and the columns that you need")
@@ -129,7 +129,7 @@ NOTES = "Votes of 2019{0}\n\nholder,votes\nA,5\nB,3\nC,1\nSource: a book{0}\n*) 
 for name, pad in [("alone", ""), ("with the commas of a spreadsheet", ",")]:
     run = game("60%", table=NOTES.format(pad))
     same(f"titles and sources {name} are left out", read(run.out), ("6", ["5", "3", "1"]))
-    told = [f"from_table.py: line {line} has a single cell and is left out: {text}" for line, text in [(1, '"Votes of 2019"'), (7, '"Source: a book"'), (8, '"*) estimated"')]]
+    told = [f"council-tools from-table: line {line} has a single cell and is left out: {text}" for line, text in [(1, '"Votes of 2019"'), (7, '"Source: a book"'), (8, '"*) estimated"')]]
     same(f"titles and sources {name} are told", run.err, "\n".join([told[0], *(it + " (if it is a member, write 0 as its weight)" for it in told[1:]), ""]))
     case(f"titles and sources {name} are in comments", '# Left out: line 1, "Votes of 2019"\n# Left out: line 7, "Source: a book"\n' in run.out, run.out)
 gives("titles above columns that are chosen", ["60%", "--weight", "votes"], NOTES.format(""), "6", ["5", "3", "1"])
@@ -217,8 +217,20 @@ for name, words, table, status, text in [
     ("no such encoding", ["1", "--encoding", "x\ny"], "A,1\n", 2, 'there is no encoding "x\\u000Ay"'),
     ("the file of a spreadsheet", ["1"], b"PK\x03\x04\x14\0", 1, "this is the file of a spreadsheet itself: export it as CSV, and give that"),
     ("a long title", ["1", "--title", "t" * 201], "A,1\n", 1, "the title has more than 200 bytes, or a letter that is none to read"),
-    ("words that are not UTF-8", [b"\xff"], "A,1\n", 2, "the command line is not UTF-8"),
     ("an option that is not there", ["--what"], "A,1\n", 2, "unrecognized arguments: --what (--help says more)"),
 ]:
     fault(f"a table is refused: {name}", game(*words, table=table), status, text)
+run = game(b"\xff", table="A,1\n")
+same("words that are not UTF-8", (run.status, run.out, run.err), (2, "", "council-tools: the command line is not UTF-8\n"))
+
+# ---- the file of the table: the word that is no quota
+with open(f"{TEMP}/table.csv", "w", encoding="utf-8") as it:
+    it.write("A,50\nB,49\nC,2\n")
+wanted = game("51", table="A,50\nB,49\nC,2\n").out
+same("a file after the quota", Run(TOOL, "51", f"{TEMP}/table.csv").out, wanted)
+same("a file before the quota", Run(TOOL, f"{TEMP}/table.csv", "51").out, wanted)
+same("a file: - is standard input", game("51", "-", table="A,50\nB,49\nC,2\n").out, wanted)
+fault("a file that is not there", Run(TOOL, "51", f"{TEMP}/none.csv"), 2, no_quota(f"{TEMP}/none.csv"))
+fault("two files", Run(TOOL, "51", f"{TEMP}/table.csv", f"{TEMP}/table.csv"), 2, no_quota(f"{TEMP}/table.csv"))
+fault("a folder", Run(TOOL, "51", TEMP), 1, f"{TEMP}: Is a directory")
 done()

@@ -1,5 +1,5 @@
 #!/usr/bin/env python3
-"""The programs of docs/using on a report that lists many coalitions: they keep few of them, or
+"""council-tools on a report that lists many coalitions: they keep few of them, or
 none.
 
     tests/using/lists.py PROGRAM
@@ -19,22 +19,22 @@ with open(LIST, "w", encoding="utf-8") as it:
 COALITIONS = 91390
 
 found = {}
-PAGE = ["page.py", "--program", PROGRAM, "-"]
-for words in [["bars.py"], ["table.py"], PAGE, ["export.py", "csv"], ["export.py", "json"]]:
+PAGE = ["page", "--program", PROGRAM, "-"]
+for words in [["bars"], ["table"], PAGE, ["export", "csv"], ["export", "json"]]:
     name = " ".join(it for it in words if not it.startswith(("-", "/")))
     with open(LIST, encoding="utf-8") as lines, open(f"{TEMP}/out", "w+", encoding="utf-8") as out:
-        child = subprocess.Popen([sys.executable, f"{TOOLS}/{words[0]}", *words[1:]], stdin=lines, stdout=out)
+        child = subprocess.Popen([sys.executable, TOOLS, *words], stdin=lines, stdout=out)
         _, status, used = os.wait4(child.pid, 0)
         out.seek(0)
         found[name] = out.read()
     case(f"{name}: a list of {COALITIONS} coalitions", status == 0 and used.ru_maxrss < MOST * 1000, f"{status}, {used.ru_maxrss} kB")
-whole = json.loads(found["export.py json"])
-same("export.py: each coalition is in the JSON", (len(whole["coalitions"]), whole["minimal"]), (COALITIONS, COALITIONS))
-same("export.py: the last of them", whole["coalitions"][-1], {"members": ["37", "38", "39", "40"], "weights": [4]})
-case("page.py: the first of them", f"the first 1,000 of {COALITIONS:,}" in found["page.py"] and found["page.py"].count("<small>(4)</small>") == 1000)
+whole = json.loads(found["export json"])
+same("council-tools export: each coalition is in the JSON", (len(whole["coalitions"]), whole["minimal"]), (COALITIONS, COALITIONS))
+same("council-tools export: the last of them", whole["coalitions"][-1], {"members": ["37", "38", "39", "40"], "weights": [4]})
+case("council-tools page: the first of them", f"the first 1,000 of {COALITIONS:,}" in found["page"] and found["page"].count("<small>(4)</small>") == 1000)
 
-# ---- table.py: no name moves a terminal
-run = Run("table.py", input=report(hostile_game()))
-case("table.py: hostile names", run.status == 0 and all(it in run.out for it in HOSTILE if it.isprintable()), run.err)
-case("table.py: no letter that moves a terminal", all(it.isprintable() or it == "\n" for it in run.out))
+# ---- council-tools table: no name moves a terminal
+run = Run("table", input=report(hostile_game()))
+case("council-tools table: hostile names", run.status == 0 and all(it in run.out for it in HOSTILE if it.isprintable()), run.err)
+case("council-tools table: no letter that moves a terminal", all(it.isprintable() or it == "\n" for it in run.out))
 done()

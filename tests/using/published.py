@@ -9,7 +9,7 @@ from itertools import combinations
 from math import comb
 
 from cases import TOP, case, done, report, same
-from report import Report
+from council.reports import Report
 
 
 def stored(name):
@@ -20,7 +20,7 @@ def stored(name):
 def indices(text):
     """Returns both indices of each member of a report, as texts."""
     members = Report(text.split("\n")[:-1]).members
-    return [it.dp_fraction for it in members], [it.pg_fraction for it in members]
+    return [str(it.deegan_packel_exact) for it in members], [str(it.public_good_exact) for it in members]
 
 
 # ---- Holler and Napel (2004), in sixtieths: 18, 9, 11, 11, 11 and 16, 8, 12, 12, 12
@@ -33,7 +33,7 @@ council = stored("un-security-council")
 permanent, others = council.members[:5], council.members[5:]
 same("the Security Council: its coalitions", council.minimal, comb(10, 4))
 same("the Security Council: coalitions of a member", ({it.coalitions for it in permanent}, {it.coalitions for it in others}), ({comb(10, 4)}, {comb(9, 3)}))
-each = ({it.deegan_packel for it in permanent} | {it.public_good for it in permanent}, {it.deegan_packel for it in others} | {it.public_good for it in others})
+each = ({it.deegan_packel_exact for it in permanent} | {it.public_good_exact for it in permanent}, {it.deegan_packel_exact for it in others} | {it.public_good_exact for it in others})
 same("the Security Council: both indices", each, ({Fraction(1, 9)}, {Fraction(2, 45)}))
 
 # ---- the Council of the Communities: Luxembourg was a dummy in 1958, and in 1973, with a smaller
@@ -52,8 +52,8 @@ seats = sum(it.coalitions for it in union.members)
 moved = []
 for at, it in enumerate(union.members):
     more = sum(at not in out for out in added)
-    moved.append(abs((it.deegan_packel * union.minimal + Fraction(more, 24)) / (union.minimal + len(added)) - it.deegan_packel))
-    moved.append(abs(Fraction(it.coalitions + more, seats + 24 * len(added)) - it.public_good))
+    moved.append(abs((it.deegan_packel_exact * union.minimal + Fraction(more, 24)) / (union.minimal + len(added)) - it.deegan_packel_exact))
+    moved.append(abs(Fraction(it.coalitions + more, seats + 24 * len(added)) - it.public_good_exact))
 same("the Union: 24 of 27 states", (len(added), heavy, max(moved) < Fraction(5, 10**7), union.minimal), (22, [], True, 4377844))
 
 # ---- the American override of docs/STATUTES.md, for each number of members of both houses

@@ -1,18 +1,19 @@
 #!/usr/bin/env python3
-"""docs/using/sweep.py: a rule's quota from one number to another, its table and its picture.
+"""council-tools sweep: a rule's quota from one number to another, its table and its picture.
 
-    tests/using/sweep.py PROGRAM
+    tests/using/council-tools sweep PROGRAM
 """
 import os
 import pty
 import re
 import subprocess
 import sys
+import time
 from xml.etree import ElementTree
 
 from cases import HOSTILE, PROGRAM, TEMP, TOOLS, TOP, Run, case, done, fault, hostile_game, same
 
-TOOL = "sweep.py"
+TOOL = "sweep"
 
 
 def put(name, text):
@@ -32,14 +33,14 @@ def rows(run):
 # ---- the council of 1958, for each quota
 COUNCIL = f"{TOP}/examples/eec-1958.toml"
 run = sweep(COUNCIL, "--picture", f"{TEMP}/council.svg")
-case("sweep.py: all quotas of 1958", len(rows(run)) == 17 * 6 and "\n12\tGermany\t5/24\t0.208333\t1/5\t0.200000\n" in run.out, run.err)
-same("sweep.py: its heading", run.out.split("\n")[0], "quota\tmember\tdeegan_packel\tdp\tpublic_good\tpg")
+case("council-tools sweep: all quotas of 1958", len(rows(run)) == 17 * 6 and "\n12\tGermany\t0.208333\t0.200000\t5/24\t1/5\n" in run.out, run.err)
+same("council-tools sweep: its heading", run.out.split("\n")[0], "quota\tname\tdeegan_packel\tpublic_good\tdeegan_packel_exact\tpublic_good_exact")
 drawn = ElementTree.parse(f"{TEMP}/council.svg").getroot()
-same("sweep.py: one line for members with the same index", len(drawn.findall("{*}polyline")), 3)
+same("council-tools sweep: one line for members with the same index", len(drawn.findall("{*}polyline")), 3)
 legend = [it.text for it in drawn.findall("{*}text")]
-case("sweep.py: a legend", {"Germany, France, Italy", "Belgium, Netherlands", "Luxembourg"} <= set(legend), legend)
+case("council-tools sweep: a legend", {"Germany, France, Italy", "Belgium, Netherlands", "Luxembourg"} <= set(legend), legend)
 points = drawn.findall("{*}polyline")[0].get("points").split()
-case("sweep.py: a point for each quota", len(points) == 17 and points[0].split(",")[0] == "60.00" and points[-1].split(",")[0] == "620.00", points)
+case("council-tools sweep: a point for each quota", len(points) == 17 and points[0].split(",")[0] == "60.00" and points[-1].split(",")[0] == "620.00", points)
 
 
 # ---- round numbers at the axes, a label at the end of each line
@@ -47,69 +48,84 @@ def axis(root, kind):
     return [it.text for it in root.findall("{*}text") if it.get("class") == kind]
 
 
-same("sweep.py: round indices at the axis", axis(drawn, "index"), ["0.00", "0.05", "0.10", "0.15", "0.20", "0.25"])
-same("sweep.py: round quotas at the axis", axis(drawn, "quota"), ["5", "10", "15"])
+same("council-tools sweep: round indices at the axis", axis(drawn, "index"), ["0.00", "0.05", "0.10", "0.15", "0.20", "0.25"])
+same("council-tools sweep: round quotas at the axis", axis(drawn, "quota"), ["5", "10", "15"])
 sweep(COUNCIL, "--from", "17", "--picture", f"{TEMP}/all.svg")
-same("sweep.py: the axis ends above the greatest index, 1/6", axis(ElementTree.parse(f"{TEMP}/all.svg").getroot(), "index"), ["0.00", "0.05", "0.10", "0.15", "0.20"])
+same("council-tools sweep: the axis ends above the greatest index, 1/6", axis(ElementTree.parse(f"{TEMP}/all.svg").getroot(), "index"), ["0.00", "0.05", "0.10", "0.15", "0.20"])
 ends = [it.get("points").split()[-1].replace(",", " ") for it in drawn.findall("{*}polyline")]
 leaders = [re.fullmatch(r"M(\S+ \S+)L\S+ (\S+)h12", it.get("d")) for it in drawn.findall("{*}path") if it.get("class") == "leader"]
-same("sweep.py: each line is led to a label", [it[1] for it in leaders], ends)
+same("council-tools sweep: each line is led to a label", [it[1] for it in leaders], ends)
 labels = [it for it in drawn.findall("{*}text") if it.get("class") == "member"]
-same("sweep.py: the label is where it is led to", [f"{float(it.get('y')) - 4:.2f}" for it in labels], [it[2] for it in leaders])
+same("council-tools sweep: the label is where it is led to", [f"{float(it.get('y')) - 4:.2f}" for it in labels], [it[2] for it in leaders])
 for first, last, wanted in [("1", "17", ["5", "10", "15"]), ("12", "17", ["12", "13", "14", "15", "16", "17"]), ("12", "12", ["12"])]:
     sweep(COUNCIL, "--from", first, "--to", last, "--picture", f"{TEMP}/range.svg")
-    same(f"sweep.py: round quotas from {first} to {last}", axis(ElementTree.parse(f"{TEMP}/range.svg").getroot(), "quota"), wanted)
-fund = Run("from_table.py", "85%", input="Holder,Share held\nA,16.50%\nB,40.25%\nC,43.25%\n").out
+    same(f"council-tools sweep: round quotas from {first} to {last}", axis(ElementTree.parse(f"{TEMP}/range.svg").getroot(), "quota"), wanted)
+fund = Run("from-table", "85%", input="Holder,Share held\nA,16.50%\nB,40.25%\nC,43.25%\n").out
 run_of_fund = sweep("-", "--from", "5001", "--step", "500", "--picture", f"{TEMP}/fund.svg", input=fund)
 fund = ElementTree.parse(f"{TEMP}/fund.svg").getroot()
-same("sweep.py: quotas in the unit of the table", axis(fund, "quota"), ["60.00%", "70.00%", "80.00%", "90.00%"])
-case("sweep.py: the name of the rule", 'public good index, by the quota, "Share held" (total 100.00%)' in [it.text for it in fund.findall("{*}text")])
+same("council-tools sweep: quotas in the unit of the table", axis(fund, "quota"), ["60.00%", "70.00%", "80.00%", "90.00%"])
+case("council-tools sweep: the name of the rule", 'public good index, by the quota, "Share held" (total 100.00%)' in [it.text for it in fund.findall("{*}text")])
 
 # ---- quotas of at most half
 HALF = ": two coalitions without a common member could both win\n"
-same("sweep.py: quotas of at most half are warned of", run.err, f"sweep.py: quotas up to 8 are at most half of the total, 17{HALF}")
-same("sweep.py: quotas above half are not", sweep(COUNCIL, "--from", "9").err, "")
+same("council-tools sweep: quotas of at most half are warned of", run.err, f"council-tools sweep: quotas up to 8 are at most half of the total, 17{HALF}")
+same("council-tools sweep: quotas above half are not", sweep(COUNCIL, "--from", "9").err, "")
 
 # ---- a range, steps, standard input, a rule of several
-same("sweep.py: a range in steps", [it[0] for it in rows(sweep(COUNCIL, "--from", "10", "--to", "15", "--step", "2"))[::6]], ["10", "12", "14"])
+same("council-tools sweep: a range in steps", [it[0] for it in rows(sweep(COUNCIL, "--from", "10", "--to", "15", "--step", "2"))[::6]], ["10", "12", "14"])
 with open(COUNCIL, "rb") as it:
     data = it.read()
-case("sweep.py: standard input", rows(sweep("-", "--from", "12", "--to", "12", input=data, apart=True))[0][:3] == ["12", "Germany", "5/24"])
-case("sweep.py: a game in brackets", rows(sweep("-", "--from", "12", "--to", "12", input="[3; 4, 4, 4, 2, 2, 1]"))[0][:3] == ["12", "1", "5/24"])
+case("council-tools sweep: standard input", rows(sweep("-", "--from", "12", "--to", "12", input=data, apart=True))[0][::4] == ["12", "5/24"])
+case("council-tools sweep: a game in brackets", rows(sweep("-", "--from", "12", "--to", "12", input="[3; 4, 4, 4, 2, 2, 1]"))[0][::4] == ["12", "5/24"])
 two = put("two.toml", 'quotas = [5, 3]\nmember = [{name = "A", weights = [3, 1]}, {name = "B", weights = [2, 1]},\n{name = "C", weights = [2, 1]}, {name = "D", weights = [1, 1]}]\n')
 run = sweep("--rule", "2", two)
 # one head or two: AB, AC, BCD; three heads: each three of the four; four: all of them
-same("sweep.py: the second rule", [(it[0], it[4]) for it in rows(run) if it[1] == "A"], [("1", "2/7"), ("2", "2/7"), ("3", "1/4"), ("4", "1/4")])
+same("council-tools sweep: the second rule", [(it[0], it[5]) for it in rows(run) if it[1] == "A"], [("1", "2/7"), ("2", "2/7"), ("3", "1/4"), ("4", "1/4")])
 
-same("sweep.py: a rule above half keeps two coalitions from winning", run.err, "")
+same("council-tools sweep: a rule above half keeps two coalitions from winning", run.err, "")
 run = sweep("--rule", "2", put("low.toml", 'quotas = [1, 2]\nmember = [{name = "A", weights = [1, 1]}, {name = "B", weights = [1, 1]}]\n'))
-same("sweep.py: two rules of at most half", run.err, f"sweep.py: quotas up to 1 of rule 2 are at most half of the total, 2{HALF}")
+same("council-tools sweep: two rules of at most half", run.err, f"council-tools sweep: quotas up to 1 of rule 2 are at most half of the total, 2{HALF}")
 
 # ---- names of any kind, in the table and in the picture
 hard = put("hard.toml", hostile_game(2))
-run = sweep(hard, "--rule", "2", "--from", "23", "--to", "24", "--picture", f"{TEMP}/hard.svg", "--index", "dp")
-same("sweep.py: hostile names", [it[1] for it in rows(run)[: len(HOSTILE)]], HOSTILE)
+run = sweep(hard, "--rule", "2", "--from", "23", "--to", "24", "--picture", f"{TEMP}/hard.svg", "--index", "deegan_packel")
+same("council-tools sweep: hostile names", [it[1] for it in rows(run)[: len(HOSTILE)]], HOSTILE)
 with open(f"{TEMP}/hard.svg", encoding="utf-8") as it:
     text = it.read()
 drawn = ElementTree.fromstring(text)
 legend = "".join(it.text for it in drawn.findall("{*}text"))
-case("sweep.py: hostile names in the picture", all(it in legend for it in HOSTILE if not re.search("[\ufffe\u202e\u0085]", it)), legend)
-case("sweep.py: no letter that SVG refuses", not re.search("[\ufffe\uffff\u202e]", text) and "<script" not in text)
+case("council-tools sweep: hostile names in the picture", all(it in legend for it in HOSTILE if not re.search("[\ufffe\u202e\u0085]", it)), legend)
+case("council-tools sweep: no letter that SVG refuses", not re.search("[\ufffe\uffff\u202e]", text) and "<script" not in text)
 wide = float(drawn.get("width"))
-case("sweep.py: 64 letters W fit", wide >= float([it for it in drawn.findall("{*}text") if "W" * 64 in it.text][0].get("x")) + 64 * 11.4, wide)
+case("council-tools sweep: 64 letters W fit", wide >= float([it for it in drawn.findall("{*}text") if "W" * 64 in it.text][0].get("x")) + 64 * 11.4, wide)
 
 # ---- a title of blanks
 blank = put("blank.toml", 'title = "  "\nquota = 1\nmember = [{name = "A", weight = 1}]\n')
 run = sweep(blank, "--picture", f"{TEMP}/blank.svg")
 drawn = ElementTree.parse(f"{TEMP}/blank.svg").getroot()
-same("sweep.py: a title of blanks", (run.status, [it[0] for it in rows(run)], drawn.find("{*}title").text), (0, ["1"], "A game"))
+same("council-tools sweep: a title of blanks", (run.status, [it[0] for it in rows(run)], drawn.find("{*}title").text), (0, ["1"], "A game"))
 
 # ---- on a terminal no name moves it; a file gets the name as it is
 moves = put("moves.toml", 'quota = 1\nmember = [{name = "A\\u009b2JB", weight = 1}]\n')
-same("sweep.py: a name that could move a terminal, to a file", rows(sweep(moves))[0][1], "A\x9b2JB")
+same("council-tools sweep: a name that could move a terminal, to a file", rows(sweep(moves))[0][1], "A\x9b2JB")
 leader, follower = pty.openpty()
-subprocess.run([sys.executable, f"{TOOLS}/{TOOL}", "--program", PROGRAM, moves], stdout=follower, check=True)
-same("sweep.py: a name that could move a terminal, on one", os.read(leader, 4096).decode().split("\t")[-5], "A 2JB")
+subprocess.run([sys.executable, TOOLS, TOOL, "--program", PROGRAM, moves], stdout=follower, check=True)
+same("council-tools sweep: a name that could move a terminal, on one", os.read(leader, 4096).decode().split("\t")[-5], "A 2JB")
+
+# ---- rows are written as they are computed, and a terminal shows how far it is
+slow = put("slow", f'#!/bin/sh\nsleep 0.2\nexec "{PROGRAM}" "$@"\n')
+os.chmod(slow, 0o755)
+leader, follower = pty.openpty()
+begun = time.monotonic()
+child = subprocess.Popen([sys.executable, TOOLS, TOOL, "--program", slow, COUNCIL, "--from", "9"], stdout=subprocess.PIPE, stderr=follower)
+first = child.stdout.readline() + child.stdout.readline()
+early = time.monotonic() - begun
+others = child.stdout.read()
+child.wait()
+took = time.monotonic() - begun
+case("council-tools sweep: rows are written as they are computed", first.split(b"\n")[1].startswith(b"9\tGermany\t") and others.count(b"\n") == 9 * 6 - 1 and early < took - 1, (early, took))
+shown = os.read(leader, 4096).decode()
+case("council-tools sweep: a terminal shows how far it is", re.search(r"\rcouncil-tools sweep: \d of 9 quotas, some \d s left\x1b\[K", shown) and shown.endswith("\r\x1b[K"), shown)
 
 # ---- what is refused
 for name, words, status, text in [
@@ -121,11 +137,11 @@ for name, words, status, text in [
     ("a range without end", [COUNCIL, "--to", "99999999"], 2, "from 1 to 99999999 there are 99999999 quotas, and 20000 are the most: --from, --to and --step choose some"),
     ("a range of twenty digits", [COUNCIL, "--to", "9" * 20], 2, f"from 1 to {'9' * 20} there are {'9' * 20} quotas, and 20000 are the most: --from, --to and --step choose some"),
     ("a file that is not there", [f"{TEMP}/none.toml"], 1, f"{TEMP}/none.toml: No such file or directory"),
-    ("a refused game", [put("bad.toml", "quota = 9\nmember = [{name = 'A', weight = 1}]\n")], 3, "council: quota out of range"),
+    ("a refused game", [put("bad.toml", "quota = 9\nmember = [{name = 'A', weight = 1}]\n")], 3, "council: quota out of range; line 1: quota = 9; the quota is 9, and the weights add up to 1: a quota is from 1 to that total"),
     ("a program that is not there", [COUNCIL, "--program", "no-such"], 1, "no-such: no program of that name was found"),
     ("a picture without a folder", [COUNCIL, "--from", "12", "--to", "12", "--picture", f"{TEMP}/none/a.svg"], 1, f"{TEMP}/none/a.svg: No such file or directory"),
     ("a number that is none", [COUNCIL, "--from", "x"], 2, "argument --from: invalid int value: 'x' (--help says more)"),
 ]:
-    fault(f"sweep.py refuses {name}", sweep(*words), status, text)
-fault("sweep.py, as a user runs it, refuses no game", Run(TOOL, "--program", PROGRAM, "-", apart=True, input=""), 3, "council: " + ("bad quota" if PROGRAM.endswith("council") else "the game file is not TOML"))
+    fault(f"council-tools sweep refuses {name}", sweep(*words), status, text)
+fault("council-tools sweep, as a user runs it, refuses no game", Run(TOOL, "--program", PROGRAM, "-", apart=True, input=""), 3, "council: bad quota; the file holds no game: it has neither a quota nor a member")
 done()

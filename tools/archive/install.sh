@@ -5,8 +5,9 @@
 #     ./install.sh --uninstall [PREFIX]
 #
 # PREFIX is ~/.local by default. If DESTDIR is set, everything goes below that folder, as packages
-# need it. The program goes to bin, the library for other languages to lib and include, the manual
-# page and the completions to share, the documents and examples to share/doc/council.
+# need it. The program and council-tools go to bin, the library for other languages to lib and include,
+# the manual page and the completions to share, the documents, the examples and the package for R to
+# share/doc/council.
 #
 # The list share/doc/council/FILES names every file that was installed and, with a / at the end,
 # every folder that was made, the last first. It is written before each step, so --uninstall also
@@ -70,7 +71,8 @@ is_own() {
     */../* | */./*) return 1 ;;
     esac
     case $1 in
-    bin/ | bin/council | lib/ | lib/libcouncil.a | include/ | include/council.h | share/ | share/*/ | share/*council*) ;;
+    bin/ | bin/council | bin/council-tools | lib/ | lib/libcouncil.a | lib/libcouncil.so) ;;
+    lib/pkgconfig/ | lib/pkgconfig/council.pc | include/ | include/council.h | share/ | share/*/ | share/*council*) ;;
     *) return 1 ;;
     esac
 }
@@ -127,6 +129,7 @@ cd "$here"
 # FILE PLACE MODE, a line for each file of the archive; no name has a blank
 files=$(
     echo "council bin/council 755"
+    echo "bin/council-tools bin/council-tools 755"
     echo "docs/council.1 share/man/man1/council.1 644"
     echo "completions/council.bash share/bash-completion/completions/council 644"
     echo "completions/_council share/zsh/site-functions/_council 644"
@@ -134,10 +137,12 @@ files=$(
     echo "install.sh $doc/install.sh 755"
     if [ -f lib/libcouncil.a ]; then
         echo "lib/libcouncil.a lib/libcouncil.a 644"
+        echo "lib/libcouncil.so lib/libcouncil.so 644"
+        echo "lib/pkgconfig/council.pc lib/pkgconfig/council.pc 644"
         echo "include/council.h include/council.h 644"
     fi
     for file in README.md LICENSE CITATION.cff CHANGELOG.md PROVED \
-        $(find docs examples reference -type f ! -name council.1 | LC_ALL=C sort); do
+        $(find docs examples r reference -type f ! -name council.1 | LC_ALL=C sort); do
         echo "$file $doc/$file 644"
     done
 )

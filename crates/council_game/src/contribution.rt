@@ -6,8 +6,11 @@ ghost use Rattle.council_game.specs.Members.{members};
 use crate::{Game, Memory};
 use std::alloc::Global;
 
-/// Contributions are counted in millionths.
-const MILLION: u64 = 1_000_000;
+/// Contributions to a rule are counted in so many parts of what the rule can do without.
+pub const PARTS: u128 = 1_000_000_000_000_000;
+
+/// The greatest contribution to a rule. Four of them fit 64 bits.
+pub const MOST: u128 = 4_000_000_000_000_000_000;
 
 impl Game {
     /// Returns a copy of the game whose places are in the order in which a walk over its coalitions is short: members
@@ -59,7 +62,8 @@ fn contribution(game: &Game, member: usize) -> u64
     let mut sum = 0;
     for rule in 0..game.rules() {
         let spare = game.rule_total(rule) - game.rule_quota(rule) + 1;
-        sum += game.rule_weight(rule, member) * MILLION / spare;
+        let share = game.rule_weight(rule, member) as u128 * PARTS / spare as u128;
+        sum += share.min(MOST) as u64;
     }
     sum
 }

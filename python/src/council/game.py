@@ -1,18 +1,21 @@
 """Writes a game file of council, and reads the comments of one."""
-import re
+from __future__ import annotations
 
-from report import Fault
+import re
+from typing import Iterable, Sequence
+
+from .reports import Fault, Report
 
 MEMBERS, RULES, WEIGHT, NAME, TITLE, GAME_FILE = 40, 4, 10**12, 64, 200, 65536
 
 
-def is_text(text, most):
+def is_text(text: str, most: int) -> bool:
     """Returns whether a game file may have this text as a name or a title of at most `most`
     bytes."""
     return len(text.encode("utf-8")) <= most and all(it >= " " and it != "\x7f" for it in text)
 
 
-def quote(text):
+def quote(text: str) -> str:
     """Puts a text in quotes, as TOML reads it. Letters that end a line or move a terminal are
     written by number."""
     letters = []
@@ -26,7 +29,7 @@ def quote(text):
     return '"' + "".join(letters) + '"'
 
 
-def quote_for_shell(text):
+def quote_for_shell(text: str) -> str:
     """Writes a text as one word for bash or zsh."""
     if text.isprintable():
         return "'" + text.replace("'", "'\\''") + "'"
@@ -37,21 +40,31 @@ def quote_for_shell(text):
     return "$'" + "".join(parts) + "'"
 
 
-def write_game(names, quotas, weights, title="", comments=()):
-    """Returns a game file: the comments, one a line, the quota of each rule, and for each member
-    its name and its weight under each rule."""
+def write_game(names: Sequence[str], quotas: Sequence[int], weights: Iterable[Sequence[int]], title: str = "", comments: Iterable[str] = ()) -> str:
+    """Returns a game file, as `format_game` does; names and a title that it cannot have are a
+    Fault."""
     if not 1 <= len(names) <= MEMBERS:
         raise Fault(f"there are {len(names)} members, and a game has 1 to {MEMBERS}")
     if not is_text(title, TITLE):
         raise Fault(f"the title has more than {TITLE} bytes, or a letter that is none to read")
+    return format_game(names, quotas, weights, title, comments)
+
+
+def write_list(numbers: Iterable[object]) -> str:
+    return "[" + ", ".join(map(str, numbers)) + "]"
+
+
+def format_game(names: Sequence[str], quotas: Sequence[object], weights: Iterable[Sequence[object]], title: str = "", comments: Iterable[str] = ()) -> str:
+    """Returns a game file, and checks nothing: the comments, one a line, the quota of each rule,
+    and for each member its name and its weight under each rule."""
     parts = ["".join(f"# {it}\n" for it in comments)]
     if title:
         parts.append(f"title = {quote(title)}\n")
     one = len(quotas) == 1
-    parts.append(f"quota = {quotas[0]}\n" if one else f"quotas = {list(quotas)}\n")
+    parts.append(f"quota = {quotas[0]}\n" if one else f"quotas = {write_list(quotas)}\n")
     for name, its in zip(names, weights):
         parts.append(f"\n[[member]]\nname = {quote(name)}\n")
-        parts.append(f"weight = {its[0]}\n" if one else f"weights = {list(its)}\n")
+        parts.append(f"weight = {its[0]}\n" if one else f"weights = {write_list(its)}\n")
     return "".join(parts)
 
 
@@ -63,21 +76,21 @@ class Unit:
     """What the weights of a rule are: their name, whether they are percentages, and how many of
     their last digits are decimals."""
 
-    def __init__(self, name="", percent=False, places=0):
+    def __init__(self, name: str = "", percent: bool = False, places: int = 0):
         self.name, self.percent, self.places = name, percent, places
 
-    def write(self, weight):
+    def write(self, weight: int) -> str:
         """Writes a weight as a person reads it: 1650 is 16.50%, and 1234567 is 1,234,567."""
         digits = str(weight).rjust(self.places + 1, "0")
         whole, decimals = (digits[: -self.places], "." + digits[-self.places :]) if self.places else (digits, "")
         return f"{int(whole):,}{decimals}" + ("%" if self.percent else "")
 
-    def is_share_of(self, total):
+    def is_share_of(self, total: int) -> bool:
         """Returns whether the weights are percentages that add up to 100."""
         return self.percent and total == 100 * 10**self.places
 
 
-def write_rule_comment(number, name, percent, places, more):
+def write_rule_comment(number: int, name: str, percent: bool, places: int, more: str) -> str:
     """Returns the comment that says what the weights of a rule are, and how they were found."""
     parts = [quote(name)] if name else []
     parts += ["percent"] if percent else []
@@ -85,19 +98,19 @@ def write_rule_comment(number, name, percent, places, more):
     return f"Rule {number}: " + "; ".join([*([", ".join(parts)] if parts else []), more])
 
 
-def unquote(text):
+def unquote(text: str) -> str:
     """Reads a text that `quote` has written, without the quotes round it."""
     return re.sub(r"\\(?:u([0-9A-Fa-f]{4})|U([0-9A-Fa-f]{8})|(.))", decode_letter, text)
 
 
-def decode_letter(match):
+def decode_letter(match: re.Match[str]) -> str:
     if match[3]:
         return match[3]
     number = int(match[1] or match[2], 16)
     return chr(number) if number <= 0x10FFFF and not 0xD800 <= number <= 0xDFFF else "\ufffd"
 
 
-def read_units(comments, rules):
+def read_units(comments: Iterable[str], rules: int) -> list[Unit]:
     """Returns the unit of each rule, as the comments of its game file tell it."""
     units = [Unit() for _ in range(rules)]
     for it in comments:
@@ -107,14 +120,14 @@ def read_units(comments, rules):
     return units
 
 
-def write_grouped(numbers):
+def write_grouped(numbers: Iterable[int]) -> str:
     """Writes a number for each rule, with commas between thousands and / between the rules."""
     return "/".join(f"{it:,}" for it in numbers)
 
 
-def find_comments(text):
+def find_comments(text: str) -> list[str]:
     """Returns the comments at the beginning of a game file, each without its sign."""
-    comments = []
+    comments: list[str] = []
     for line in text.split("\n"):
         line = line.strip()
         if line and not line.startswith("#"):
@@ -124,7 +137,7 @@ def find_comments(text):
     return comments
 
 
-def check_same(text, report):
+def check_same(text: str, report: Report) -> None:
     """Refuses a file that is not the game of a report. A bracket text, and Python before 3.11, tell
     nothing."""
     try:
@@ -140,5 +153,5 @@ def check_same(text, report):
         weights = [it["weights"] if "weights" in it else [it["weight"]] for it in game["member"]]
     except (ValueError, KeyError, TypeError):
         raise Fault("this is no game file") from None
-    if (names, quotas, weights) != ([it.name for it in report.members], report.quotas, [it.weights for it in report.members]):
+    if (names, quotas, weights) != ([it.name for it in report.members], list(report.quotas), [list(it.weights) for it in report.members]):
         raise Fault("this is not the game of the report")

@@ -1,7 +1,8 @@
-#!/usr/bin/env python3
 """Makes a game file from a table: a CSV or TSV file, as a spreadsheet exports it.
 
-    from_table.py [OPTIONS] QUOTA.. <TABLE >GAME
+    council-tools from-table [OPTIONS] QUOTA.. [TABLE] >GAME
+
+Without TABLE, or if it is -, standard input is the table.
 
 The table has a row for each member: the name, and a weight for each rule. Commas, semicolons or
 TABs separate the columns. Weights may have decimals, with a point or a comma, thousands
@@ -16,17 +17,25 @@ Give a QUOTA for each rule, in quotes if it has a >:
     2/3        the same                                 '>2/3'     the same
     heads:15   a rule under which each member weighs 1; it takes no column (also heads:55%, 'heads:>1/2')
 """
+from __future__ import annotations
+
+import argparse
 import math
+import os
 import re
 import sys
 from fractions import Fraction
+from typing import Any, List, NoReturn, Optional, Sequence, Tuple
 
-from cells import Number, Table, count_decimals, write_plain
-from command import Words, note, run, warn_of_low_quotas
-from game import MEMBERS, NAME, RULES, WEIGHT, is_text, quote, write_game, write_rule_comment
-from report import Fault
+from ..game import MEMBERS, NAME, RULES, WEIGHT, is_text, quote, write_game, write_rule_comment
+from ..reports import Fault
+from .cells import Number, Table, count_decimals, write_plain
+from .command import Words, note, warn_of_low_quotas
 
 MOST = 1 << 24
+# a row of a table: its line, and its cells
+Row = Tuple[int, List[str]]
+Rows = List[Row]
 # headings of a column of names
 NAMED = set("name names member members".split())
 # labels of totals, which also stop a row that is not the sum of the others
@@ -37,7 +46,7 @@ class Quota:
     """A quota as the user writes it: of heads or of weights, at least or more than, a number or a
     share of the total."""
 
-    def __init__(self, text):
+    def __init__(self, text: str) -> None:
         self.text = text
         heads, rest = re.fullmatch(r"(heads:)?(.*)", text.strip(), re.S).groups()
         self.heads = bool(heads)
@@ -50,7 +59,7 @@ class Quota:
         if (match and not self.share) or (self.number and not self.number.good):
             raise Fault(f"the quota {quote(text)} is no number, no percentage as 65% or '>50%', and no fraction as 2/3", 2)
 
-    def make_whole(self, total, scale, decimal):
+    def make_whole(self, total: int, scale: int, decimal: Optional[str]) -> tuple[int, str]:
         """Returns the quota as a whole number, and how it was found. The weights were multiplied by
         `scale`, and add up to `total`."""
         share = self.share
@@ -72,35 +81,35 @@ class Quota:
         of = "" if share is None else f"{share.numerator}/{share.denominator} of {total:,}, which is "
         return quota, f"{words} {of}{write_plain(exact)}" + ("" if exact == quota else f", so {quota:,}")
 
-    def refuse_small(self, value):
+    def refuse_small(self, value: Fraction) -> NoReturn:
         """Refuses 0.85, with which each member would win alone, and says how to write the share."""
         share = ("heads:" if self.heads else "") + (">" if self.more else "") + write_plain(value * 100) + "%"
         word = f"'{share}'" if self.more else share
         raise Fault(f"the quota {quote(self.text)} is less than 1: write {word} for a share of all", 2)
 
 
-def name_cell(line, column, text):
+def name_cell(line: int, column: int, text: str) -> str:
     """Names a cell: its place, and what it holds."""
     told = text if len(text) <= 40 else text[:40] + ".."
     return f"line {line}, column {column + 1}: {quote(told)}"
 
 
-def is_number(word):
+def is_number(word: str) -> bool:
     return word.isascii() and word.isdigit()
 
 
-def find_cells(row):
+def find_cells(row: Sequence[str]) -> list[str]:
     """Returns the cells of a row that are not empty."""
     return [it.strip() for it in row if it.strip()]
 
 
-def is_note(row):
+def is_note(row: Sequence[str]) -> bool:
     """Returns whether a row has a single cell, with a text: a title, or a source."""
     cells = find_cells(row)
     return len(cells) == 1 and not Number(cells[0]).good
 
 
-def drop_notes(rows, weighed, words):
+def drop_notes(rows: Rows, weighed: int, words: argparse.Namespace) -> tuple[Rows, list[str]]:
     """Leaves out rows with a single cell above and below all others, and says so. Returns the other
     rows, and the comments."""
     above = next((at for at, (_, row) in enumerate(rows) if not is_note(row)), len(rows))
@@ -128,7 +137,7 @@ class Columns:
     """Which column has the names, and which the weights of each rule; and whether the first row is
     a heading."""
 
-    def __init__(self, rows, words, rules):
+    def __init__(self, rows: Rows, words: argparse.Namespace, rules: int) -> None:
         self.line = rows[0][0]
         self.first = [it.strip() for it in rows[0][1]]
         chosen = words.weight or []
@@ -150,7 +159,7 @@ class Columns:
             raise Fault(f"the table has no column {wanted}: commas, semicolons or TABs separate the columns")
         self.heading = bool(named) or words.heading or (not words.no_heading and self.is_heading(below))
 
-    def place(self, word, otherwise):
+    def place(self, word: Optional[str], otherwise: Optional[int]) -> Any:
         if word is None:
             return otherwise
         if is_number(word):
@@ -162,10 +171,10 @@ class Columns:
             raise Fault(f"there is no column {quote(word)}, or two of them; the first row has {has}", 2)
         return self.first.index(word)
 
-    def cell(self, column):
+    def cell(self, column: int) -> str:
         return self.first[column] if column < len(self.first) else ""
 
-    def is_heading(self, below):
+    def is_heading(self, below: Sequence[list[str]]) -> bool:
         """Returns whether the first row is a heading, as its cells tell; if they do not, it
         asks."""
         is_named = self.cell(self.name).casefold() in NAMED
@@ -185,7 +194,7 @@ class Columns:
                 return False
         raise Fault(f"line {self.line}, {quote(self.cell(self.name)[:40])}, may be a heading or a member: say --heading or --no-heading")
 
-    def is_over_numbers(self, column, below):
+    def is_over_numbers(self, column: int, below: Sequence[list[str]]) -> Optional[bool]:
         """Returns whether the first row has a title over a column of numbers (True), or one more
         number (False)."""
         cells = [row[column].strip() for row in below if column < len(row) and row[column].strip()]
@@ -195,7 +204,7 @@ class Columns:
         return not Number(first).good
 
 
-def is_title(cell):
+def is_title(cell: str) -> bool:
     """Returns whether a cell over weights is a word, or one of the letters that mean weight or
     quantity."""
     if cell.casefold() in ("nan", "none", "null"):
@@ -203,11 +212,11 @@ def is_title(cell):
     return bool(re.search(r"[^\W\d_]{3}", cell)) or (cell != "" and not re.search(r"\d", cell) and cell in "%wWqQ")
 
 
-def is_year(cell):
+def is_year(cell: str) -> bool:
     return re.fullmatch(r"(19|20)\d\d", cell) is not None
 
 
-def refuse_row_numbers(rows):
+def refuse_row_numbers(rows: Sequence[list[str]]) -> None:
     """Refuses a first column that counts rows, as R and pandas write it, and says which option
     helps."""
     counted = [row[0].strip() for row in rows if row[0].strip()]
@@ -219,10 +228,11 @@ def refuse_row_numbers(rows):
 class Member:
     """A row of the table: its line, its name, and a number for each rule that has a column."""
 
-    def __init__(self, line, row, columns, at_edge):
+    def __init__(self, line: int, row: list[str], columns: Columns, at_edge: bool) -> None:
         self.line = line
         self.name = " ".join(row[columns.name].split()) if columns.name < len(row) else ""
-        self.numbers, self.fault = [], None
+        self.numbers: list[Any] = []
+        self.fault: Optional[Fault] = None
         for column in columns.weights:
             text = row[column].strip() if column < len(row) else ""
             it = Number(text)
@@ -239,7 +249,7 @@ class Member:
             self.numbers.append(it if text else None)
 
 
-def find_decimal(members, columns, said):
+def find_decimal(members: list[Member], columns: Columns, said: Optional[str]) -> Optional[str]:
     """Returns the decimal sign of the whole table, as its numbers tell it; None if none has any."""
     decimal, told = said, None
     numbers = [(it, number, column) for it in members for number, column in zip(it.numbers, columns.weights) if number]
@@ -256,7 +266,7 @@ def find_decimal(members, columns, said):
     return decimal
 
 
-def is_sum(numbers, row, decimal):
+def is_sum(numbers: Sequence[Any], row: int, decimal: Optional[str]) -> int:
     """Returns whether a row has the sum of all others: 2 if it has, 1 if nearly, as rounding
     explains, else 0."""
     if None in numbers:
@@ -273,7 +283,7 @@ def is_sum(numbers, row, decimal):
     return int(abs(value - wanted) <= slack and slack * many <= wanted)
 
 
-def find_total(members, decimal):
+def find_total(members: list[Member], decimal: Optional[str]) -> tuple[Optional[int], str]:
     """Returns the last or the first row if it is a total, and why: it has the sum of all others in
     a column of weights, or else the label of a total."""
     last = len(members) - 1
@@ -290,11 +300,11 @@ def find_total(members, decimal):
     return None, ""
 
 
-def has_name_of_total(member):
+def has_name_of_total(member: Member) -> bool:
     return member.name.casefold().strip(":. ") in TOTAL
 
 
-def refuse_others(members, words):
+def refuse_others(members: list[Member], words: argparse.Namespace) -> None:
     """Refuses rows that hardly are members: a subtotal by its name, and a first or last row that is
     the only one with the colon of a source or the star of a note."""
     if words.all_rows:
@@ -307,7 +317,7 @@ def refuse_others(members, words):
         raise Fault(f"line {it.line}, {quote(it.name[:40])}, is hardly a member: delete the line, or say --all-rows if it is one")
 
 
-def drop_total(members, decimal, words):
+def drop_total(members: list[Member], decimal: Optional[str], words: argparse.Namespace) -> list[str]:
     """Leaves out a row that is a total if the user says so; asks if nobody did. Returns the
     comment."""
     if words.all_rows:
@@ -325,10 +335,10 @@ def drop_total(members, decimal, words):
     return [f"Left out: line {it.line}, {quote(members.pop(row).name)}, {told}"]
 
 
-def check_names(members, words):
+def check_names(members: list[Member], words: argparse.Namespace) -> None:
     """Refuses names that a game cannot have, and a name in two rows unless --sum adds their
     weights."""
-    lines = {}
+    lines: dict[str, int] = {}
     for it in members:
         if not it.name:
             raise Fault(f"line {it.line}: there is no name")
@@ -341,9 +351,9 @@ def check_names(members, words):
             raise Fault(f"line {it.line}: this is member {MEMBERS + 1}, and a game has at most {MEMBERS}")
 
 
-def merge(members, columns):
+def merge(members: list[Member], columns: Sequence[list[Fraction]]) -> list[str]:
     """Adds the values of rows with the same name to the first of them. Returns the comments."""
-    rows = {}
+    rows: dict[str, list[int]] = {}
     for row, it in enumerate(members):
         rows.setdefault(it.name, []).append(row)
     comments = [f"Added: lines {', '.join(str(members[row].line) for row in its)}, {quote(name)}" for name, its in rows.items() if len(its) > 1]
@@ -353,7 +363,7 @@ def merge(members, columns):
     return comments
 
 
-def read_column(members, index, column, decimal, places):
+def read_column(members: list[Member], index: int, column: int, decimal: Optional[str], places: Optional[int]) -> tuple[list[Fraction], bool, list[str]]:
     """Returns the exact values of a column, whether they are percentages, and what was done to read
     them."""
     numbers = [it.numbers[index] for it in members]
@@ -369,7 +379,7 @@ def read_column(members, index, column, decimal, places):
     return values, True in percent, done
 
 
-def scale_column(values, members, column):
+def scale_column(values: Sequence[Fraction], members: Sequence[Member], column: int) -> tuple[list[int], int]:
     """Returns the values times a power of ten, as whole numbers, and the exponent of that power."""
     places = max(map(count_decimals, values))
     whole = [int(it * 10**places) for it in values]
@@ -380,7 +390,7 @@ def scale_column(values, members, column):
     return whole, places
 
 
-def make_game(data, quotas, words):
+def make_game(data: bytes, quotas: Sequence[Quota], words: argparse.Namespace) -> str:
     """Returns the game file of a table."""
     table = Table(data, words.encoding)
     if not table.rows:
@@ -408,7 +418,7 @@ def make_game(data, quotas, words):
     left_out += merge(members, [values for values, _, _ in read])
 
     number = "1 member" if len(members) == 1 else f"{len(members)} members"
-    comments = [f"From a table of {number}, by from_table.py; {quote(table.delimiter)} separates the columns"]
+    comments = [f"From a table of {number}, by council-tools from-table; {quote(table.delimiter)} separates the columns"]
     if decimal:
         comments[0] += f", and {quote(decimal)} is the decimal sign"
     if words.source:
@@ -426,7 +436,7 @@ def make_game(data, quotas, words):
 class Rule:
     """A rule of the game: its quota and weights, and a comment that says how they were found."""
 
-    def __init__(self, number, quota, members, columns=None, index=None, read=None, decimal=None):
+    def __init__(self, number: int, quota: Quota, members: Sequence[Member], columns: Optional[Columns] = None, index: int = 0, read: Sequence[tuple[list[Fraction], bool, list[str]]] = (), decimal: Optional[str] = None) -> None:
         self.weights, places, name, percent, what = [1] * len(members), 0, "heads", False, ["each member weighs 1"]
         if columns:
             column = columns.weights[index]
@@ -440,7 +450,7 @@ class Rule:
         self.comment = write_rule_comment(number, name, percent, places, f"{', '.join(what)}; the quota {quote(quota.text)} is {how}")
 
 
-def find_unused(rows, columns, words):
+def find_unused(rows: Sequence[list[str]], columns: Columns, words: argparse.Namespace) -> list[str]:
     """Returns which columns are left out. One of numbers, which may be of a rule without a quota,
     is a fault, unless the columns are chosen by name."""
     said, used = [], [columns.name, *columns.weights]
@@ -454,9 +464,38 @@ def find_unused(rows, columns, words):
     return said
 
 
-def main(words):
-    reader = Words(__doc__)
-    reader.add_argument("quotas", metavar="QUOTA", nargs="*", help="a quota for each rule")
+def find_quotas(words: Sequence[str]) -> tuple[list[Quota], str]:
+    """Returns the quotas, and the path of the table: a word that is no quota, if there is such a
+    file; else standard input."""
+    quotas, path = [], None
+    for it in words:
+        if path is None and (it == "-" or os.path.exists(it)) and not is_quota(it):
+            path = it
+        else:
+            quotas.append(Quota(it))
+    return quotas, path or "-"
+
+
+def is_quota(word: str) -> bool:
+    try:
+        return bool(Quota(word))
+    except Fault:
+        return False
+
+
+def read_table(path: str) -> bytes:
+    """Reads the table, and no more of it than shows that it is too long."""
+    if path != "-":
+        with open(path, "rb") as it:
+            return it.read(MOST + 1)
+    if sys.stdin.isatty():
+        raise Fault("no table: name a file, as in council-tools from-table 65% table.csv >game.toml", 2)
+    return sys.stdin.buffer.read(MOST + 1)
+
+
+def main(args: list[str]) -> None:
+    reader = Words("from-table", __doc__)
+    reader.add_argument("quotas", metavar="QUOTA", nargs="*", help="a quota for each rule, and the file of the table")
     reader.add_argument("--title", metavar="TEXT", help="the title of the game")
     reader.add_argument("--source", metavar="TEXT", help="where the table comes from, for a comment")
     reader.add_argument("--name", metavar="COLUMN", help="the column of the names, by its heading or its number; else the first")
@@ -471,17 +510,11 @@ def main(words):
     reader.add_argument("--decimal", choices=[".", ","], help="the decimal sign, if the table does not tell")
     reader.add_argument("--round", metavar="N", type=int, choices=range(13), help="round weights to N decimals, a half upwards")
     reader.add_argument("--encoding", metavar="NAME", help="the encoding of the table, as cp1252; else UTF-8 or UTF-16")
-    words = reader.parse_args(words)
-    quotas = [Quota(it) for it in words.quotas]
+    words = reader.parse_args(args)
+    quotas, path = find_quotas(words.quotas)
     if not 1 <= len(quotas) <= RULES:
         raise Fault(f"say a quota for each rule, 1 to {RULES} of them, as 65% or '>50%' in quotes", 2)
-    if sys.stdin.isatty():
-        raise Fault("no table: it is read from standard input, as in from_table.py 65% <table.csv >game.toml", 2)
-    data = sys.stdin.buffer.read(MOST + 1)
+    data = read_table(path)
     if len(data) > MOST:
         raise Fault("the table is longer than 16 MiB: keep the rows of the members, and the columns that you need")
     sys.stdout.write(make_game(data, quotas, words))
-
-
-if __name__ == "__main__":
-    run(main)

@@ -1,25 +1,27 @@
-#!/usr/bin/env python3
 """Makes one page of HTML from reports of council, to send, open or print:
 
-    page.py [OPTIONS] REPORT.. >page.html
+    council-tools page [OPTIONS] [REPORT..] >page.html
 
-REPORT is a file, or - for standard input. The page has the title, the quotas, a table that a
+REPORT is a file; without one, or as -, it is standard input. The page has the title, the quotas, a table that a
 click sorts, bars, the coalitions if the report lists them (--list), what the indices are, and how
 to compute them again. With the game file, --game FILE, it also has the names of the rules,
 weights in the unit of the table, and the comments of the file, such as the source of the data. It
 loads nothing from elsewhere.
 """
+from __future__ import annotations
+
 import base64
 import hashlib
-import os
 import re
-import shutil
 import subprocess
+from fractions import Fraction
+from typing import Any, Iterable, Iterator, Optional, Sequence
 
-from command import Words, find_built_program, find_program, read_comments, read_report, run, warn_of_low_quotas
-from drawing import INDICES, SHARES, escape_xml, name_share, write_quota
-from game import write_game
-from report import Fault, round_half_up
+from ..engine import NotFound, find_program
+from ..game import Unit, write_game
+from ..reports import Coalition, Fault, Report, round_half_up
+from .command import Words, read_comments, read_lines, warn_of_low_quotas
+from .drawing import INDICES, SHARES, escape_xml, name_share, write_quota
 
 MOST = 1000
 # comments that from_table.py writes, a line each; others are a text that may be wrapped
@@ -95,26 +97,36 @@ SOURCES = [
 ]
 
 
-def write_name(text):
+class Section(Report):
+    """A report, with what the page shows beside it: its first coalitions, the source, and the
+    comments and units of the game file."""
+
+    first: list[Coalition]
+    source: Optional[str]
+    comments: list[str]
+    units: list[Unit]
+
+
+def write_name(text: str) -> str:
     """Writes a name, whose direction of writing stays its own."""
     return f"<bdi>{escape_xml(text)}</bdi>"
 
 
-def write_fraction(value):
+def write_fraction(value: Fraction) -> str:
     return f'<span class="fraction">{value.numerator}<u>/</u><i>{value.denominator}</i></span>'
 
 
-def rank(values):
+def rank(values: Iterable[Any]) -> list[int]:
     """Returns the place of each value among all: by it a column is sorted, exactly."""
     places = {it: at for at, it in enumerate(sorted(set(values)))}
     return [places[it] for it in values]
 
 
-def make_columns(report, units):
+def make_columns(report: Report, units: Sequence[Unit]) -> Iterator[tuple[str, list[Any], list[str]]]:
     """Yields the columns of the table: the heading, the values to sort by, and the cells.
     Fractions, which may be long, come last."""
     members, several = report.members, len(report.quotas) > 1
-    dp, pg = [it.deegan_packel for it in members], [it.public_good for it in members]
+    dp, pg = [it.deegan_packel_exact for it in members], [it.public_good_exact for it in members]
     yield "Member", [it.name.casefold() for it in members], [write_name(it.name) for it in members]
     yield "Deegan-Packel", dp, [round_half_up(it, 6) for it in dp]
     yield "Public good", pg, [round_half_up(it, 6) for it in pg]
@@ -130,7 +142,7 @@ def make_columns(report, units):
     yield "Public good, exactly", pg, [write_fraction(it) for it in pg]
 
 
-def write_table(report, units):
+def write_table(report: Report, units: Sequence[Unit]) -> Iterator[str]:
     its = list(make_columns(report, units))
     yield '<div class="wide" tabindex="0" role="region" aria-label="Members"><table class="members"><thead><tr>'
     yield "".join(f'<th scope="col"><button type="button">{title}</button></th>' for title, _, _ in its)
@@ -140,10 +152,10 @@ def write_table(report, units):
     yield "</tbody></table></div>"
 
 
-def write_bars(report, units):
+def write_bars(report: Report, units: Sequence[Unit]) -> Iterator[str]:
     kinds = [(f"s{rule}", name_share(report, units, rule)) for rule in range(len(units))]
     kinds += [("dp", INDICES[0][0]), ("pg", INDICES[1][0])]
-    rows = [(it.name, [*(report.share(it, rule) for rule in range(len(units))), it.deegan_packel, it.public_good]) for it in report.members]
+    rows = [(it.name, [*(report.share(it, rule) for rule in range(len(units))), it.deegan_packel_exact, it.public_good_exact]) for it in report.members]
     longest = max(max(values) for _, values in rows)
     yield '<ul class="keys">' + "".join(f'<li><span class="key" style="background: var(--{it})"></span>{escape_xml(what)}</li>' for it, what in kinds) + "</ul>"
     yield '<div class="bars">'
@@ -157,7 +169,7 @@ def write_bars(report, units):
     yield "</div>"
 
 
-def write_quotas(report, units):
+def write_quotas(report: Report, units: Sequence[Unit]) -> Iterator[str]:
     """Says when a coalition wins, in the units of the rules and in percent of the total."""
     its = []
     for rule, unit in enumerate(units):
@@ -169,7 +181,7 @@ def write_quotas(report, units):
         yield "<p><b>At most half of the total wins, so two coalitions without a common member could both win.</b></p>"
 
 
-def write_source(report):
+def write_source(report: Section) -> Iterator[str]:
     """Shows where the data come from, as --source or the game file tells."""
     told = [it[len("Source:") :].strip() for it in report.comments if it.startswith("Source:")]
     source = report.source or "; ".join(told)
@@ -177,12 +189,13 @@ def write_source(report):
         yield f'<p class="source">Source of the data: {escape_xml(source)}</p>'
 
 
-def write_comments(comments):
+def write_comments(comments: Sequence[str]) -> Iterator[str]:
     """Shows the comments of the game file."""
     if not comments:
         return
     yield "<h2>About the data</h2>"
-    text, items = [], []
+    text: list[str] = []
+    items: list[str] = []
     for it in comments:
         (items if ITEM.fullmatch(it) else text).append(it)
     if text:
@@ -191,19 +204,19 @@ def write_comments(comments):
         yield "<ul>" + "".join(f"<li>{escape_xml(it)}</li>" for it in items) + "</ul>"
 
 
-def write_coalitions(report):
+def write_coalitions(report: Section) -> Iterator[str]:
     has = report.listed
     if not has:
         return
     some = f", the first {MOST:,} of {has:,}" if has > MOST else ""
     yield f"<h2>Minimal winning coalitions{some}</h2>"
     yield f"<details{' open' if has <= 100 else ''}><summary>{min(has, MOST):,} coalitions, with their weights</summary><ol class=\"coalitions\">"
-    for it in report.coalitions:
-        yield f"<li>{', '.join(map(write_name, it.names))} <small>({' / '.join(unit.write(weight) for unit, weight in zip(report.units, it.weights))})</small></li>"
+    for it in report.first:
+        yield f"<li>{', '.join(map(write_name, it.members))} <small>({' / '.join(unit.write(weight) for unit, weight in zip(report.units, it.weights))})</small></li>"
     yield "</ol></details>"
 
 
-def write_section(report, at, level):
+def write_section(report: Section, at: int, level: int) -> Iterator[str]:
     title, units = escape_xml(report.heading()), report.units
     yield f'<section id="game{at}"><h{level}>{title}</h{level}>'
     yield from write_quotas(report, units)
@@ -218,16 +231,13 @@ def write_section(report, at, level):
     yield f"<details><summary>the game file</summary><pre>{escape_xml(text)}</pre></details></section>"
 
 
-def find_version(named):
-    """Returns the program at hand and what it was proved with, or None. It asks no launcher that
-    would build first."""
-    beside = os.path.realpath(os.path.join(os.path.dirname(os.path.realpath(__file__)), "../../council"))
-    if named:
+def find_version(named: Optional[str]) -> Optional[str]:
+    """Returns the program at hand and what it was proved with, or None."""
+    try:
         path = find_program(named)
-    else:
-        is_program = os.path.isfile(beside) and open(beside, "rb").read(4) == b"\x7fELF"
-        path = find_built_program() or (beside if is_program else shutil.which("council"))
-    if not path:
+    except NotFound as it:
+        if named:
+            raise Fault(it) from None
         return None
     try:
         done = subprocess.run([path, "--version"], stdin=subprocess.DEVNULL, stdout=subprocess.PIPE, stderr=subprocess.DEVNULL, timeout=20)
@@ -237,7 +247,7 @@ def find_version(named):
     return ", ".join(it for it in lines if it) if done.returncode == 0 and lines[0].startswith("council ") else None
 
 
-def write_page(reports, version):
+def write_page(reports: Sequence[Section], version: Optional[str]) -> Iterator[str]:
     titles = [it.heading() for it in reports]
     title = titles[0] if len(reports) == 1 else f"{len(reports)} games"
     hashed = base64.b64encode(hashlib.sha256(SCRIPT.encode()).digest()).decode()
@@ -261,23 +271,24 @@ def write_page(reports, version):
     yield f"</ul></footer></main><script>{SCRIPT}</script></body></html>"
 
 
-def read(path, game, source):
+def read(path: str, game: Optional[str], source: Optional[str]) -> Section:
     """Reads the report in a file, with as many of its coalitions as the page shows, and the
     comments of its game file."""
-    first = []
-    report = read_report(path, lambda it: first.append(it) if len(first) < MOST else None)
-    report.coalitions, report.source = first, source
+    first: list[Coalition] = []
+    report = read_lines(path, lambda lines: Section(lines, lambda it: first.append(it) if len(first) < MOST else None))
+    report.first, report.source = first, source
     report.comments, report.units = read_comments(game, report)
     return report
 
 
-def main(words):
-    reader = Words(__doc__)
-    reader.add_argument("reports", metavar="REPORT", nargs="+", help="a report of council; - is standard input")
+def main(args: list[str]) -> None:
+    reader = Words("page", __doc__)
+    reader.add_argument("reports", metavar="REPORT", nargs="*", help="a report of council; without one, or as -, standard input")
     reader.add_argument("--game", metavar="FILE", action="append", default=[], help="the game file of a report, once for each in their order")
     reader.add_argument("--source", metavar="TEXT", help="where the data come from")
     reader.add_argument("--program", metavar="PROGRAM", help="the program whose version the page names; else the one of this clone or archive, or the one on the PATH")
-    words = reader.parse_args(words)
+    words = reader.parse_args(args)
+    words.reports = words.reports or ["-"]
     if words.game and len(words.game) != len(words.reports):
         raise Fault(f"give --game once for each report: there are {len(words.reports)} reports, and {len(words.game)} game files", 2)
     games = words.game or [None] * len(words.reports)
@@ -286,7 +297,3 @@ def main(words):
         print(line)
     for it in reports:
         warn_of_low_quotas(it.quotas, it.totals)
-
-
-if __name__ == "__main__":
-    run(main)

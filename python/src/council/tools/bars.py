@@ -1,23 +1,25 @@
-#!/usr/bin/env python3
 """Draws both indices beside the shares of the votes, as an SVG file:
 
-    bars.py [OPTIONS] <REPORT >PICTURE.svg
+    council-tools bars [OPTIONS] [REPORT] >PICTURE.svg
 
 Each member has a bar for its share under each rule, and one for each index. No name is cut. With
 the game file, --game FILE, the picture has the names of the rules, and quotas in the unit of the
 table.
 """
-import sys
+from __future__ import annotations
 
-from command import Words, read_comments, run, warn_of_low_quotas
-from drawing import INDICES, SHARES, measure, name_share, wrap, write_picture, write_quota, write_text
-from report import Report, ignore, round_half_up
+from typing import Iterator, Sequence
+
+from ..game import Unit
+from ..reports import Report, round_half_up
+from .command import Words, add_report, read_comments, read_report, warn_of_low_quotas
+from .drawing import INDICES, SHARES, measure, name_share, wrap, write_picture, write_quota, write_text
 
 # the bars of a member are 13 apart, so that a number of 9 has room above and below
 BAR, PITCH, GAP, LONGEST, SMALL = 8, 13, 9, 460, 9
 
 
-def list_kinds(report, units):
+def list_kinds(report: Report, units: Sequence[Unit]) -> Iterator[tuple[str, str]]:
     """Yields what the bars are: what the legend says of each, and its color."""
     for rule in range(len(report.quotas)):
         yield f"{name_share(report, units, rule)}; quota {write_quota(report, units, rule)}", SHARES[rule][0]
@@ -25,12 +27,12 @@ def list_kinds(report, units):
         yield kind, color
 
 
-def draw(report, places, units):
+def draw(report: Report, places: int, units: Sequence[Unit]) -> Iterator[str]:
     kinds = list(list_kinds(report, units))
     rows = []
     for it in report.members:
         shares = [report.share(it, rule) for rule in range(len(report.quotas))]
-        rows.append((it.name, [*shares, it.deegan_packel, it.public_good]))
+        rows.append((it.name, [*shares, it.deegan_packel_exact, it.public_good_exact]))
     longest = max(max(values) for _, values in rows)
     left = max(60.0, *(measure(name, 12) for name, _ in rows)) + 16
     wide = left + LONGEST + 20 + measure("0." + "0" * places, SMALL)
@@ -56,17 +58,14 @@ def draw(report, places, units):
     return write_picture(wide, y + 8, parts, title)
 
 
-def main(words):
-    reader = Words(__doc__)
+def main(args: list[str]) -> None:
+    reader = Words("bars", __doc__)
+    add_report(reader)
     reader.add_argument("--decimals", metavar="N", type=int, choices=range(1, 13), default=4, help="decimals beside the bars, rounded; else four")
     reader.add_argument("--game", metavar="FILE", help="the game file of the report, for the names and units of its rules")
-    words = reader.parse_args(words)
-    report = Report(sys.stdin, ignore)
+    words = reader.parse_args(args)
+    report = read_report(words.report)
     _, units = read_comments(words.game, report)
     for line in draw(report, words.decimals, units):
         print(line)
     warn_of_low_quotas(report.quotas, report.totals)
-
-
-if __name__ == "__main__":
-    run(main)

@@ -1,13 +1,16 @@
 """Reads the rows of a table, and its numbers: with a point or a comma, thousands separators and
 percent signs."""
+from __future__ import annotations
+
 import csv
 import io
 import math
 import re
 from fractions import Fraction
+from typing import Iterator, Optional
 
-from game import quote
-from report import Fault
+from ..game import quote
+from ..reports import Fault
 
 BLANKS = " \u00a0\u2007\u2009\u202f"
 # digits in groups of three, with a blank or an apostrophe between them
@@ -19,7 +22,7 @@ OTHER = {".": ",", ",": "."}
 class Number:
     """A number as a cell has it, without its blanks and its percent sign."""
 
-    def __init__(self, text):
+    def __init__(self, text: str) -> None:
         self.text = text.strip(BLANKS + "\t")
         self.percent = self.text.endswith("%")
         digits = self.text[:-1].strip(BLANKS) if self.percent else self.text
@@ -32,7 +35,7 @@ class Number:
             self.whole, self.rest, self.power = match[1], match[2], int(match[3] or 0)
             self.good = self.is_valid_with(".") or self.is_valid_with(",")
 
-    def is_valid_with(self, decimal):
+    def is_valid_with(self, decimal: str) -> bool:
         """Returns whether it is a number with this decimal sign; the other sign separates
         thousands."""
         groups, _, decimals = self.rest.partition(decimal)
@@ -43,24 +46,24 @@ class Number:
         is_third = all(len(it) == 3 for it in groups[1:].split(OTHER[decimal]))
         return is_third and not self.grouped and 1 <= len(self.whole) <= 3 and self.whole[0] != "0" and not self.power
 
-    def decimal(self):
+    def decimal(self) -> Optional[str]:
         """Returns its decimal sign; None if it has none, or if both readings make a number."""
         point, comma = self.is_valid_with("."), self.is_valid_with(",")
         return None if point and comma else "." if point else ","
 
-    def is_open(self):
+    def is_open(self) -> bool:
         """Returns whether it is two different numbers by the point and by the comma: 1,000 is a
         thousand, or one."""
         return bool(self.rest) and self.decimal() is None
 
-    def value(self, decimal):
+    def value(self, decimal: str) -> Fraction:
         """Returns its exact value if `decimal` is the decimal sign."""
         groups, _, decimals = self.rest.partition(decimal)
         digits = self.whole + groups.replace(OTHER[decimal], "") + decimals
         return Fraction(int(digits)) * Fraction(10) ** (self.power - len(decimals))
 
 
-def count_decimals(value):
+def count_decimals(value: Fraction) -> int:
     """Returns how many decimals a value has, which is a whole number over a power of ten."""
     places = 0
     while (value * 10**places).denominator != 1:
@@ -68,7 +71,7 @@ def count_decimals(value):
     return places
 
 
-def write_plain(value):
+def write_plain(value: Fraction) -> str:
     """Writes a value with its decimals, cut off after six, and with commas between thousands."""
     places = 0
     while places < 6 and (value * 10**places).denominator != 1:
@@ -82,7 +85,7 @@ def write_plain(value):
 class Table:
     """The rows of a table: for each the line that it begins in, and its cells."""
 
-    def __init__(self, data, encoding):
+    def __init__(self, data: bytes, encoding: Optional[str]) -> None:
         self.rows, self.delimiter = [], None
         text = decode(data, encoding)
         first, _, rest = text.partition("\n")
@@ -95,7 +98,7 @@ class Table:
         self.rows = [(line + self.skipped, row) for line, row in read_rows(text, self.delimiter, self.skipped)]
 
 
-def decode(data, encoding):
+def decode(data: bytes, encoding: Optional[str]) -> str:
     """Returns the text of a table. A byte order mark tells UTF-8 and UTF-16; without one, zeros
     tell UTF-16."""
     if data[:4] == b"PK\x03\x04" or data[:8] == b"\xd0\xcf\x11\xe0\xa1\xb1\x1a\xe1":
@@ -116,7 +119,7 @@ def decode(data, encoding):
         raise Fault(f"there is no encoding {quote(encoding)}", 2) from None
 
 
-def read_rows(text, delimiter, skipped=0, quiet=False):
+def read_rows(text: str, delimiter: str, skipped: int = 0, quiet: bool = False) -> Iterator[tuple[int, list[str]]]:
     """Yields the rows that are not empty, each with the line in which it begins."""
     reader = csv.reader(io.StringIO(text, newline=""), delimiter=delimiter, strict=True)
     begun = 1

@@ -1,7 +1,6 @@
-#!/usr/bin/env python3
 """Writes a report of council as CSV, JSON, LaTeX or Markdown:
 
-    export.py csv|json|latex|markdown [OPTIONS] <REPORT
+    council-tools export csv|json|latex|markdown [OPTIONS] [REPORT]
 
     csv       A line for each member, with a heading. Names and fractions are in quotes; a name that
               a spreadsheet would take for a formula has an apostrophe in front.
@@ -10,10 +9,13 @@
     latex     A table for the package booktabs. Letters that pdflatex does not have are numbers.
     markdown  A table, in which no letter of a name has a meaning of its own.
 
-The columns of a table are name, weight, share (of the votes), coalitions, dp and pg (the
-Deegan-Packel index and the public good index as decimals), deegan_packel and public_good (the
-same as fractions). With several rules there is a weight and a share for each.
+The columns of a table are name, weight, share (of the votes), coalitions, deegan_packel and
+public_good (both indices as decimals), deegan_packel_exact and public_good_exact (the same as
+fractions). With several rules there is a weight and a share for each. For a spreadsheet with a
+decimal comma, write CSV with --decimal , (in which semicolons separate the columns).
 """
+from __future__ import annotations
+
 import itertools
 import json
 import re
@@ -21,40 +23,43 @@ import shutil
 import sys
 import tempfile
 import unicodedata
+from fractions import Fraction
+from typing import Iterable, Iterator, Optional, Sequence
 
-from command import Words, run
-from game import quote
-from report import Fault, Report, ignore, round_half_up
+from ..game import quote
+from ..reports import Coalition, Fault, Member, Report, cut_off, round_half_up, write_fraction
+from .command import Words, add_report, read_lines, read_report
 
 FORMATS = ["csv", "json", "latex", "markdown"]
 HEADINGS = {
     "name": "Member", "weight": "Weight", "share": "Share", "coalitions": "Coalitions", "deegan_packel": "Deegan-Packel",
-    "dp": "Deegan-Packel", "public_good": "Public good", "pg": "Public good",
+    "public_good": "Public good", "deegan_packel_exact": "Deegan-Packel", "public_good_exact": "Public good",
 }
-IN_CSV = ["name", "weight", "coalitions", "deegan_packel", "dp", "public_good", "pg"]
-IN_PRINT = ["name", "weight", "dp", "pg"]
-TEXTS = ["name", "deegan_packel", "public_good"]
+IN_CSV = ["name", "weight", "coalitions", "deegan_packel", "public_good", "deegan_packel_exact", "public_good_exact"]
+IN_PRINT = ["name", "weight", "deegan_packel", "public_good"]
+DECIMALS = ["share", "deegan_packel", "public_good"]
+TEXTS = ["name", "deegan_packel_exact", "public_good_exact"]
 
 
 class Column:
     """A column: its content, and its rule if there are several."""
 
-    def __init__(self, kind, rule=None):
+    def __init__(self, kind: str, rule: Optional[int] = None) -> None:
         self.kind, self.rule = kind, rule
 
-    def heading(self):
+    def heading(self) -> str:
         return self.kind if self.rule is None else f"{self.kind}_{self.rule + 1}"
 
-    def title(self):
+    def title(self) -> str:
         return HEADINGS[self.kind] + ("" if self.rule is None else f", rule {self.rule + 1}")
 
-    def write_for_people(self, report, member, places):
+    def write_for_people(self, report: Report, member: Member, places: Optional[int]) -> str:
         """Returns the cell of a member as people read it: whole numbers have commas between
         thousands."""
         text = self.write(report, member, places)
         return f"{int(text):,}" if self.kind in ("weight", "coalitions") else text
 
-    def write(self, report, member, places):
+    def write(self, report: Report, member: Member, places: Optional[int]) -> str:
         """Returns the cell of a member. Without a number of places, decimals are as the report has
         them; else rounded."""
         kind, rule = self.kind, self.rule or 0
@@ -62,14 +67,14 @@ class Column:
             return str(member.weights[rule])
         if kind == "share":
             return round_half_up(report.share(member, rule), 6 if places is None else places)
-        if kind == "dp":
-            return member.dp_decimals if places is None else round_half_up(member.deegan_packel, places)
-        if kind == "pg":
-            return member.pg_decimals if places is None else round_half_up(member.public_good, places)
-        return {"name": member.name, "coalitions": str(member.coalitions), "deegan_packel": member.dp_fraction, "public_good": member.pg_fraction}[kind]
+        if kind in ("deegan_packel", "public_good"):
+            exact = getattr(member, kind + "_exact")
+            return cut_off(exact) if places is None else round_half_up(exact, places)
+        it = getattr(member, kind)
+        return it if kind == "name" else str(it) if kind == "coalitions" else write_fraction(it)
 
 
-def choose_columns(report, kinds):
+def choose_columns(report: Report, kinds: Iterable[str]) -> Iterator[Column]:
     several = len(report.quotas) > 1
     for kind in kinds:
         if several and kind in ("weight", "share"):
@@ -78,19 +83,23 @@ def choose_columns(report, kinds):
             yield Column(kind)
 
 
-def write_csv(report, columns, places):
-    yield ",".join(it.heading() for it in columns)
+def write_csv(report: Report, columns: Sequence[Column], places: Optional[int], decimal: str = ".") -> Iterator[str]:
+    """Yields the lines of CSV. Semicolons separate the columns if the decimal sign is a comma."""
+    between = "," if decimal == "." else ";"
+    yield between.join(it.heading() for it in columns)
     for member in report.members:
         cells = []
         for it in columns:
             text = it.write(report, member, places)
             if it.kind == "name" and text.lstrip()[:1] in tuple("=+-@\t\r＝＋－＠"):
                 text = "'" + text
+            if it.kind in DECIMALS:
+                text = text.replace(".", decimal)
             cells.append('"' + text.replace('"', '""') + '"' if it.kind in TEXTS else text)
-        yield ",".join(cells)
+        yield between.join(cells)
 
 
-def escape_latex(text):
+def escape_latex(text: str) -> str:
     """Writes a text so that LaTeX prints it letter by letter."""
     names = {"\\": "textbackslash", "~": "textasciitilde", "^": "textasciicircum", "<": "textless", ">": "textgreater", "|": "textbar"}
     text = unicodedata.normalize("NFC", text)
@@ -113,7 +122,7 @@ def escape_latex(text):
     return "".join(letters)
 
 
-def write_latex(report, columns, places):
+def write_latex(report: Report, columns: Sequence[Column], places: Optional[int]) -> Iterator[str]:
     if report.title:
         yield f"% {report.title}"
     yield "% \\usepackage{booktabs}, and \\usepackage[T1]{fontenc} for letters with accents"
@@ -136,8 +145,8 @@ def write_latex(report, columns, places):
     yield "\\end{tabular}"
 
 
-def write_markdown(report, columns, places):
-    def write_row(cells):
+def write_markdown(report: Report, columns: Sequence[Column], places: Optional[int]) -> Iterator[str]:
+    def write_row(cells: Iterable[str]) -> str:
         return "| " + " | ".join(cells) + " |"
 
     yield write_row([it.title() for it in columns])
@@ -147,15 +156,15 @@ def write_markdown(report, columns, places):
         yield write_row([re.sub(r"([!-/:-@\[-`{-~])", r"\\\1", text) if kind == "name" else text for kind, text in cells])
 
 
-def make_pair(value):
+def make_pair(value: Fraction) -> list[int]:
     return [value.numerator, value.denominator]
 
 
-def describe(report, places):
+def describe(report: Report, places: Optional[int]) -> dict[str, object]:
     """Returns the whole report, except its coalitions, as one value."""
 
-    def describe_index(value, decimals):
-        return {"fraction": make_pair(value), "decimals": float(decimals if places is None else round_half_up(value, places))}
+    def write_index(value: Fraction) -> float:
+        return float(cut_off(value) if places is None else round_half_up(value, places))
 
     return {
         "title": report.title or None,
@@ -167,26 +176,28 @@ def describe(report, places):
                 "name": it.name,
                 "weights": it.weights,
                 "coalitions": it.coalitions,
-                "deegan_packel": describe_index(it.deegan_packel, it.dp_decimals),
-                "public_good": describe_index(it.public_good, it.pg_decimals),
+                "deegan_packel": write_index(it.deegan_packel_exact),
+                "public_good": write_index(it.public_good_exact),
+                "deegan_packel_exact": make_pair(it.deegan_packel_exact),
+                "public_good_exact": make_pair(it.public_good_exact),
             }
             for it in report.members
         ],
     }
 
 
-def write_json(lines, places):
+def write_json(lines: Iterable[str], places: Optional[int]) -> None:
     """Writes a report as JSON. Its coalitions, which may be millions and come before the members,
     wait in a temporary file."""
 
-    def text(value):
+    def text(value: object) -> str:
         return json.dumps(value, indent=1, ensure_ascii=False)
 
     between = itertools.chain(["\n  "], itertools.repeat(",\n  "))
     with tempfile.TemporaryFile("w+", encoding="utf-8", newline="\n") as coalitions:
 
-        def take(it):
-            coalitions.write(next(between) + text({"members": it.names, "weights": it.weights}).replace("\n", "\n  "))
+        def take(it: Coalition) -> None:
+            coalitions.write(next(between) + text({"members": it.members, "weights": it.weights}).replace("\n", "\n  "))
 
         report = Report(lines, take)
         head = text(describe(report, places))
@@ -198,14 +209,16 @@ def write_json(lines, places):
         print(head)
 
 
-def main(words):
-    reader = Words(__doc__)
+def main(args: list[str]) -> None:
+    reader = Words("export", __doc__)
     reader.add_argument("format", metavar="FORMAT", nargs="?", default="", help="csv, json, latex or markdown")
+    add_report(reader)
     reader.add_argument("--columns", metavar="NAME,..", help="the columns of a table, in this order")
     reader.add_argument("--decimals", metavar="N", type=int, choices=range(1, 31),
                         help="decimals, 1 to 30, rounded from the fractions, a half upwards; else in csv and json six, cut off, and in tables four")
+    reader.add_argument("--decimal", choices=[".", ","], default=".", help="the decimal sign of csv; with a comma, semicolons separate the columns")
     reader.add_argument("--mark", action="store_true", help="a byte order mark in front of csv, by which Excel knows UTF-8")
-    words = reader.parse_args(words)
+    words = reader.parse_args(args)
     if words.format not in FORMATS:
         said = f"{quote(words.format)} is no format" if words.format else "say a format"
         raise Fault(f"{said}: csv, json, latex or markdown", 2)
@@ -214,18 +227,14 @@ def main(words):
         if it not in HEADINGS:
             raise Fault(f"{quote(it)} is no column: {', '.join(HEADINGS)}", 2)
     if words.format == "json":
-        write_json(sys.stdin, words.decimals)
+        read_lines(words.report, lambda lines: write_json(lines, words.decimals))
         return
-    report = Report(sys.stdin, ignore)
+    report = read_report(words.report)
     columns = list(choose_columns(report, kinds))
     if words.format == "csv":
-        lines = write_csv(report, columns, words.decimals)
+        lines = write_csv(report, columns, words.decimals, words.decimal)
         sys.stdout.write("\ufeff" if words.mark else "")
     else:
         lines = {"latex": write_latex, "markdown": write_markdown}[words.format](report, columns, words.decimals or 4)
     for it in lines:
         print(it)
-
-
-if __name__ == "__main__":
-    run(main)

@@ -1,13 +1,16 @@
 """What pages and pictures share: text in XML, how wide it can be, round numbers for axes, and
 colors."""
+from __future__ import annotations
+
 import math
 import re
 import unicodedata
 from fractions import Fraction
+from typing import Iterable, Iterator, Sequence
 from xml.sax.saxutils import escape
 
-from game import quote
-from report import round_half_up
+from ..game import Unit, quote
+from ..reports import Report, round_half_up
 
 # what XML has no place for, and what would turn the direction of a line
 REFUSED = re.compile("[^\t\n\r -\ud7ff\ue000-\ufffd\U00010000-\U0010ffff]|[\x7f-\x9f\u200e\u200f\u202a-\u202e\u2066-\u2069]|[\ufdd0-\ufdef]")
@@ -18,12 +21,12 @@ SHARES = [("#858585", "#92979e"), ("#3f8f5b", "#62b37e"), ("#8a66b5", "#b094dc")
 INDICES = [("Deegan-Packel index", "#33557f", "#6f9fe0"), ("public good index", "#c06a2b", "#ee9a57")]
 
 
-def escape_xml(text):
+def escape_xml(text: str) -> str:
     """Writes a text as a page or a picture may hold it."""
     return escape(REFUSED.sub("\ufffd", text), {'"': "&quot;"})
 
 
-def measure(text, size):
+def measure(text: str, size: float) -> float:
     """Returns how wide a text is at most, in a usual font without serifs of this size."""
     wide = 0.0
     for it in text:
@@ -38,7 +41,7 @@ def measure(text, size):
     return wide * size
 
 
-def wrap(words, most, size, between=" "):
+def wrap(words: Iterable[str], most: float, size: float, between: str = " ") -> list[str]:
     """Puts words into lines of at most this width. A wider word has a line of its own, and is not
     cut."""
     lines = []
@@ -52,11 +55,11 @@ def wrap(words, most, size, between=" "):
     return lines
 
 
-def write_text(x, y, it, size=12, anchor="start", more=""):
+def write_text(x: float, y: float, it: str, size: float = 12, anchor: str = "start", more: str = "") -> str:
     return f'<text x="{x:.2f}" y="{y:.2f}" font-size="{size}" text-anchor="{anchor}" xml:space="preserve"{more}>{escape_xml(it)}</text>'
 
 
-def write_picture(wide, high, lines, title):
+def write_picture(wide: float, high: float, lines: Iterable[str], title: str) -> Iterator[str]:
     """Yields the lines of an SVG file of this size."""
     yield (f'<svg xmlns="http://www.w3.org/2000/svg" width="{wide:.0f}" height="{high:.0f}" viewBox="0 0 {wide:.0f} {high:.0f}" '
            'font-family="Helvetica, Arial, sans-serif" role="img">')
@@ -66,14 +69,14 @@ def write_picture(wide, high, lines, title):
     yield "</svg>"
 
 
-def find_round_step(span, most):
+def find_round_step(span: Fraction | int, most: int) -> Fraction:
     """Returns the least of 1, 2, 5, 10, .. and 0.5, 0.2, 0.1, .. of which `most` make the span or
     more."""
     power = Fraction(10) ** (math.floor(math.log10(span / most)) - 1)
     return next(it for it in (power * factor * ten for ten in (1, 10, 100) for factor in (1, 2, 5)) if it * most >= span)
 
 
-def find_ticks(first, last, most, whole=False):
+def find_ticks(first: int, last: int, most: int, whole: bool = False) -> list[Fraction]:
     """Returns the round numbers from `first` to `last`, at most one more than `most`."""
     if last == first:
         return [Fraction(first)]
@@ -82,19 +85,19 @@ def find_ticks(first, last, most, whole=False):
     return [step * it for it in range(math.ceil(first / step), math.floor(last / step) + 1)]
 
 
-def write_percent(part, whole):
+def write_percent(part: int, whole: int) -> str:
     """Writes a share as a percentage with up to two decimals, rounded."""
     digits = round_half_up(Fraction(part, whole) * 100, 2)
     return digits.rstrip("0").rstrip(".") + "%"
 
 
-def name_share(report, units, rule):
+def name_share(report: Report, units: Sequence[Unit], rule: int) -> str:
     """Names the share under a rule, with the name of the rule if its game file has one."""
     which = f", rule {rule + 1}" if len(units) > 1 else ""
     return f"share of {quote(units[rule].name) if units[rule].name else 'the votes'}{which}"
 
 
-def write_quota(report, units, rule):
+def write_quota(report: Report, units: Sequence[Unit], rule: int) -> str:
     """Writes the quota of a rule in its unit and in percent: 12 of 17 (70.59%)."""
     unit, quota, total = units[rule], report.quotas[rule], report.totals[rule]
     more = "" if unit.is_share_of(total) else f" ({write_percent(quota, total)})"

@@ -1,23 +1,29 @@
-#!/usr/bin/env python3
 """Shows two games or more side by side, member by member:
 
-    compare.py [OPTIONS] REPORT REPORT..
+    council-tools compare [OPTIONS] REPORT REPORT..
 
 Each game has its weights and both indices, and each but the first also the differences to the
 first. A dash means that a game does not have the member. Members are matched by their exact
 names. You are warned of two names that look alike if only one game has each of them: --same makes
 them one.
 """
+from __future__ import annotations
+
 import difflib
 import functools
 import unicodedata
+from fractions import Fraction
+from typing import Dict, Iterable, Iterator, List, Sequence
 
-from command import Words, make_printable, note, read_report, run
-from game import quote, quote_for_shell, write_grouped
-from report import Fault, round_half_up
+from ..game import quote, quote_for_shell, write_grouped
+from ..reports import Fault, Member, Report, cut_off, round_half_up
+from .command import Words, make_printable, note, read_report
+
+# the members of each game, by name
+Games = List[Dict[str, Member]]
 
 
-def write_signed(value):
+def write_signed(value: Fraction) -> str:
     """Writes a difference with its sign and six decimals, rounded."""
     digits = round_half_up(abs(value), 6)
     sign = "" if float(digits) == 0 else "-" if value < 0 else "+"
@@ -25,19 +31,19 @@ def write_signed(value):
 
 
 @functools.cache
-def fold(name):
+def fold(name: str) -> list[str]:
     """Returns the words of a name, without accents, capitals and signs."""
     letters = unicodedata.normalize("NFKD", name.casefold())
     return "".join(it if it.isalnum() else " " for it in letters if not unicodedata.combining(it)).split()
 
 
 @functools.cache
-def make_matcher(text):
+def make_matcher(text: str) -> difflib.SequenceMatcher[str]:
     """Returns a matcher that compares other texts with this one, and counts this one only once."""
     return difflib.SequenceMatcher(None, "", text)
 
 
-def is_near(one, other):
+def is_near(one: str, other: str) -> bool:
     """Returns whether two names may be of one member, as Czechia and Czech Republic."""
     one, other = fold(one), fold(other)
     short, long = sorted((" ".join(one), " ".join(other)), key=len)
@@ -54,7 +60,7 @@ def is_near(one, other):
     return matcher.real_quick_ratio() >= 0.8 and matcher.quick_ratio() >= 0.8 and matcher.ratio() >= 0.8
 
 
-def warn(games):
+def warn(games: Games) -> None:
     """Warns of a name that only one game has if it is near to a name that only another has."""
     told = set()
     for at, one in enumerate(games, 1):
@@ -66,7 +72,7 @@ def warn(games):
                         note(f"{quote(name)} of report {at} and {quote(it)} of report {number} may be one member: --same {quote_for_shell(name)} {quote_for_shell(it)} makes them one")
 
 
-def find_members(report, same):
+def find_members(report: Report, same: Sequence[Sequence[str]]) -> dict[str, Member]:
     """Returns the members by name. Two names that --same makes one are the first of them."""
     members = {}
     for it in report.members:
@@ -77,22 +83,23 @@ def find_members(report, same):
     return members
 
 
-def make_cells(games, name):
+def make_cells(games: Games, name: str) -> Iterator[list[str]]:
     """Yields the cells of a row: a group for each game, and for each difference to the first."""
     first = games[0].get(name)
     for at, members in enumerate(games):
         it = members.get(name)
-        yield [write_grouped(it.weights), it.dp_decimals, it.pg_decimals] if it else ["-", "-", "-"]
-        if at:
-            whole = it and first
-            yield [write_signed(it.deegan_packel - first.deegan_packel), write_signed(it.public_good - first.public_good)] if whole else ["-", "-"]
+        yield [write_grouped(it.weights), cut_off(it.deegan_packel_exact), cut_off(it.public_good_exact)] if it else ["-", "-", "-"]
+        if at and it and first:
+            yield [write_signed(it.deegan_packel_exact - first.deegan_packel_exact), write_signed(it.public_good_exact - first.public_good_exact)]
+        elif at:
+            yield ["-", "-"]
 
 
-def measure(text):
+def measure(text: str) -> int:
     return sum(0 if unicodedata.combining(it) else 2 if unicodedata.east_asian_width(it) in "WF" else 1 for it in text)
 
 
-def write_table(games):
+def write_table(games: Games) -> Iterator[str]:
     """Yields the lines of the table, with a heading over each group."""
     names = list(dict.fromkeys(name for members in games for name in members))
     over = ["1"]
@@ -104,7 +111,7 @@ def write_table(games):
     widths = [[max(measure(row[1][at][column]) for row in rows) for column in range(len(group))] for at, group in enumerate(groups)]
     first = max(measure(row[0]) for row in rows)
 
-    def write_line(name, its):
+    def write_line(name: str, its: Iterable[Sequence[str]]) -> str:
         parts = [name + " " * (first - measure(name))]
         for group, wide in zip(its, widths):
             parts.append("  ".join(" " * (most - measure(it)) + it for it, most in zip(group, wide)))
@@ -115,11 +122,11 @@ def write_table(games):
         yield write_line(name, its)
 
 
-def main(words):
-    reader = Words(__doc__)
+def main(args: list[str]) -> None:
+    reader = Words("compare", __doc__)
     reader.add_argument("reports", metavar="REPORT", nargs="+", help="a report of council; - is standard input")
     reader.add_argument("--same", metavar=("NAME", "OTHER"), nargs=2, action="append", default=[], help="two names that are one member")
-    words = reader.parse_args(words)
+    words = reader.parse_args(args)
     if len(words.reports) < 2 or words.reports.count("-") > 1:
         raise Fault("name two reports or more", 2)
     reports = [read_report(it) for it in words.reports]
@@ -133,7 +140,3 @@ def main(words):
     for line in write_table(games):
         print(line)
     warn(games)
-
-
-if __name__ == "__main__":
-    run(main)

@@ -1,0 +1,133 @@
+"""Power indices of weighted voting games, computed by the verified program council.
+
+    >>> import council
+    >>> report = council.report(51, [50, 49, 1], names=["A", "B", "C"])
+    >>> report.minimal
+    2
+    >>> report.members[0].public_good_exact
+    Fraction(1, 2)
+    >>> pandas.DataFrame(report.members)  # doctest: +SKIP
+
+A game that council refuses raises `Refused`, which says what is wrong and where.
+"""
+from __future__ import annotations
+
+import numbers
+import operator
+import os
+from decimal import Decimal
+from typing import Any, Iterable, Optional, Sequence, Union
+
+from .engine import MOST, NotFound, Refused, TooMany, compute
+from .game import GAME_FILE, format_game
+from .reports import Coalition, Member, Report
+
+__all__ = ["Coalition", "Member", "NotFound", "Refused", "Report", "TooMany", "format_game_file", "report"]
+__version__ = "1.2.0"
+
+Number = Union[int, float]
+
+
+def report(
+    quota: Union[Number, Sequence[Number], None] = None,
+    weights: Union[Sequence[Number], Sequence[Sequence[Number]], None] = None,
+    *,
+    names: Optional[Iterable[object]] = None,
+    title: str = "",
+    file: Union[str, "os.PathLike[str]", None] = None,
+    game: Union[str, bytes, None] = None,
+    coalitions: bool = False,
+    most: int = MOST,
+) -> Report:
+    """Returns both indices of each member of a game.
+
+    Give the game in one of three ways:
+
+    - a quota and the weights: `report(51, [50, 49, 1], names=["A", "B", "C"])`. For several rules,
+      up to four, give a list of quotas, and for each a list of weights:
+      `report([5, 3], [[3, 2, 2, 1], [1, 1, 1, 1]])`. Without names, members are named 1, 2, ..
+    - `file`: the path of a game file.
+    - `game`: the text of a game file, or a text such as "[51; 50, 49, 1]".
+
+    With `coalitions=True` the report has the list of all minimal winning coalitions, and a game
+    with more than `most` of them raises `TooMany`; `most` is at most 4,000,000. Without it, they
+    are counted, however many there are.
+
+    Raises:
+        Refused: council refuses the game, for example because a weight has decimals.
+        NotFound: neither the library nor the program was found.
+        OSError: the file cannot be read.
+    """
+    given = [quota is not None or weights is not None, file is not None, game is not None]
+    if sum(given) != 1:
+        raise TypeError("give a quota and weights, or a file, or a game")
+    if not 1 <= most <= MOST:
+        raise ValueError(f"most is from 1 to {MOST:,}")
+    if given[0]:
+        data = format_game_file(quota, weights, names=names, title=title).encode("utf-8", "surrogatepass")
+    else:
+        if names is not None or title:
+            raise TypeError("names and a title belong to a quota and weights")
+        data = read(file) if file is not None else game if isinstance(game, bytes) else str(game).encode("utf-8", "surrogatepass")
+    return Report.from_text(compute(data, listed=coalitions, most=most), coalitions)
+
+
+def read(path: Union[str, "os.PathLike[str]"]) -> bytes:
+    """Reads a game file, and no more of it than shows that it is too long."""
+    with open(path, "rb") as it:
+        return it.read(GAME_FILE + 1)
+
+
+def format_game_file(quota: Any, weights: Any, *, names: Optional[Iterable[object]] = None, title: str = "") -> str:
+    """Returns the text of the game file of a quota and weights, as `report` takes them."""
+    if quota is None or weights is None:
+        raise TypeError("give a quota and weights")
+    if is_number(quota):
+        quotas, columns = [write_number(quota)], [[write_number(it) for it in weights]]
+    else:
+        quotas, columns = [write_number(it) for it in quota], [[write_number(it) for it in column] for column in weights]
+    if len(columns) != len(quotas):
+        raise ValueError(f"there are {len(quotas)} quotas, and {len(columns)} lists of weights")
+    members = len(columns[0]) if columns else 0
+    if any(len(it) != members for it in columns):
+        raise ValueError("the lists of weights are not equally long")
+    called = [write_name(it) for it in names] if names is not None else [str(it) for it in range(1, members + 1)]
+    if len(called) != members:
+        raise ValueError(f"there are {members} weights, and {len(called)} names")
+    return format_game(called, quotas, list(zip(*columns)), title)
+
+
+def is_number(value: Any) -> bool:
+    """Returns whether a value is one number, and not a list or an array of them."""
+    if isinstance(value, (numbers.Real, Decimal)):
+        return True
+    try:
+        operator.index(value)
+    except TypeError:
+        return False
+    return True
+
+
+def write_number(value: Any) -> str:
+    """Writes a quota or a weight. A whole number stays exact, of whatever type it is; any other is
+    written with its decimals, and council says what is wrong with it."""
+    try:
+        return str(int(operator.index(value)))
+    except TypeError:
+        if not is_number(value):
+            raise TypeError(f"{value!r} is no number") from None
+    try:
+        whole = int(value)
+    except (OverflowError, ValueError):
+        return repr(float(value))
+    return str(whole) if whole == value else repr(float(value))
+
+
+def write_name(value: Any) -> str:
+    """Writes a name, which is a text or a whole number."""
+    if isinstance(value, str):
+        return str(value)
+    try:
+        return str(int(operator.index(value)))
+    except TypeError:
+        raise TypeError(f"{value!r} is no name") from None

@@ -1,0 +1,225 @@
+"""Reads a report of the program council: the title, the quotas, the members with both indices, and
+the coalitions if it lists them."""
+from __future__ import annotations
+
+import gc
+import math
+from fractions import Fraction
+from typing import Any, Callable, Iterable, NamedTuple, Optional
+
+
+class Fault(Exception):
+    """A message of one line for the user, and the status with which a tool ends."""
+
+    def __init__(self, text: object, status: int = 1):
+        super().__init__(text)
+        self.status = status
+
+
+class Member(NamedTuple):
+    """A member of a game, with both indices.
+
+    `weights` has a number for each rule, and `coalitions` is the number of minimal winning
+    coalitions with this member. `deegan_packel` and `public_good` are the doubles nearest to the
+    exact indices.
+    """
+
+    name: str
+    weights: tuple[int, ...]
+    coalitions: int
+    deegan_packel: float
+    public_good: float
+    deegan_packel_exact: Fraction
+    public_good_exact: Fraction
+
+
+class Coalition(NamedTuple):
+    """A minimal winning coalition: the names of its members, and its weight under each rule."""
+
+    members: tuple[str, ...]
+    weights: tuple[int, ...]
+
+
+def read_number(text: str) -> int:
+    """Reads a number of a report, which has only digits."""
+    if not (text.isascii() and text.isdigit()):
+        raise ValueError(text)
+    return int(text)
+
+
+def read_numbers(text: str) -> tuple[int, ...]:
+    """Reads a field that has one number for each rule, with / between them."""
+    return tuple(map(read_number, text.split("/")))
+
+
+def write_fraction(value: Fraction) -> str:
+    """Writes a fraction as a report has it: 0 is 0/1."""
+    return f"{value.numerator}/{value.denominator}"
+
+
+def cut_off(value: Fraction, places: int = 6) -> str:
+    """Writes a value of at least 0 with this number of decimals, and cuts off the others."""
+    digits = str(math.floor(value * 10**places)).rjust(places + 1, "0")
+    return digits[:-places] + "." + digits[-places:] if places else digits
+
+
+def round_half_up(value: Fraction, places: int) -> str:
+    """Writes a value of at least 0 with this number of decimals, a half rounded upwards."""
+    return cut_off(value + Fraction(1, 2 * 10**places), places)
+
+
+def read_index(fraction: str, decimals: str) -> Fraction:
+    """Reads an index from its two fields, which must agree."""
+    top, bottom = fraction.split("/")
+    value = Fraction(read_number(top), read_number(bottom))
+    if cut_off(value) != decimals:
+        raise ValueError(decimals)
+    return value
+
+
+def read_member(name: str, weights: str, coalitions: str, dp: str, dp_decimals: str, pg: str, pg_decimals: str) -> Member:
+    """Reads the fields of a line `member`."""
+    one, other = read_index(dp, dp_decimals), read_index(pg, pg_decimals)
+    return Member(name, read_numbers(weights), read_number(coalitions), float(one), float(other), one, other)
+
+
+def read_coalition(size: str, weights: str, *names: str) -> Coalition:
+    """Reads the fields of a line `coalition`."""
+    if read_number(size) != len(names):
+        raise ValueError(size)
+    return Coalition(names, read_numbers(weights))
+
+
+def ignore(_: Coalition) -> None:
+    """Keeps nothing of a coalition."""
+
+
+class Report:
+    """A report, from its lines.
+
+    `title` is a text, `quotas` and `totals` have a number for each rule, `minimal` is the number of
+    minimal winning coalitions, and `members` are in the order of the game. `coalitions` has the
+    list if it was asked for, and is else None.
+
+    Lines have different numbers of fields, and a name may hold quotes: so the fields are split at
+    TABs and nothing else. What is no report is a Fault. A report can list millions of coalitions:
+    if you pass `take`, it is called with one after the other, and the report keeps none.
+    """
+
+    def __init__(self, lines: Iterable[str], take: Optional[Callable[[Coalition], None]] = None):
+        self.members: list[Member] = []
+        # how many coalitions are listed
+        self.listed = 0
+        self._kept: Optional[list[Coalition]] = None
+        # lines of coalitions that nobody has looked at yet
+        self._unread = ""
+        kept: list[Coalition] = []
+        one = self._read(lines, take or kept.append)
+        if kept:
+            self._kept = kept
+        if not one and not self.members:
+            raise Fault("there is no report: nothing was read (was the game refused?)")
+        try:
+            self.title = one.get("title", "")
+            self.quotas, self.totals = read_numbers(one["quota"]), read_numbers(one["total"])
+            self.minimal = read_number(one["minimal"])
+            whole = read_number(one["members"]) == len(self.members) and self.listed <= self.minimal
+        except (KeyError, ValueError):
+            whole = False
+        if not (whole and self._is_sound()):
+            raise Fault("the report is not whole, or its numbers are not those of council")
+
+    def _read(self, lines: Iterable[str], take: Callable[[Coalition], None]) -> dict[str, str]:
+        """Reads the lines, and returns the fields of those that a report has once."""
+        one: dict[str, str] = {}
+        for at, line in enumerate(lines, 1):
+            kind, *fields = line.rstrip("\r\n").split("\t")
+            try:
+                if kind == "member":
+                    self.members.append(read_member(*fields))
+                elif kind == "coalition":
+                    take(read_coalition(*fields))
+                    self.listed += 1
+                elif kind in ("title", "members", "quota", "total", "minimal"):
+                    (one[kind],) = fields
+                elif kind not in ("notation", "size"):
+                    raise ValueError(kind)
+            except (TypeError, ValueError, ZeroDivisionError):
+                raise Fault(f"line {at} is no line of a report of council") from None
+        return one
+
+    @classmethod
+    def from_text(cls, text: str, listed: bool = False) -> Report:
+        """Returns the report in a text. Its coalitions, if it was asked to list them, are read when
+        somebody first looks at them."""
+        first = text.find("\ncoalition\t") + 1
+        last = text.find("\nmember\t") + 1
+        unread = text[first:last] if 0 < first < last else ""
+        it = cls((text[:first] + text[last:] if unread else text).split("\n")[:-1], ignore)
+        it._unread, it.listed = unread, unread.count("\n")
+        if it.listed not in (0, it.minimal):
+            raise Fault("the report is not whole, or its numbers are not those of council")
+        if listed and not unread:
+            it._kept = []
+        return it
+
+    @property
+    def coalitions(self) -> Optional[list[Coalition]]:
+        """The minimal winning coalitions, if they were asked for; else None."""
+        if self._unread:
+            self._kept = self._read_coalitions(self._unread)
+            self._unread = ""
+        return self._kept
+
+    def _read_coalitions(self, text: str) -> list[Coalition]:
+        """Reads the lines of coalitions. They share the texts of the names."""
+        names = {it.name: it.name for it in self.members}
+        weights: dict[str, tuple[int, ...]] = {}
+        kept = []
+        # (a list of millions of tuples has no cycles to look for)
+        collects = gc.isenabled()
+        gc.disable()
+        try:
+            for line in text.split("\n")[:-1]:
+                _, size, weight, *members = line.split("\t")
+                if weight not in weights:
+                    weights[weight] = read_numbers(weight)
+                if int(size) != len(members):
+                    raise Fault("the report is not whole, or its numbers are not those of council")
+                kept.append(Coalition(tuple([names[it] for it in members]), weights[weight]))
+        finally:
+            if collects:
+                gc.enable()
+        return kept
+
+    def rows(self) -> list[dict[str, Any]]:
+        """Returns a row for each member, with the columns of `council-tools export`: with several
+        rules there is a column weight_1, weight_2, .. for each."""
+        several = len(self.quotas) > 1
+        table = []
+        for it in self.members:
+            row = it._asdict()
+            weights = row.pop("weights")
+            named = {f"weight_{rule}": weight for rule, weight in enumerate(weights, 1)} if several else {"weight": weights[0]}
+            table.append({"name": row.pop("name"), **named, **row})
+        return table
+
+    def heading(self) -> str:
+        """Returns the heading of a table or a picture: the title, if it has a letter."""
+        return self.title if self.title.strip() else "A game"
+
+    def share(self, member: Member, rule: int = 0) -> Fraction:
+        """Returns a member's share of the weights of a rule."""
+        return Fraction(member.weights[rule], self.totals[rule])
+
+    def _is_sound(self) -> bool:
+        """Returns whether the weights of each rule add up to its total, and each index to 1."""
+        rules = len(self.quotas)
+        if len(self.totals) != rules or any(len(it.weights) != rules for it in self.members):
+            return False
+        sums = tuple(sum(it.weights[rule] for it in self.members) for rule in range(rules))
+        ones = [sum(it.deegan_packel_exact for it in self.members), sum(it.public_good_exact for it in self.members)]
+        return sums == self.totals and min(sums) > 0 and ones == [1, 1]
+
+    def __repr__(self) -> str:
+        return f"<council.Report {self.heading()!r}: {len(self.members)} members, {self.minimal:,} minimal winning coalitions>"

@@ -1,0 +1,138 @@
+"""What the tools share: their options, their faults, and the files they read."""
+from __future__ import annotations
+
+import argparse
+import os
+import sys
+from typing import Callable, Iterable, NoReturn, Optional, Sequence, TextIO, TypeVar
+
+from ..engine import NotFound, Refused
+from ..game import GAME_FILE, Unit, check_same, find_comments, read_units
+from ..reports import Coalition, Fault, Report, ignore
+
+# the name of the tool that runs
+NAME = ["council-tools"]
+T = TypeVar("T")
+
+
+def make_printable(text: object) -> str:
+    """Puts a text of the user on one line: each letter that moves a terminal, ends a line or shows
+    nothing is a blank."""
+    return "".join(it if it.isprintable() else " " for it in str(text))
+
+
+class Words(argparse.ArgumentParser):
+    """Reads the words of a command line. A fault in them is one line, with status 2."""
+
+    def __init__(self, name: str, about: str) -> None:
+        super().__init__(prog=f"council-tools {name}", description=about, formatter_class=argparse.RawDescriptionHelpFormatter, allow_abbrev=False)
+
+    def parse_args(self, words: Sequence[str]) -> argparse.Namespace:
+        """Reads the words, with options before, between and after the files."""
+        return self.parse_intermixed_args(words)
+
+    def error(self, message: str) -> NoReturn:
+        raise Fault(f"{message} (--help says more)", 2)
+
+
+def add_report(reader: argparse.ArgumentParser) -> None:
+    """Adds the report that a tool reads."""
+    reader.add_argument("report", metavar="REPORT", nargs="?", default="-", help="a report of council; without one, or as -, standard input")
+
+
+def run(main: Callable[[list[str]], None], words: list[str]) -> int:
+    """Runs a tool on its words, and returns the exit status. Each fault is one line and a status,
+    never a traceback."""
+    try:
+        sys.stdin = sys.stdin or open(os.devnull, encoding="utf-8")
+        sys.stdout = sys.stdout or open(os.devnull, "r+", encoding="utf-8")
+        sys.stderr = sys.stderr or open(os.devnull, "r+", encoding="utf-8")
+        sys.stdin.reconfigure(encoding="utf-8-sig")
+        sys.stdout.reconfigure(encoding="utf-8", newline="\n")
+        sys.stderr.reconfigure(errors="backslashreplace")
+        if any("\ud800" <= letter <= "\udfff" for it in words for letter in it):
+            raise Fault("the command line is not UTF-8", 2)
+        main(words)
+        sys.stdout.flush()
+    except Fault as it:
+        return tell(it, it.status)
+    except Refused as it:
+        return tell("; ".join(["council: " + it.fault, *filter(None, it.explanation.split("\n"))]), it.status)
+    except NotFound as it:
+        return tell(it, 1)
+    except UnicodeDecodeError:
+        return tell("what was read is not UTF-8", 1)
+    except MemoryError:
+        return tell("out of memory", 5)
+    except OSError as it:
+        if it.filename:
+            return tell(f"{it.filename}: {it.strerror}", 1)
+        drop(sys.stdout)
+        return tell("output failed", 1)
+    except KeyboardInterrupt:
+        return 130
+    return 0
+
+
+def tell(text: object, status: int) -> int:
+    """Says a line on standard error, if that takes it; returns the status."""
+    try:
+        print(f"{NAME[-1]}: {make_printable(text)}", file=sys.stderr, flush=True)
+    except OSError:
+        drop(sys.stderr)
+    return status
+
+
+def drop(file: TextIO) -> None:
+    """Discards what is written to a file from now on, and what it still has to write."""
+    os.dup2(os.open(os.devnull, os.O_WRONLY), file.fileno())
+
+
+def note(text: str) -> None:
+    """Says what is no fault, but what a user may want to know."""
+    tell(text, 0)
+
+
+def warn_of_low_quotas(quotas: Sequence[int], totals: Sequence[int]) -> None:
+    """Warns of each quota that is at most half of its total: of 0.85 read as one vote, and of a
+    game in which two coalitions without a common member both win."""
+    low = [rule for rule, (quota, total) in enumerate(zip(quotas, totals)) if 2 * quota <= total]
+    both = ": two coalitions without a common member could both win" if len(low) == len(quotas) else ""
+    for rule in low:
+        of = f" of rule {rule + 1}" if len(quotas) > 1 else ""
+        note(f"the quota {quotas[rule]:,}{of} is at most half of the total, {totals[rule]:,}{both}")
+
+
+def read_lines(path: str, make: Callable[[TextIO], T]) -> T:
+    """Makes something of the lines of a file; - is standard input."""
+    if path == "-":
+        return make(sys.stdin)
+    with open(path, encoding="utf-8-sig") as it:
+        try:
+            return make(it)
+        except Fault as fault:
+            raise Fault(f"{path}: {fault}") from None
+        except UnicodeDecodeError:
+            raise Fault(f"{path}: it is not UTF-8") from None
+
+
+def read_report(path: str, take: Callable[[Coalition], None] = ignore) -> Report:
+    """Reads the report in a file; - is standard input. `take` gets its coalitions."""
+    return read_lines(path, lambda lines: Report(lines, take))
+
+
+def read_comments(path: Optional[str], report: Report) -> tuple[list[str], list[Unit]]:
+    """Returns the comments of the game file of a report, and the units of its rules; none if there
+    is no file."""
+    if path is None:
+        return [], read_units([], len(report.quotas))
+
+    def make(file: TextIO) -> str:
+        text = file.read(GAME_FILE + 1)
+        if len(text) > GAME_FILE:
+            raise Fault(f"the game file is longer than {GAME_FILE} bytes")
+        check_same(text, report)
+        return text
+
+    comments = find_comments(read_lines(path, make))
+    return comments, read_units(comments, len(report.quotas))

@@ -1,0 +1,230 @@
+"""Computes both indices of a game for each quota of a range, in one long table:
+
+    council-tools sweep [OPTIONS] [GAME] >TABLE
+
+GAME is a game file; without one, or as -, it is standard input. The table has a line for each
+quota and member, with the columns quota, name, deegan_packel and public_good (decimals, cut off
+after six), deegan_packel_exact and public_good_exact (fractions), separated by TABs. Without --from
+and --to it goes from 1 to the total of the rule. Lines are written as they are computed.
+--picture draws a line for each member; members whose lines are the same share one.
+"""
+from __future__ import annotations
+
+import argparse
+import itertools
+import math
+import sys
+import time
+from fractions import Fraction
+from typing import Any, Callable, Iterable, Iterator, Optional, Sequence
+
+from ..engine import Refused, compute, find_program
+from ..game import Unit, find_comments, quote, read_units, write_game
+from ..reports import Fault, Member, Report, cut_off, ignore, round_half_up, write_fraction
+from .cells import count_decimals
+from .command import Words, make_printable, note
+from .drawing import COLORS, DASHES, find_round_step, find_ticks, measure, wrap, write_picture, write_text
+
+MOST = 20000
+LEFT, WIDE, SMALL = 60, 560, 10
+KINDS: dict[str, tuple[str, Callable[[Member], Fraction]]] = {"deegan_packel": ("Deegan-Packel index", lambda it: it.deegan_packel_exact), "public_good": ("public good index", lambda it: it.public_good_exact)}
+
+
+def sweep(program: Optional[str], start: Report, rule: int, quotas: range) -> Iterator[tuple[int, Report]]:
+    """Yields each of these quotas of a rule, with the report of the game. It tries the last quota
+    before the others, so you hear at once of one that is out of range."""
+    names = [it.name for it in start.members]
+    weights = [it.weights for it in start.members]
+
+    def find_report(quota: int) -> Report:
+        its = [*start.quotas[:rule], quota, *start.quotas[rule + 1 :]]
+        try:
+            return Report.from_text(compute(write_game(names, its, weights).encode("utf-8"), program=program))
+        except Refused as it:
+            raise Fault(f"quota {quota}: council: {it.fault}", it.status) from None
+
+    last = find_report(quotas[-1])
+    for quota in quotas[:-1]:
+        yield quota, find_report(quota)
+    yield quotas[-1], last
+
+
+class Progress:
+    """A line on the terminal that says how far a sweep is, if its rows go elsewhere."""
+
+    def __init__(self, number: int) -> None:
+        self.number, self.begun, self.done, self.shown = number, time.monotonic(), 0, 0.0
+        self.is_on = sys.stderr.isatty() and not sys.stdout.isatty()
+
+    def step(self) -> None:
+        """Counts a quota. The line comes after a second, and changes five times a second."""
+        self.done += 1
+        now = time.monotonic()
+        if self.is_on and now - self.begun > 1 and now - self.shown > 0.2:
+            self.shown = now
+            left = (now - self.begun) / self.done * (self.number - self.done)
+            print(f"\rcouncil-tools sweep: {self.done:,} of {self.number:,} quotas, some {left:,.0f} s left\x1b[K", end="", file=sys.stderr, flush=True)
+
+    def end(self) -> None:
+        """Takes the line away."""
+        if self.shown:
+            print("\r\x1b[K", end="", file=sys.stderr, flush=True)
+
+
+def write_rows(reports: Iterable[tuple[int, Report]], progress: Progress, take: Callable[[Any], None]) -> None:
+    """Writes the table row by row, as the reports come. `take` gets each of them."""
+    print("quota", "name", "deegan_packel", "public_good", "deegan_packel_exact", "public_good_exact", sep="\t")
+    # a file gets each name as it is, and a terminal none that moves it
+    write_name = make_printable if sys.stdout.isatty() else str
+    try:
+        for quota, report in reports:
+            for it in report.members:
+                dp, pg = it.deegan_packel_exact, it.public_good_exact
+                print(quota, write_name(it.name), cut_off(dp), cut_off(pg), write_fraction(dp), write_fraction(pg), sep="\t")
+            sys.stdout.flush()
+            take((quota, report))
+            progress.step()
+    finally:
+        progress.end()
+
+
+def find_quotas(words: argparse.Namespace, total: int) -> range:
+    """Returns the quotas of the sweep."""
+    first = 1 if words.first is None else words.first
+    last = total if words.last is None else words.last
+    if words.step < 1 or first > last:
+        raise Fault(f"there is no quota from {first} to {last} in steps of {words.step}", 2)
+    # (Python has no length of a range of twenty digits)
+    number = (last - first) // words.step + 1
+    if number > MOST:
+        raise Fault(f"from {first} to {last} there are {number} quotas, and {MOST} are the most: --from, --to and --step choose some", 2)
+    return range(first, last + 1, words.step)
+
+
+def warn_of_half(start: Report, rule: int, quotas: range) -> None:
+    """Warns of quotas of the sweep with which two coalitions without a common member could both
+    win."""
+    low = [it for it in quotas if 2 * it <= start.totals[rule]]
+    others = [2 * quota <= total for quota, total in zip(start.quotas, start.totals)]
+    if low and all(others[:rule] + others[rule + 1 :]):
+        of = f" of rule {rule + 1}" if len(others) > 1 else ""
+        note(f"quotas up to {low[-1]:,}{of} are at most half of the total, {start.totals[rule]:,}: two coalitions without a common member could both win")
+
+
+def spread(wanted: Sequence[float], heights: Sequence[float], first: float, last: float) -> list[float]:
+    """Returns a place for each label from `first` to `last`, near the wanted ones, and none over
+    another."""
+    order = sorted(range(len(wanted)), key=lambda it: wanted[it])
+    found = {}
+    for at in order:
+        found[at] = max(wanted[at], first)
+        first = found[at] + heights[at]
+    for at in reversed(order):
+        last -= heights[at]
+        found[at] = last = min(found[at], last)
+    return [found[at] for at in range(len(wanted))]
+
+
+class Axes:
+    """The axes of a sweep: the quota from left to right, the index upwards, each with round
+    numbers."""
+
+    def __init__(self, first: int, last: int, top: Fraction, unit: Unit, high: float) -> None:
+        self.first, self.last, self.high, self.up, self.unit = first, last, high, 0, unit
+        self.step = find_round_step(top, 5)
+        self.top = self.step * math.ceil(top / self.step)
+        most = max(1, min(6, int(WIDE / (measure(unit.write(last), SMALL) + 14))))
+        self.quotas = [int(it) for it in find_ticks(first, last, most, whole=True)] or [first]
+
+    def find_x(self, quota: int) -> float:
+        return LEFT + (WIDE * (quota - self.first) / (self.last - self.first) if self.last > self.first else WIDE / 2)
+
+    def find_y(self, index: Fraction) -> float:
+        return self.up + self.high - self.high * float(index / self.top)
+
+    def find_point(self, quota: int, index: Fraction) -> str:
+        return f"{self.find_x(quota):.2f},{self.find_y(index):.2f}"
+
+    def draw(self) -> Iterator[str]:
+        places = count_decimals(self.step)
+        for at in range(int(self.top / self.step) + 1):
+            y = self.find_y(self.step * at)
+            yield f'<path d="M{LEFT} {y:.2f}h{WIDE}" stroke="#dddddd"/>'
+            yield write_text(LEFT - 6, y + 4, round_half_up(self.step * at, places), SMALL, "end", ' class="index"')
+        for it in self.quotas:
+            x = self.find_x(it)
+            yield f'<path d="M{x:.2f} {self.up + self.high:.2f}v5" stroke="#777777"/>'
+            yield write_text(x, self.up + self.high + 17, self.unit.write(it), SMALL, "middle", ' class="quota"')
+
+
+def draw(start: Report, rule: int, reports: Sequence[tuple[int, Report]], kind: str, unit: Unit) -> Iterator[str]:
+    """Draws the picture: a line for each index over the quotas, with the names of its members at
+    its end."""
+    title, value = KINDS[kind]
+    lines: dict[tuple[Fraction, ...], list[str]] = {}
+    for at, it in enumerate(start.members):
+        lines.setdefault(tuple(value(report.members[at]) for _, report in reports), []).append(it.name)
+    labels = [wrap(names, 260, 12, ", ") for names in lines.values()]
+    heights = [15 * len(it) + 3 for it in labels]
+    axes = Axes(reports[0][0], reports[-1][0], max(map(max, lines)), unit, max(360, sum(heights)))
+    head = wrap(start.heading().split(), LEFT + WIDE + 200, 14)
+    of = f" of rule {rule + 1}" if len(start.quotas) > 1 else ""
+    of += f", {quote(unit.name)}" if unit.name else ""
+    what = f"{title}, by the quota{of} (total {unit.write(start.totals[rule])})"
+    parts = [write_text(8, 22 + 18 * at, it, 14, more=' font-weight="bold"') for at, it in enumerate(head)]
+    parts.append(write_text(8, 24 + 18 * len(head), what))
+    axes.up = 46 + 18 * len(head)
+    parts += axes.draw()
+
+    quotas, right = [quota for quota, _ in reports], LEFT + WIDE + 60
+    ends = [axes.find_y(values[-1]) for values in lines]
+    for at, (values, label, end, y) in enumerate(zip(lines, labels, ends, spread(ends, heights, axes.up, axes.up + axes.high))):
+        style = f'stroke="{COLORS[at % len(COLORS)]}" stroke-width="2" stroke-dasharray="{DASHES[at // len(COLORS) % len(DASHES)]}"'
+        points = [axes.find_point(quota, it) for quota, it in zip(quotas, values)]
+        x = axes.find_x(quotas[-1])
+        if len(points) == 1:
+            parts.append(f'<circle cx="{x:.2f}" cy="{end:.2f}" r="4" fill="{COLORS[at % len(COLORS)]}"/>')
+        parts.append(f'<polyline points="{" ".join(points)}" fill="none" {style}/>')
+        parts.append(f'<path class="leader" d="M{x:.2f} {end:.2f}L{LEFT + WIDE + 40} {y:.2f}h12" fill="none" {style}/>')
+        for row, it in enumerate(label):
+            parts.append(write_text(LEFT + WIDE + 56, y + 4 + 15 * row, it, more=' class="member"'))
+            right = max(right, LEFT + WIDE + 56 + measure(it, 12))
+    wide = max(right, 8 + measure(what, 12), *(measure(it, 14) for it in head))
+    return write_picture(wide + 16, axes.up + axes.high + 30, parts, start.heading())
+
+
+def main(args: list[str]) -> None:
+    reader = Words("sweep", __doc__)
+    reader.add_argument("game", metavar="GAME", nargs="?", default="-", help="a game file; without one, or as -, standard input")
+    reader.add_argument("--rule", metavar="N", type=int, default=1, help="the rule whose quota is changed, counted from 1; else the first")
+    reader.add_argument("--from", metavar="QUOTA", dest="first", type=int, help="the first quota; else 1")
+    reader.add_argument("--to", metavar="QUOTA", dest="last", type=int, help="the last quota; else the total")
+    reader.add_argument("--step", metavar="N", type=int, default=1, help="from one quota to the next; else 1")
+    reader.add_argument("--picture", metavar="FILE", help="also draw the sweep, as an SVG file")
+    reader.add_argument("--index", choices=sorted(KINDS), default="public_good", help="the index that is drawn; else the public good index")
+    reader.add_argument("--program", metavar="PROGRAM", help="the program council; else the one of this clone or archive, or the one on the PATH")
+    words = reader.parse_args(args)
+    if words.game == "-":
+        game = sys.stdin.buffer.read()
+    else:
+        with open(words.game, "rb") as it:
+            game = it.read()
+    program = find_program(words.program) if words.program else None
+    start = Report.from_text(compute(game, program=program))
+    if not 1 <= words.rule <= len(start.quotas):
+        raise Fault(f"there is no rule {words.rule}: the game has {len(start.quotas)}", 2)
+    rule = words.rule - 1
+    quotas = find_quotas(words, start.totals[rule])
+    reports = sweep(program, start, rule, quotas)
+    # the first report shows that no quota is out of range
+    first = next(reports)
+    warn_of_half(start, rule, quotas)
+    rows, progress = itertools.chain([first], reports), Progress(len(quotas))
+    if not words.picture:
+        write_rows(rows, progress, ignore)
+        return
+    with open(words.picture, "w", encoding="utf-8", newline="\n") as it:
+        unit = read_units(find_comments(game.decode("utf-8-sig")), len(start.quotas))[rule]
+        kept: list[tuple[int, Report]] = []
+        write_rows(rows, progress, kept.append)
+        it.writelines(line + "\n" for line in draw(start, rule, kept, words.index, unit))

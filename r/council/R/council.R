@@ -1,0 +1,198 @@
+# The report of a game as a data frame, computed by the program council.
+
+# The most coalitions that the program can list.
+MOST <- 4000000
+
+# The greatest game file, in bytes.
+GAME_FILE <- 65536L
+
+council <- function(quota, weights, names = NULL, title = "", file = NULL, game = NULL,
+                    coalitions = FALSE, program = NULL) {
+  given <- c(!missing(quota) || !missing(weights), !is.null(file), !is.null(game))
+  if (sum(given) != 1) {
+    stop("give a quota and weights, or a file, or a game")
+  }
+  if (!given[1] && (!is.null(names) || !identical(title, ""))) {
+    stop("names and a title belong to a quota and weights")
+  }
+  bytes <- if (given[1]) {
+    if (missing(quota) || missing(weights)) stop("give a quota and weights")
+    format_game(quota, weights, names, title)
+  } else if (given[2]) {
+    read_bytes(file)
+  } else {
+    charToRaw(enc2utf8(paste(game, collapse = "\n")))
+  }
+  done <- run_program(find_program(program), bytes, coalitions)
+  if (done$status != 0) {
+    stop(refuse(done$status, done$err, bytes, sys.call()))
+  }
+  read_report(done$out, coalitions)
+}
+
+# Reads a game file, and no more of it than shows that it is too long.
+read_bytes <- function(file) {
+  if (!file.exists(file)) {
+    stop("there is no file ", file)
+  }
+  readBin(file, "raw", GAME_FILE + 1L)
+}
+
+# Returns the program: the one that is named, the one that the option council.program or the
+# environment variable COUNCIL_PROGRAM names, or the one on the PATH. A launcher of a clone is never
+# run, because it may prove for minutes: the program that it has built is.
+find_program <- function(program = NULL) {
+  named <- c(program, getOption("council.program"), Sys.getenv("COUNCIL_PROGRAM"))
+  named <- named[nzchar(named)]
+  path <- unname(Sys.which(if (length(named)) named[1] else "council"))
+  if (!nzchar(path)) {
+    stop("the program council was not found: put it on the PATH, or name it by program =")
+  }
+  path <- normalizePath(path)
+  top <- dirname(path)
+  if (identical(readBin(path, "raw", 2L), charToRaw("#!")) && file.exists(file.path(top, "tools", "built.sh"))) {
+    path <- file.path(top, "crates", "council", "out", "council")
+    if (!file.exists(path)) {
+      stop("the program of ", top, " was never built: run ", top, "/council once, which takes 7 to 20 minutes")
+    }
+  }
+  path
+}
+
+# Runs the program on the bytes of a game file: its status, and the lines of its output and of its
+# standard error.
+run_program <- function(program, bytes, coalitions) {
+  files <- tempfile(c("game", "out", "err"))
+  on.exit(unlink(files))
+  writeBin(bytes, files[1])
+  words <- c("--explain", if (coalitions) c("--list", "--most", format(MOST, scientific = FALSE)) else "--tally")
+  status <- system2(program, c(words, shQuote(files[1])), stdout = files[2], stderr = files[3])
+  read <- function(path) readLines(path, encoding = "UTF-8", warn = FALSE)
+  list(status = status, out = read(files[2]), err = read(files[3]))
+}
+
+# Returns the condition of a game that the program refuses.
+refuse <- function(status, lines, bytes, call) {
+  fault <- if (length(lines)) sub("^council: ", "", lines[1]) else paste("council ended with status", status)
+  explanation <- sub("^  ", "", lines[-1])
+  first <- regmatches(explanation[1], regexec("^line ([0-9]+)(, column [0-9]+)?:", explanation[1]))[[1]]
+  line <- if (length(explanation) && length(first)) as.integer(first[2]) else NA_integer_
+  errorCondition(
+    paste(c(fault, explanation), collapse = "\n"),
+    fault = fault, line = line, explanation = explanation, status = status, game = bytes,
+    class = "council_refused", call = call
+  )
+}
+
+# Returns the bytes of the game file of a quota and weights.
+format_game <- function(quota, weights, names, title) {
+  columns <- if (is.list(weights)) unname(as.list(weights)) else if (is.matrix(weights)) {
+    lapply(seq_len(ncol(weights)), function(rule) weights[, rule])
+  } else {
+    list(weights)
+  }
+  if (length(columns) != length(quota)) {
+    stop("there are ", length(quota), " quotas, and ", length(columns), " columns of weights")
+  }
+  members <- lengths(columns)
+  if (length(members) == 0 || any(members != members[1])) {
+    stop("the columns of weights are not equally long")
+  }
+  if (is.null(names)) names <- find_names(weights, members[1])
+  if (length(names) != members[1]) {
+    stop("there are ", members[1], " weights, and ", length(names), " names")
+  }
+  if (anyNA(names)) stop("a name is NA")
+  quotas <- write_numbers(quota, "quota")
+  table <- vapply(columns, write_numbers, character(members[1]), what = "weight")
+  table <- matrix(table, nrow = members[1])
+  several <- length(quota) > 1
+  bytes <- list(if (nzchar(title)) write_line("title", quote_text(title)), write_values("quota", quotas, several))
+  for (member in seq_len(members[1])) {
+    line <- write_line("name", quote_text(as.character(names[member])))
+    bytes <- c(bytes, list(charToRaw("\n[[member]]\n"), line, write_values("weight", table[member, ], several)))
+  }
+  unlist(bytes)
+}
+
+# Returns the names that the weights have themselves; else 1, 2, ..
+find_names <- function(weights, members) {
+  own <- if (is.data.frame(weights)) {
+    if (is.character(attr(weights, "row.names"))) row.names(weights)
+  } else if (is.matrix(weights)) {
+    rownames(weights)
+  } else if (!is.list(weights)) {
+    names(weights)
+  }
+  if (is.null(own)) as.character(seq_len(members)) else own
+}
+
+# Writes whole numbers exactly; others with their decimals, and council says what is wrong with them.
+write_numbers <- function(values, what) {
+  if (!is.numeric(values)) stop("a ", what, " is no number")
+  if (anyNA(values)) stop("a ", what, " is NA")
+  values <- as.numeric(values)
+  text <- tolower(sprintf("%.15g", values))
+  whole <- is.finite(values) & values == floor(values)
+  text[whole] <- sprintf("%.0f", values[whole])
+  text
+}
+
+write_line <- function(key, value) c(charToRaw(paste(key, "= ")), value, charToRaw("\n"))
+
+write_values <- function(key, values, several) {
+  text <- if (several) paste0("[", paste(values, collapse = ", "), "]") else values
+  write_line(if (several) paste0(key, "s") else key, charToRaw(text))
+}
+
+# What each byte is in a TOML text in quotes.
+QUOTED <- lapply(0:255, function(byte) {
+  if (byte %in% c(34, 92)) {
+    as.raw(c(92, byte))
+  } else if (byte < 32 || byte == 127) {
+    charToRaw(sprintf("\\u%04X", byte))
+  } else {
+    as.raw(byte)
+  }
+})
+
+quote_text <- function(text) {
+  mark <- charToRaw("\"")
+  c(mark, unlist(QUOTED[as.integer(charToRaw(enc2utf8(text))) + 1L]), mark)
+}
+
+# Makes the data frame of the lines of a report. Fields are separated by TABs, and quotes in names
+# mean nothing.
+read_report <- function(lines, coalitions) {
+  fields <- strsplit(lines, "\t", fixed = TRUE)
+  kinds <- vapply(fields, `[`, "", 1L)
+  find <- function(kind) fields[kinds == kind]
+  field <- function(kind) if (any(kinds == kind)) c(find(kind)[[1]], "")[2] else ""
+  read_numbers <- function(text) as.numeric(strsplit(text, "/", fixed = TRUE)[[1]])
+  members <- find("member")
+  column <- function(at) vapply(members, `[`, "", at)
+  weights <- lapply(column(3L), read_numbers)
+  rules <- length(weights[[1]])
+  table <- data.frame(name = column(2L), stringsAsFactors = FALSE)
+  for (rule in seq_len(rules)) {
+    table[[if (rules > 1) paste0("weight_", rule) else "weight"]] <- vapply(weights, `[`, 0, rule)
+  }
+  table$coalitions <- as.numeric(column(4L))
+  table$deegan_packel <- divide(column(5L))
+  table$public_good <- divide(column(7L))
+  table$deegan_packel_exact <- column(5L)
+  table$public_good_exact <- column(7L)
+  attr(table, "title") <- field("title")
+  attr(table, "quota") <- read_numbers(field("quota"))
+  attr(table, "total") <- read_numbers(field("total"))
+  attr(table, "minimal") <- as.numeric(field("minimal"))
+  if (coalitions) {
+    attr(table, "coalitions") <- lapply(find("coalition"), `[`, -(1:3))
+  }
+  table
+}
+
+# Divides fractions, written as top/bottom.
+divide <- function(fractions) {
+  vapply(strsplit(fractions, "/", fixed = TRUE), function(it) as.numeric(it[1]) / as.numeric(it[2]), 0)
+}

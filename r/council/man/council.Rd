@@ -1,0 +1,62 @@
+\name{council}
+\alias{council}
+\title{Power indices of a weighted voting game}
+\description{
+Computes the Deegan-Packel index and the public good index of each member of a weighted voting game,
+by the program \command{council}, whose functions are proved to meet their contracts.
+}
+\usage{
+council(quota, weights, names = NULL, title = "", file = NULL, game = NULL,
+        coalitions = FALSE, program = NULL)
+}
+\arguments{
+\item{quota}{the quota: a coalition wins if its weight is at least that. For several rules, up to four, a
+  vector of quotas; a coalition wins if it meets all rules.}
+\item{weights}{the weight of each member, in a vector. For several rules, a matrix, a data frame or a
+  list with a column for each rule. Weights and quotas are whole numbers.}
+\item{names}{the names of the members; without them, the names that the vector or the rows of the matrix
+  have, or else 1, 2, ..}
+\item{title}{the title of the game.}
+\item{file}{instead of a quota and weights: the path of a game file.}
+\item{game}{instead of them: the text of a game file, or a text such as \code{"[51; 50, 49, 1]"}.}
+\item{coalitions}{whether to list all minimal winning coalitions, at most 4,000,000. Without it they are
+  counted, however many there are.}
+\item{program}{the program; else the one that \code{options(council.program =)} or the environment
+  variable \env{COUNCIL_PROGRAM} names, or the one on the PATH.}
+}
+\value{
+A data frame with a row for each member, in the order of the game:
+\item{name}{the name}
+\item{weight}{the weight; with several rules there are columns \code{weight_1}, \code{weight_2}, ..}
+\item{coalitions}{in how many minimal winning coalitions the member is}
+\item{deegan_packel, public_good}{both indices, as numbers: the exact ones up to two units in the last place}
+\item{deegan_packel_exact, public_good_exact}{both indices as fractions in lowest terms, such as
+  \code{"5/24"}; each column adds up to one exactly}
+It has the attributes \code{title}, \code{quota}, \code{total}, \code{minimal} (the number of minimal
+winning coalitions) and, if you asked for them, \code{coalitions}: a list of vectors of names.
+}
+\section{Refused games}{
+A game that council refuses raises a condition of class \code{council_refused}. Its message says what
+is wrong, where, and what is allowed. Its fields are \code{fault} (such as \code{"bad weight of member
+2"}), \code{line} (the line of the game file, or \code{NA}), \code{explanation}, \code{status} (the exit
+status of the program) and \code{game} (the bytes of the game file).
+}
+\references{
+J. Deegan and E. W. Packel (1978): A New Index of Power for Simple n-Person Games.
+\emph{International Journal of Game Theory} 7(2), 113-123.
+
+M. J. Holler (1982): Forming Coalitions and Measuring Voting Power. \emph{Political Studies} 30(2),
+262-271.
+
+M. J. Holler and E. W. Packel (1983): Power, Luck and the Right Index. \emph{Zeitschrift fuer
+Nationaloekonomie} 43(1), 21-29.
+}
+\examples{
+if (nzchar(Sys.which("council"))) {
+  council(51, c(A = 50, B = 49, C = 1))
+  # two rules: votes and heads
+  council(c(5, 3), cbind(votes = c(3, 2, 2, 1), heads = 1), names = c("A", "B", "C", "D"))
+  # a refused game
+  tryCatch(council(51, c(50, 16.5)), council_refused = function(it) cat(conditionMessage(it)))
+}
+}
