@@ -1,9 +1,10 @@
 //! Worked games, and games that only a pruned walk can end.
 mod refusals;
+mod registers;
 mod statutes;
 mod visits;
 
-use crate::helpers::{game, game_of, same};
+use crate::helpers::{game, game_of, game_of_rules, same};
 use council_game::{Coalition, Game, Rule, plain_list};
 use mwc_walk::{Seek, Walk, list_all, list_slice, slice_count};
 use std::alloc::Global;

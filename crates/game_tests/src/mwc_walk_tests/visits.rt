@@ -48,7 +48,7 @@ fn a_walk_makes_few_visits(rt: HostRuntime) {
 }
 
 /// The walk gives `coalitions` coalitions by `visits` visits.
-fn counts(rt: &impl Abort, game: &Game, coalitions: u64, visits: u64) {
+pub(super) fn counts(rt: &impl Abort, game: &Game, coalitions: u64, visits: u64) {
     let mut walk = Walk::new(game, 0, 0);
     let found = (count(&mut walk), walk.visits());
     same(rt, found, (coalitions, visits), "coalitions and visits");

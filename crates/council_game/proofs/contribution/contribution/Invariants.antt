@@ -1,4 +1,4 @@
-use Rattle.council_game.proofs.Imports.{◌≡◌, ℕ, ◌*◌, ◌≤◌, RuleView, get_or, sum_by, take}
+use Rattle.council_game.proofs.Imports.{◌≡◌, ◌*◌, ◌≤◌, RuleView, get_or, sum_by, take}
 use Rattle.council_game.specs.Contribution.{share_of}
 use Rattle.council_game.proofs.contribution.contribution.Given as goal
 
