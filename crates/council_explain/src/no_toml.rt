@@ -18,7 +18,7 @@ impl Said<'_> {
                     let number = index.saturating_add(1);
                     self.line(format_args!("line {number}: {}", short(line)));
                     self.line(format_args!(
-                        "that looks like a table, with {name} between its columns: docs/using/from_table.py makes a game file of it"
+                        "that looks like a table, with {name} between its columns: council-tools from-table makes a game file of it"
                     ));
                     return true;
                 }
