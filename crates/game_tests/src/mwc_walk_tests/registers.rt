@@ -4,6 +4,7 @@ use super::visits::counts;
 use super::*;
 
 /// A share register of so many holders.
+#[derive(Clone, Copy)]
 struct Register {
     holders: usize,
     /// Where the largest holder is: last, first, or anywhere.
