@@ -17,8 +17,10 @@ A long run: python3 tests/noise.py crates/council/out/council 20000 $RANDOM
 
     noise.py PROGRAM COUNT SEED statutes
 
-runs it on COUNT whole statutes of two to four rules and up to 40 members instead. Each with fewer than 100,000 coalitions is to
-end within five seconds of processor time; one that has not ended after a minute is told of too.
+instead runs it on COUNT statutes of two to four rules and up to 40 members, and on as many share
+registers, each in the order that it is made in and in the opposite order of its rules. A game with
+fewer than 100,000 coalitions must end within five seconds of processor time, and every game within a
+minute.
 """
 import glob
 import os
@@ -73,7 +75,7 @@ def several_rules(rng):
 
 
 def statute(rng):
-    """A game file of two to four rules as statutes have them, heads first: many small members, and behind them a small
+    """Two to four rules as statutes have them, heads first: many small members, and behind them a small
     group with much weight, as owners, founders, vetoers or regions."""
     small, large = rng.randint(20, 38), rng.randint(1, 8)
     large = min(large, 40 - small)
@@ -104,7 +106,24 @@ def statute(rng):
             weights = [rng.choice([0, 1]) for _ in range(small)] + [rng.randint(10, 100) for _ in range(large)]
             quota = rng.randint(1, sum(weights))
         rules.append((min(quota, sum(weights)), weights))
-    return game_file(rules)
+    return rules
+
+
+def register(rng):
+    """The rules of a share register: some of the holders sign, and have a part of the shares; maybe with seats."""
+    members = rng.randint(34, 40)
+    if rng.randrange(2):
+        shares = [10 ** 6 // (holder + 1) for holder in range(members)]
+    else:
+        shares = [rng.choice([1, 10, 100, 1000]) * rng.randint(1, 9) for _ in range(members)]
+    rng.choice([shares.sort, shares.reverse, lambda: rng.shuffle(shares)])()
+    part = rng.choice([(1, 2), (2, 3), (3, 4)])
+    rules = [(rng.choice([2, 3, 5]), [1] * members), (sum(shares) * part[0] // part[1] + 1, shares)]
+    if rng.randrange(3) == 0:
+        seats = [int(rng.randrange(4) == 0) for _ in range(members)]
+        seats[rng.randrange(members)] = 1
+        rules.append((rng.randint(1, sum(seats)), seats))
+    return rules
 
 
 def game_file(rules):
@@ -191,13 +210,17 @@ def run(program, file, words, by_name):
 
 
 def statutes(program, count, rng):
-    """Runs the program on whole statutes; whether none was slow."""
+    """Runs the program on whole statutes and registers; whether none was slow."""
     slow, longest = 0, 0.0
     room = tempfile.mkdtemp(prefix="statutes-")
-    for number in range(count):
+    games = []
+    for _ in range(count):
+        for rules in (statute(rng), register(rng)):
+            games += [rules, rules[::-1]]
+    for number, rules in enumerate(games):
         file = f"{room}/{number}"
         with open(file, "wb") as it:
-            it.write(statute(rng))
+            it.write(game_file(rules))
         used = processor_time()
         try:
             status = subprocess.run([program, "--most", "99999", file], stdin=subprocess.DEVNULL, stdout=subprocess.DEVNULL,
@@ -214,7 +237,7 @@ def statutes(program, count, rng):
             os.remove(file)
     if not slow:
         os.rmdir(room)
-        print(f"ok statutes: {count}; the longest that was not refused took {longest:.2f} seconds")
+        print(f"ok statutes: {len(games)}; the longest that was not refused took {longest:.2f} seconds")
     return not slow
 
 

@@ -7,10 +7,13 @@ makes COUNT games of up to 12 members and COUNT of up to 20, with 1 to 4 rules, 
 heads and members that can veto, as sums count them, wholly or in part. Of the first it
 tries every subset, and compares the walk of tests/oracle.py with that; of all it compares what
 PROGRAM prints, with any options, workers and bits, with the report of tests/oracle.py, and likewise what it
-prints with --tally. Of COUNT games more, of up to 24 members, it compares what is printed with --tally and without. Some lists are
-longer than the block of 64 KiB that a report goes out by. Prints a line `ok NAME` or `FAILED NAME: why` for each kind.
+prints with --tally. Of COUNT more games of up to 24 members, and of 300 games with few kinds of
+members, it compares what is printed with --tally and without. Of COUNT / 2 games it compares the
+lists in every order of their rules. Some lists are longer than the block of 64 KiB that a report goes
+out by. Prints a line `ok NAME` or `FAILED NAME: why` for each kind.
 """
 import functools
+import itertools
 import json
 import os
 import random
@@ -119,6 +122,17 @@ def random_rows(rng):
     return named(rng, rules)
 
 
+def few_kinds(rng):
+    """A game of two to four rules and up to 24 members, many of whom have the same weights under every rule."""
+    kinds = [[rng.randrange(6) for _ in range(rng.randint(2, 4))] for _ in range(1)]
+    kinds += [[rng.randrange(6) for _ in kinds[0]] for _ in range(rng.randint(0, 3))]
+    kinds[0] = [weight + 1 for weight in kinds[0]]
+    members = [kinds[0]] + [rng.choice(kinds) for _ in range(rng.randint(3, 23))]
+    rng.shuffle(members)
+    columns = list(zip(*members))
+    return named(rng, [(quota_of(rng, of), list(of)) for of in columns])
+
+
 def file_of(game):
     lines = [] if game.title is None else [f"title = {json.dumps(game.title, ensure_ascii=False)}"]
     one = len(game.rules) == 1
@@ -169,7 +183,8 @@ def main(words):
     if len(words) != 3:
         sys.exit("usage: random_games.py PROGRAM COUNT SEED")
     program, count, rng = os.path.abspath(words[0]), int(words[1]), random.Random(int(words[2]))
-    faults = {"the walk of oracle.py, by every subset": [], "reports": [], "reports of more than 64 KiB": [], "--tally": [], "--tally of statutes": [], "--tally of weights with little in common, and a run": []}
+    faults = {"the walk of oracle.py, by every subset": [], "reports": [], "reports of more than 64 KiB": [], "--tally": [], "--tally of statutes": [], "--tally of weights with little in common, and a run": [],
+              "--tally of members of few kinds, and a run": [], "every order of the rules": []}
     done = dict.fromkeys(faults, 0)
 
     def compare(kind, name, got, wanted):
@@ -203,6 +218,20 @@ def main(words):
                 it.write(file_of(random_rows(rng)))
             found, wanted = (printed(program, file, [*words, "--sizes", *threads(rng)]) for words in (["--tally"], ["--most", "4000000"]))
             compare("--tally of weights with little in common, and a run", f"game {number}", found, wanted)
+        for number in range(max(count, 300)):
+            file = f"{room}/kinds"
+            with open(file, "wb") as it:
+                it.write(file_of(few_kinds(rng)))
+            found, wanted = (printed(program, file, [*words, "--sizes", *threads(rng)]) for words in (["--tally"], ["--most", "4000000"]))
+            compare("--tally of members of few kinds, and a run", f"game {number}", found, wanted)
+        for number in range(count // 2):
+            game = random_statute(rng, 16) if number % 2 else random_game(rng, 16)
+            for order in itertools.permutations(game.rules):
+                other = oracle.Game(game.title, game.names, list(order))
+                file = f"{room}/order"
+                with open(file, "wb") as it:
+                    it.write(file_of(other))
+                compare("every order of the rules", f"game {number}", printed(program, file, ["--list", *threads(rng)]), report(other, ["--list"]))
         for rules in 1, 2, 4:
             weights = [[rng.randrange(1, 30) for _ in range(16)] for _ in range(rules)]
             game = oracle.Game(None, [f"a long name, number {i}" for i in range(16)], [(sum(of) // 2 + 1, of) for of in weights])

@@ -159,6 +159,7 @@ takes_memory council_game makes_a_game
 takes_memory council_game makes_a_game_of_two_rules
 takes_memory council_game lists_plainly
 takes_memory council_game lists_members
+takes_memory council_game orders_by_contribution
 asks_for_little council_game lists_members
 takes_memory council_file parses_toml
 takes_memory council_file parses_brackets
@@ -194,6 +195,9 @@ takes_memory mwc_sums counts_by_sums
 takes_memory mwc_sums counts_by_halves
 takes_memory mwc_sums counts_by_chambers
 takes_memory mwc_sums counts_in_part
+takes_memory mwc_sums counts_by_kinds
+takes_memory mwc_sums counts_by_kinds_under_two_rules
+takes_memory mwc_sums counts_by_kinds_under_four_rules
 # room for three desks; for each of three workers its room, and the start of its thread; and what comes then
 shape='o+(o{4,})(s+)\1\2\1\2o+'
 takes_memory mwc_gather gathers "not started"
@@ -203,10 +207,10 @@ takes_memory mwc_gather puts_parts_in_order
 takes_memory mwc_gather finds_the_pieces
 takes_memory mwc_gather sends_into_a_batch
 takes_none mwc_gather marks_without_memory
-# a run of three workers: the game, the gathering as above, the row of pieces, the two threads that it starts
-# for counting, and the report
-shape='g+m+(m{4,})(s+)\1\2\1\2m+o+(s+)\3o+'
-for game in runs_on_brackets runs_on_toml; do
+# a run of three workers: the game, with several rules also the game by contribution, the gathering as above, the row
+# of pieces, the two threads that it starts for counting, and the report
+shape='g+o*m+(m{4,})(s+)\1\2\1\2m+o+(s+)\3o+'
+for game in runs_on_brackets runs_on_toml runs_on_turned_rules; do
     for how in REFUSE_AT REFUSE_FROM; do
         sweep "$how" council_run "$game" "no memory for the game" "no memory to gather" "not started" "out of memory"
     done

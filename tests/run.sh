@@ -66,7 +66,7 @@ else
     scripts="look refusals hostile sizes tally too_many small_machine output using launcher examples workers prefixes pages"
     # these want the library
     callers="foreign archive"
-    programs="random_games cases reading rooms memory_source gate_source"
+    programs="random_games cases every_size reading rooms memory_source gate_source"
     command -v python3 >/dev/null || programs=
     # what one run may take is measured once, before anything else runs
     SECONDS_EACH=$(bash -c '. tests/common.sh; echo "$seconds"' common.sh "$program")
@@ -91,7 +91,7 @@ else
             ;;
         bodies_fit) keep bodies_fit bash tests/bodies.sh --fit & ;;
         random_games) keep $name python3 tests/random_games.py "$program" 150 1 & ;;
-        cases) keep cases python3 tests/cases.py "$program" & ;;
+        cases | every_size) keep $name python3 tests/$name.py "$program" & ;;
         reading | rooms | memory_source | gate_source) keep $name python3 tests/$name.py & ;;
         *) keep "$name" bash "tests/$name.sh" "$program" & ;;
         esac
@@ -99,11 +99,12 @@ else
     wait
     # each of its runs is to end within a second, so nothing runs beside it
     [ -z "$programs" ] || keep noise python3 tests/noise.py "$program" 300 1
-    for name in $scripts bodies bodies_fit $programs ${library:+library} $callers ${programs:+noise}; do
+    [ -z "$programs" ] || keep statutes python3 tests/noise.py "$program" 20 1 statutes
+    for name in $scripts bodies bodies_fit $programs ${library:+library} $callers ${programs:+noise statutes}; do
         count "$name"
     done
     if [ -z "$programs" ]; then
-        for test in cases memory_source gate_source reading rooms noise random_games; do
+        for test in cases every_size memory_source gate_source reading rooms noise statutes random_games; do
             echo "skipped $test: this machine has no python3"
             skipped=$((skipped + 1))
         done

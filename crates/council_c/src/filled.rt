@@ -96,7 +96,7 @@ fn put_list(
     ensures kept { OnErr result (room.new ≡ room.old) }
 {
     let game = parse_game(alloc, bytes)?;
-    let found = list_by_walk(alloc, &game, options.most);
+    let found = list_by_walk(alloc, &game, options.most, options.list);
     put_found(alloc, &game, found, options.lines(), room)
 }
 

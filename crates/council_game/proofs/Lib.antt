@@ -2,6 +2,7 @@ pub mod Shared
 mod Order
 mod Named
 mod Moving
+mod Resorted
 mod Monotone
 mod Places
 mod Bounds

@@ -9,7 +9,7 @@ use Rattle.council_game.specs.declared.fault.GameFault.{GameFault}
 use Rattle.council_game.specs.declared.fault.GameFault.TheVariants.{Title, Members, Name, SameName, Weight, QuotaRange}
 use Rattle.council_game.specs.Fault.{◌>>=◌, refuse, refuse_at}
 use Rattle.council_game.specs.Votes.{RuleView, Votes}
-use Rattle.council_game.specs.Ranks.{places, rank_places, rule_by_rank}
+use Rattle.council_game.specs.Ranks.{AreOfRanking, places, rank_places, rule_by_rank}
 
 pub record GameView : Type 0 where
   pub title : Option (List ℕ)
@@ -62,13 +62,12 @@ abbrev pub ranked_by_first : GameView → GameView
 ranked_by_first g = record g { ranks = rank_places (first_weights g.rules) }
 
 -- What is a game: its checks pass, it has 1 to 4 rules, each with a weight for each member, and its rank places are
--- those by some number of each member: by weight if it has one rule.
+-- those of a ranking: by weight if it has one rule.
 pub record IsGame (g : GameView) : Type 0 where
   pub made : made_game g.title g.names g.rules ≡ Ok (ranked_by_first g)
-  pub order : List ℕ
-  pub ordered : length order ≡ length g.names
-  pub ranks : g.ranks ≡ rank_places order
-  pub by_weight : length g.rules ≡ 1 → order ≡ first_weights g.rules
+  pub each_member : length g.ranks ≡ length g.names
+  pub ranked : AreOfRanking g.ranks
+  pub by_weight : length g.rules ≡ 1 → g.ranks ≡ rank_places (first_weights g.rules)
   pub has_rule : 0 < length g.rules
   pub few_rules : length g.rules ≤ RULES
   pub full : All (λ r. length r.weights ≡ length g.names) g.rules

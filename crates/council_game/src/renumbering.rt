@@ -1,10 +1,28 @@
 //! Coalitions of the same members in two games.
 ghost use Rattle.std.specs.Prelude.{◌≡◌, ◌<◌, ◌^◌, length};
+ghost use Rattle.council_game.specs.Game.{votes_of};
 ghost use Rattle.council_game.specs.Members.{HaveSameMembers};
+ghost use Rattle.council_game.specs.Votes.{minimal_coalitions};
 
 use crate::{Coalition, Game};
 
 impl Game {
+    /// Turns the list of this game's minimal winning coalitions into that of another game of the same
+    /// members and rules, whose members have other rank places. Both lists are in listing order.
+    pub fn renumber_all(&self, list: &mut [Coalition], other: &Game)
+        requires names { other.now.names ≡ self.now.names }
+        requires rules { other.now.rules ≡ self.now.rules }
+        requires all { list.old ≡ minimal_coalitions (votes_of self.now) }
+        ensures { list.new ≡ minimal_coalitions (votes_of other.now) }
+    {
+        self.was_checked();
+        other.was_checked();
+        for place in 0..list.len() {
+            list[place] = self.renumbered(list[place], other);
+        }
+        list.sort_unstable_by_key(|coalition| u64::MAX - coalition.mask());
+    }
+
     /// Returns the coalition of another game with the members of a coalition of this one.
     ///
     /// The other game has as many members, and may have them at other rank places.

@@ -6,9 +6,10 @@ ghost use Rattle.power_index.specs.Tables.{AreCountsOfGame};
 
 use crate::fault::RunFault;
 use crate::found::{Coalitions, Found, on_heap};
+use crate::order::walked;
 use coalitions::{Gate, Memory, Options};
 use council_game::Game;
-use mwc_sums::{Coverage, count_by_sums};
+use mwc_sums::{Coverage, count_by_kinds, count_by_sums};
 use mwc_tally::{TallyFault, tally, tally_slice};
 use mwc_walk::laws::one_slice_is_the_whole;
 use power_index::Counts;
@@ -20,6 +21,23 @@ use std::thread::Threads;
 /// A tally has at least 2^8 slices if there are 8 members: the last of them are the longest, and with
 /// fewer one thread would still count when the others have ended.
 pub const LEAST_BITS: u8 = 8;
+
+/// Counts all coalitions of a game that sums leave: by kinds, if its members are of few kinds, or else by worker
+/// threads behind a gate.
+fn count_rest<T: Threads + Wait + Sync, G: Gate + Sync>(
+    rt: &T,
+    alloc: Global,
+    game: &Game,
+    options: &Options,
+    gate: &G,
+) -> Result<Box<Counts>, TallyFault>
+    ensures { IfOk result (λ counts. AreCountsOfGame game.now counts.value) }
+{
+    match count_by_kinds(alloc, game)? {
+        Some(counts) => Ok(counts),
+        None => count_by_threads(rt, alloc, game, options, gate),
+    }
+}
 
 /// Counts all coalitions of a game by worker threads behind a gate.
 // kept out of line: sums do not take the stack that threads want
@@ -34,7 +52,25 @@ fn count_by_threads<T: Threads + Wait + Sync, G: Gate + Sync>(
     ensures { IfOk result (λ counts. AreCountsOfGame game.now counts.value) }
 {
     let bits = options.bits.max(LEAST_BITS).min(game.members() as u8);
-    tally(rt, alloc, game, bits, options.workers, gate)
+    let ordered = game.by_contribution(alloc)?;
+    tally(
+        rt,
+        alloc,
+        walked(game, &ordered),
+        bits,
+        options.workers,
+        gate,
+    )
+}
+
+/// Counts all coalitions of a game that sums leave: by kinds, if its members are of few kinds, or else by one walk.
+fn count_rest_by_walk(alloc: Global, game: &Game) -> Result<Box<Counts>, Memory>
+    ensures { IfOk result (λ counts. AreCountsOfGame game.now counts.value) }
+{
+    match count_by_kinds(alloc, game)? {
+        Some(counts) => Ok(counts),
+        None => count_walk(alloc, game),
+    }
 }
 
 /// Counts all coalitions of a game by one walk.
@@ -42,10 +78,12 @@ fn count_by_threads<T: Threads + Wait + Sync, G: Gate + Sync>(
 fn count_walk(alloc: Global, game: &Game) -> Result<Box<Counts>, Memory>
     ensures { IfOk result (λ counts. AreCountsOfGame game.now counts.value) }
 {
-    game.was_checked();
     one_slice_is_the_whole();
     tallies_are_counts();
-    on_heap(alloc, tally_slice(game, 0, 0))
+    let ordered = game.by_contribution(alloc)?;
+    let walked = walked(game, &ordered);
+    walked.was_checked();
+    on_heap(alloc, tally_slice(walked, 0, 0))
 }
 
 /// Counts all coalitions of a game by sums, and what these leave by worker threads.
@@ -61,10 +99,10 @@ fn count_all<T: Threads + Wait + Sync, G: Gate + Sync>(
     match count_by_sums(alloc, game)? {
         Coverage::All(counts) => Ok(counts),
         Coverage::Part(parts) => {
-            let left = count_by_threads(rt, alloc, &parts.left, options, gate)?;
+            let left = count_rest(rt, alloc, &parts.left, options, gate)?;
             Ok(parts.join(game, left))
         }
-        Coverage::Nothing => count_by_threads(rt, alloc, game, options, gate),
+        Coverage::Nothing => count_rest(rt, alloc, game, options, gate),
     }
 }
 
@@ -102,10 +140,10 @@ pub fn count_by_walk(alloc: Global, game: &Game) -> Result<Found, RunFault>
     let counts = match count_by_sums(alloc, game)? {
         Coverage::All(counts) => counts,
         Coverage::Part(parts) => {
-            let left = count_walk(alloc, &parts.left)?;
+            let left = count_rest_by_walk(alloc, &parts.left)?;
             parts.join(game, left)
         }
-        Coverage::Nothing => count_walk(alloc, game)?,
+        Coverage::Nothing => count_rest_by_walk(alloc, game)?,
     };
     Ok(Found {
         counts,

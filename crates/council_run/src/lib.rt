@@ -12,6 +12,7 @@ mod fault;
 mod found;
 mod listing;
 mod number;
+mod order;
 mod runs;
 
 pub use coalitions::{Gate, NoGate, Options, limits};

@@ -1,14 +1,16 @@
 //! Listing the coalitions of a game: by worker threads, or by one walk.
-ghost use Rattle.std.specs.Prelude.{◌≡◌, ◌≤◌, Err, IfErr, IfOk, Some};
+ghost use Rattle.std.specs.Prelude.{◌≡◌, ◌≤◌, Err, IfErr, IfOk, IfSome, Some, length, unwrap_or};
 ghost use Rattle.coalitions.specs.declared.limits.TheConstants.{WORKERS};
 ghost use Rattle.coalitions.specs.declared.report_lines.ReportLines.{ReportLines};
-ghost use Rattle.council_run.specs.Found.{Finds, HoldAll, IsWorkersFault};
+ghost use Rattle.council_game.specs.Contribution.{by_contribution};
+ghost use Rattle.council_run.specs.Found.{AreListed, Finds, HoldAll, IsWorkersFault};
 ghost use Rattle.council_run.specs.Run.{IsWithin};
 ghost use Rattle.power_index.specs.Tables.{AreCountsOfGame};
 
 use crate::fault::RunFault;
 use crate::found::{Coalitions, Found, on_heap, pieces};
-use coalitions::{Gate, Options};
+use crate::order::walked;
+use coalitions::{Gate, Memory, Options};
 use council_game::Game;
 use mwc_gather::{GatherFault, Gathered, Guarded, gather};
 use mwc_tally::tally_pieces;
@@ -28,6 +30,7 @@ fn gather_all<T: Threads + Wait + Sync, G: Gate + Sync>(
     gate: &G,
 ) -> Result<Gathered, GatherFault>
     ensures whole { IfOk result (HoldAll game.now) }
+    ensures a_part_each { IfOk result (λ gathered. length gathered.parts.items ≡ options.now.workers) }
     ensures few { IfOk result (λ _. IsWithin (Some options.now.most) game.now) }
     ensures many { result ≡ Err GatherFault.TooMany → IsWithin (Some options.now.most) game.now → ⊥ }
 {
@@ -56,12 +59,40 @@ fn count_gathered<T: Threads + Wait + Sync>(
     Ok(on_heap(alloc, counts)?)
 }
 
+/// Keeps the coalitions that workers listed: as they lie, if the game itself was walked over; else renumbered and
+/// sorted, if they are to be shown.
+fn keep(
+    alloc: Global,
+    game: &Game,
+    ordered: Option<Game>,
+    gathered: Gathered,
+    list: bool,
+) -> Result<Coalitions, Memory>
+    requires ordered { IfSome ordered (λ h. h ≡ by_contribution game.now) }
+    requires whole { HoldAll (unwrap_or ordered game.now) gathered }
+    ensures { IfOk result (λ kept. (lines : ReportLines) → lines.list ≡ list → AreListed game.now lines kept) }
+{
+    let Some(ordered) = ordered else {
+        return Ok(Coalitions::Parts(gathered));
+    };
+    if !list {
+        return Ok(Coalitions::Counted);
+    }
+    let mut all = gathered.in_order(alloc)?;
+    ordered.renumber_all(&mut all, game);
+    Ok(Coalitions::Whole(all))
+}
+
 /// Lists the coalitions of a game by worker threads behind a gate, and counts them.
+///
+/// With several rules the workers walk over the members in the order of what they contribute. The
+/// coalitions are put back in listing order if the options ask for a list, and else only counted.
 ///
 /// # Errors
 ///
-/// The first of these: a fault of the gathering; out of memory for the row of its pieces; Start if a
-/// thread that counts them could not be started; out of memory for their counts.
+/// The first of these: out of memory for the game in that order; a fault of the gathering; out of
+/// memory for the row of its pieces; Start if a thread that counts them could not be started; out of
+/// memory for their counts, or for their list.
 pub fn list_by_workers<T: Threads + Wait + Sync, G: Gate + Sync>(
     rt: &T,
     alloc: Global,
@@ -69,32 +100,44 @@ pub fn list_by_workers<T: Threads + Wait + Sync, G: Gate + Sync>(
     options: &Options,
     gate: &G,
 ) -> Result<Found, RunFault>
-    ensures { (lines : ReportLines) → Finds (Some options.now.most) lines game.now result }
+    ensures { (lines : ReportLines) → lines.list ≡ options.now.list
+        → Finds (Some options.now.most) lines game.now result }
 {
-    let gathered = gather_all(rt, alloc, game, options, gate)?;
-    let counts = count_gathered(rt, alloc, game, &gathered, options.workers)?;
-    Ok(Found {
-        counts,
-        coalitions: Coalitions::Parts(gathered),
-    })
+    let ordered = game.by_contribution(alloc)?;
+    let walked = walked(game, &ordered);
+    let gathered = gather_all(rt, alloc, walked, options, gate)?;
+    let counts = count_gathered(rt, alloc, walked, &gathered, options.workers)?;
+    let coalitions = keep(alloc, game, ordered, gathered, options.list)?;
+    Ok(Found { counts, coalitions })
 }
 
 /// Lists the coalitions of a game by one walk, in the calling thread, and counts them. There may be
-/// at most `most`.
+/// at most `most`. They are kept only if they are to be shown in a list.
 ///
 /// # Errors
 ///
 /// Too many coalitions, or out of memory.
-pub fn list_by_walk(alloc: Global, game: &Game, most: u32) -> Result<Found, RunFault>
-    ensures { (lines : ReportLines) → Finds (Some most) lines game.now result }
+pub fn list_by_walk(alloc: Global, game: &Game, most: u32, list: bool) -> Result<Found, RunFault>
+    ensures { (lines : ReportLines) → lines.list ≡ list → Finds (Some most) lines game.now result }
 {
     minimal_coalitions_can_be_counted();
-    let Some(list) = list_all(alloc, game, most)? else {
+    let ordered = game.by_contribution(alloc)?;
+    let walked = walked(game, &ordered);
+    let Some(mut all) = list_all(alloc, walked, most)? else {
         return Err(RunFault::from(GatherFault::TooMany));
     };
-    let counts = on_heap(alloc, Counts::of(game, &list))?;
+    let counts = on_heap(alloc, Counts::of(walked, &all))?;
+    if !list {
+        return Ok(Found {
+            counts,
+            coalitions: Coalitions::Counted,
+        });
+    }
+    if let Some(ordered) = &ordered {
+        ordered.renumber_all(&mut all, game);
+    }
     Ok(Found {
         counts,
-        coalitions: Coalitions::Whole(list),
+        coalitions: Coalitions::Whole(all),
     })
 }

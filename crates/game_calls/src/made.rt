@@ -49,16 +49,6 @@ fn title_of(alloc: Global, game: &Game) -> Result<Option<String>, AllocError>
     }
 }
 
-fn names_of(alloc: Global, game: &Game) -> Result<Vec<String>, AllocError>
-    ensures { IfOk result (λ v. map string_bytes v.items ≡ game.now.names) }
-{
-    let mut names = Vec::new(alloc);
-    for i in 0..game.members() {
-        names.push(String::from_str(alloc, game.name(i))?)?;
-    }
-    Ok(names)
-}
-
 fn weights_of(alloc: Global, game: &Game) -> Result<Vec<u64>, AllocError>
     ensures { IfOk result (λ v. v.items ≡ (rule_at game.now.rules 0).weights) }
 {
@@ -83,7 +73,7 @@ pub fn at_quota(alloc: Global, game: &Game, quota: u64) -> Result<Game, Memory>
     game.was_checked();
     quotas_can_be_changed();
     let title = title_of(alloc, game)?;
-    let names = names_of(alloc, game)?;
+    let names = game.copy_names(alloc)?;
     let weights = weights_of(alloc, game)?;
     match Game::new(alloc, title, names, weights, quota) {
         Ok(made) => Ok(made),

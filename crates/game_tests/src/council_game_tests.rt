@@ -1,7 +1,7 @@
 //! Worked games.
 mod refusals;
 
-use crate::helpers::{same, say};
+use crate::helpers::{game_of_rules, same, say};
 use council_game::{Coalition, Game, GameFault, Rule, plain_list};
 use std::alloc::Global;
 use std::io::Print;

@@ -1,6 +1,7 @@
-//! Counts by sums, by halves, of chambers and in part, each once. That games of all kinds are
+//! Counts by sums, by halves, of chambers, in part and by kinds, each once. That games of all kinds are
 //! counted right, `tests/random_games.py` and `tests/tally.sh` show through the program.
-mod refusals;
+mod kinds;
+pub(crate) mod refusals;
 
 use crate::helpers::game_of_rules;
 use mwc_sums::{Coverage, count_by_sums};

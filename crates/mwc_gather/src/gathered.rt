@@ -31,11 +31,20 @@ impl Gathered {
         ensures { (slice : ℕ → List ℕ) → All (HasPieces slice) self.now.parts.items
             → IfOk result (λ all. all.items ≡ flat_map slice (range_with_len 0 self.now.slices)) }
     {
-        let mut all = Vec::new(alloc);
+        let mut all = Vec::with_capacity(alloc, self.count())?;
         for j in 0..self.slices {
             all.extend_from_slice(self.piece(j))?;
         }
         Ok(all)
+    }
+
+    /// Returns how many coalitions the parts have together.
+    fn count(&self) -> usize {
+        let mut count: usize = 0;
+        for part in &self.parts {
+            count = count.saturating_add(part.got.len());
+        }
+        count
     }
 
     /// Borrows the coalitions of each slice, slice after slice.

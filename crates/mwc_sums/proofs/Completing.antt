@@ -1,36 +1,17 @@
 -- Coalitions that meet a need, and lose it without any one of their members, by their first member.
-use Rattle.mwc_sums.proofs.Imports.{◌≡◌, ◌∙◌, ◌↔◌, ◌⊎◌, ℕ, zero, suc, ◌+◌, ◌-◌, ◌^◌, ◌<◌, ◌≤◌, ◌==◌, true, false, cond, ltb, List, [], ◌∷◌}
+use Rattle.mwc_sums.proofs.Imports.{◌≡◌, ◌∙◌, ◌↔◌, ◌⊎◌, ℕ, zero, suc, ◌+◌, ◌-◌, ◌^◌, ◌<◌, ◌≤◌, ◌==◌, true, cond, ltb, List, [], ◌∷◌}
 use Rattle.mwc_sums.proofs.Imports.{◌++◌, length, get_or, map, sym, ap, refl, arith, inl, inr, cases_lt, RuleView, has, size, weight, wins}
 use Rattle.mwc_sums.proofs.Imports.{down, weight-without, nat_tests}
-use Rattle.std.proofs.Common.{eqb-true, ◌/◌, ◌%◌, pow_pos}
-use Rattle.std.proofs.lemmas.Nat.{ones_cat, Bits.bit_at_cat_low, Bits.bit_at_cat_high, Bits.bit_at_above}
-use native.Mathlib.Numerals.{unary_clauses}
+use Rattle.std.proofs.Common.{eqb-true, pow_pos}
+use Rattle.std.proofs.lemmas.Nat.{ones_cat, Bits.bit_at_cat_high, Bits.bit_at_above}
 use Rattle.coalitions.proofs.Shared.{Digits.has-none, Sizes.size-ones}
 use Rattle.power_index.proofs.Shared.Members.{size-pos-at}
 use Rattle.std.specs.Int.Count.{ones-ones}
 use Rattle.council_game.proofs.Shared.{WeightByDigits.weight-cons, Weights.weight-skip, Weights.weight-zero}
 pub use Rattle.std.specs.Cmp.{both_ways as same_test}
+pub use Rattle.council_game.proofs.Shared.Sets.{double-pow, first-in, first-out, rest-in, rest-out}
 
 -- ---- coalitions of one place more
-pub first-in : (n c : ℕ) → c < 2 ^ n → has (suc n) 0 (2 ^ n + c) ≡ true
-unfolding has
-first-in n c lt = grind (arith, nat_tests, bit_at_cat_high 1 n c n lt (omega arith))
-
-pub first-out : (n c : ℕ) → c < 2 ^ n → has (suc n) 0 c ≡ false
-unfolding has
-first-out n c lt = grind (arith, nat_tests, bit_at_above c n n lt (omega arith))
-
-pub rest-in : (n p c : ℕ) → p < n → has (suc n) (suc p) (2 ^ n + c) ≡ has n p c
-unfolding has
-rest-in n p c lt = grind (arith, nat_tests, bit_at_cat_low 1 n c (n - 1 - p) (omega arith))
-
-pub rest-out : (n p c : ℕ) → has (suc n) (suc p) c ≡ has n p c
-unfolding has
-rest-out n p c = let place : suc n - 1 - suc p ≡ n - 1 - p = omega arith in ap (λ (k : ℕ). c / 2 ^ k % 2 == 1) place
-
-pub double-pow : (n : ℕ) → 2 ^ suc n ≡ 2 ^ n + 2 ^ n
-double-pow n = simp unary_clauses (omega arith)
-
 pub weight-with : (w : ℕ) (ws : List ℕ) (c : ℕ) → c < 2 ^ length ws → weight (w ∷ ws) (2 ^ length ws + c) ≡ w + weight ws c
 weight-with w ws c lt =
     grind (arith, weight-cons w ws (2 ^ length ws + c), bit_at_cat_high 1 (length ws) c (length ws) lt (omega arith), weight-skip ws 1 c)

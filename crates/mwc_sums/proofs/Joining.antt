@@ -1,30 +1,13 @@
 -- As many coalitions pass one test as pass another, and sets that win where they win under two
 -- conditions.
-use Rattle.mwc_sums.proofs.Imports.{◌≡◌, ◌∙◌, ◌↔◌, ◌==◌, ◌&&◌, ℕ, zero, suc, ◌^◌, ◌<◌, Bool, true, false, List, length, get_or, filter, sym}
-use Rattle.mwc_sums.proofs.Imports.{nat_tests, not, ◌||◌, true_from_ne_false, ◌+◌, size, filter-both, eqb, ap, refl, arith, sum_by}
-use Rattle.mwc_sums.proofs.Imports.{cases_eq, sum_by-cons, length-filter, down, sum-zero}
+use Rattle.mwc_sums.proofs.Imports.{◌≡◌, ◌∙◌, ◌↔◌, ◌==◌, ◌&&◌, ℕ, ◌^◌, ◌<◌, Bool, true, false, List, length, get_or, filter, sym}
+use Rattle.mwc_sums.proofs.Imports.{nat_tests, not, ◌||◌, true_from_ne_false, ◌+◌, size, eqb, ap, refl, arith, sum_by}
+use Rattle.mwc_sums.proofs.Imports.{down}
 use Rattle.std.proofs.lemmas.Bool.{both_ways, and_parts, and_from, false_from_ne_true}
 use Rattle.coalitions.proofs.Shared.Lists.{sum-swap}
 use Rattle.mwc_sums.proofs.VetoRules.{sum-parts}
 use Rattle.mwc_sums.proofs.Seating.{one_if, IsLeast, IsSeating, seen, less, LooksAt, as_mask, mask-is, mask-less, mask-seen, seen-size}
-
--- ---- sums over all coalitions
-pub count-both : (m t : ℕ → Bool) (xs : List ℕ) → length (filter t (filter m xs)) ≡ sum_by (λ c. one_if (m c && t c)) xs
-count-both m t xs = ap (λ (l : List ℕ). length l) (filter-both m t xs) ∙ length-filter (λ c. m c && t c) xs
-
-pub sum-down : (f h : ℕ → ℕ) (n : ℕ) → ((c : ℕ) → c < n → f c ≡ h c) → sum_by f (down n) ≡ sum_by h (down n)
-unfolding down
-sum-down f h zero same = refl
-sum-down f h (suc n) same = grind (arith, sum-down f h n (λ c lt. same c (omega (arith, lt))), sum_by-cons)
-
-sum-none : (f : ℕ → ℕ) (n : ℕ) → ((x : ℕ) → x < n → f x ≡ 0) → sum_by f (down n) ≡ 0
-sum-none f n none = sum-down f (λ x. 0) n none ∙ sum-zero (down n)
-
--- one number alone counts
-sum-one : (f : ℕ → ℕ) (u n : ℕ) → u < n → ((x : ℕ) → x < n → (x ≡ u → ⊥) → f x ≡ 0) → sum_by f (down n) ≡ f u
-unfolding down
-sum-one f u zero lt none = absurd (omega arith)
-sum-one f u (suc n) lt none = grind (arith, cases_eq n u, sum-none f n, sum_by-cons f n (down n), sum-one f u n)
+pub use Rattle.council_game.proofs.Shared.Sets.{count-both, sum-down, sum-none, sum-one}
 
 -- those that pass p are one of each pair that passes q
 pub record ArePairs (p : ℕ → Bool) (q : ℕ → ℕ → Bool) (one two : ℕ → ℕ) (both : ℕ → ℕ → ℕ) (n a b : ℕ) : Type 0 where

@@ -10,3 +10,14 @@ mod Seating
 mod Placed
 mod Seated
 mod Imports
+mod Counted
+mod Digits
+mod KindImports
+mod Listed
+mod Making
+mod Sums
+mod KindLaws
+mod FewChoices
+mod Taken
+mod Choosing
+mod Totals

@@ -1,5 +1,5 @@
 -- How many coalitions of a game are one of each of two games together, and the tallies of them.
-use Rattle.mwc_sums.proofs.Imports.{◌≡◌, ◌∙◌, ◌==◌, ◌&&◌, ℕ, ◌+◌, ◌-◌, ◌*◌, ◌^◌, ◌<◌, ◌≤◌, Bool, List, [], ◌∷◌, length, get_or, filter, sym}
+use Rattle.mwc_sums.proofs.Imports.{◌≡◌, ◌||◌, false, ◌∙◌, ◌==◌, ◌&&◌, ℕ, ◌+◌, ◌-◌, ◌*◌, ◌^◌, ◌<◌, ◌≤◌, Bool, List, [], ◌∷◌, length, get_or, filter, sym}
 use Rattle.mwc_sums.proofs.Imports.{arith, nat_tests, sum_by, range_with_len, sum_by-range-more, has, minimal_coalitions, GameView, ap, leb}
 use Rattle.mwc_sums.proofs.Imports.{true, contains, met, sum_by-cons, sum-range, sum-filter, minimal, down, minimal_of_member_size, Tables}
 use Rattle.mwc_sums.proofs.Imports.{IsGame, votes_of, size_of, minimal-few, AreChambersOf, minimal_of_size, sum-plus, filter-both, refl}
@@ -36,6 +36,13 @@ pairs-of_size m n p q k l xs ys s =
     same a b x j le = grind (arith, nat_tests)
 
 -- ---- the coalitions of two chambers
+-- of two tests that never pass together, one passes or the other
+one-of-two : (m r p q d e : Bool) → (m ≡ true → r ≡ (p || q)) → (m ≡ true → p ≡ true → q ≡ false) → (m ≡ true → d ≡ e)
+    → one_if (m && (r && d)) ≡ one_if (m && ((p && true) && e)) + one_if (m && (q && e))
+one-of-two false r p q d e either apart same = refl
+one-of-two true r true q d e either apart same = rw (either refl, apart refl refl, same refl) (grind (arith, nat_tests))
+one-of-two true r false q d e either apart same = rw (either refl, same refl) (grind (arith, nat_tests))
+
 module _ (g a b : GameView) (is_g : IsGame g) (is_a : IsGame a) (is_b : IsGame b) (are : AreChambersOf g a b) where
   abbrev n : ℕ
   n = length g.names
@@ -94,11 +101,14 @@ module _ (g a b : GameView) (is_g : IsGame g) (is_a : IsGame a) (is_b : IsGame b
           → one_if (min_pair x y && (contains g i (union joint hg ha hb x y) && (size_of g (union joint hg ha hb x y) == s)))
           ≡ of_a i s x y + of_b i s x y
       each x y lx ly =
-          let both = joined joint hg ha hb x y lx ly in
-          let size = size-union joint hg ha hb x y lx ly in
-          let in_g = seen-contains is_g (union joint hg ha hb x y) i lt in
-          let one = apart joint hg ha hb x y lx ly in
-          grind (arith, nat_tests, both, size, one, in_g, are.first, are.second, seen-contains is_a x i, seen-contains is_b y i)
+          let u = union joint hg ha hb x y in
+          let in_a = seen-contains is_a x i (omega (arith, are.first, lt)) in
+          let in_b = seen-contains is_b y i (omega (arith, are.second, lt)) in
+          one-of-two (min_pair x y) (contains g i u) (contains a i x) (contains b i y) (size_of g u == s) (size_of a x + size_of b y == s)
+          (λ min. sym (seen-contains is_g u i lt) ∙ joined joint hg ha hb x y lx ly min i lt
+          ∙ (λ k. in_a k || in_b k))
+          (λ min inside. sym in_b ∙ apart joint hg ha hb x y lx ly min i lt (in_a ∙ inside))
+          (λ min. ap (λ (z : ℕ). z == s) (size-union joint hg ha hb x y lx ly min))
 
 -- ---- as the code counts them, size by size
 -- no coalition has more members than there are

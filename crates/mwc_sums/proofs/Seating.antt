@@ -1,32 +1,16 @@
 -- Coalitions of the first places of a ranking, and the sets of members that they hold.
 use Rattle.mwc_sums.proofs.Imports.{ap, refl, arith, sum_by, range_with_len, cases_eq, le-ltb, length-filter, nat_tests, has, size, without}
-use Rattle.mwc_sums.proofs.Imports.{◌≡◌, ◌∙◌, ◌↔◌, ◌&&◌, not, ℕ, zero, suc, ◌+◌, ◌^◌, ◌<◌, ◌≤◌, Bool, true, false, cond, List, get_or, sym}
+use Rattle.mwc_sums.proofs.Imports.{◌≡◌, ◌∙◌, ◌↔◌, ◌&&◌, not, ℕ, zero, suc, ◌^◌, ◌<◌, ◌≤◌, Bool, true, false, cond, List, get_or, sym}
 use Rattle.mwc_sums.proofs.Imports.{member_at, RanksAre, sum-range, eqb}
 use Rattle.coalitions.proofs.Shared.Digits.{has-kept, has-gone, same-places}
 use Rattle.council_game.specs.Ranks.{AreRankPlaces}
 use Rattle.council_game.proofs.Shared.RankPlaces.{by-member}
-use Rattle.mwc_sums.proofs.Completing.{double-pow, first-in, first-out, rest-in, rest-out}
+use Rattle.council_game.proofs.Shared.Sets.{mask_of, mask-below, mask-has}
 use Rattle.mwc_sums.proofs.VetoRules.{one-more}
 pub use Rattle.mwc_sums.specs.Inner.Seats.{seen}
 
 abbrev pub one_if : Bool → ℕ
 one_if b = cond b 1 0
-
--- ---- the coalition of the places that pass a test
-mask_of : (ℕ → Bool) → ℕ → ℕ
-mask_of test zero = 0
-mask_of test (suc n) = cond (test 0) (2 ^ n + mask_of (λ p. test (suc p)) n) (mask_of (λ p. test (suc p)) n)
-
-mask-below : (test : ℕ → Bool) (n : ℕ) → mask_of test n < 2 ^ n
-unfolding mask_of
-mask-below test zero = omega arith
-mask-below test (suc n) = grind (arith, mask-below (λ p. test (suc p)) n, double-pow, nat_tests)
-
-mask-has : (test : ℕ → Bool) (n p : ℕ) → p < n → has n p (mask_of test n) ≡ test p
-unfolding mask_of
-mask-has test zero p lt = absurd (omega arith)
-mask-has test (suc n) zero lt = grind (arith, nat_tests, first-in, first-out, mask-below (λ p. test (suc p)) n)
-mask-has test (suc n) (suc p) lt = grind (arith, nat_tests, rest-in, rest-out, mask-has (λ p. test (suc p)) n p (omega (arith, lt)))
 
 -- ---- sets of members
 -- a set without one of its members

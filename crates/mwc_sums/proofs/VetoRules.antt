@@ -3,7 +3,7 @@
 use Rattle.mwc_sums.proofs.Imports.{sum_by-range-more, RuleView, sum-plus, get_or, wins, Votes, IsVotes, rule_at, length-map, filter-append}
 use Rattle.mwc_sums.proofs.Imports.{sum_by, range_with_len, sum_by-cons, sum-range, ◌≡◌, ◌∙◌, ℕ, suc, ◌+◌, ◌*◌, ◌<◌, Bool, true, false, met}
 use Rattle.mwc_sums.proofs.Imports.{rules_beside, can_veto, ◌^◌, map, filter, ap, refl, arith, All, sum, leb, ltb, List, [], ◌∷◌, rule-is}
-use Rattle.mwc_sums.proofs.Imports.{sum-filter, has, weight, length-range_with_len, places-at, All-head, All-tail, common_steps, rest_of}
+use Rattle.mwc_sums.proofs.Imports.{has, weight, length-range_with_len, places-at, All-head, All-tail, common_steps, rest_of}
 use Rattle.mwc_sums.proofs.Imports.{sum-zero, AreRulesOf, length-filter_both, not, ◌++◌, ◌≤◌, cases_lt, le-ltb, cond, nat_tests, weighs}
 use Rattle.mwc_sums.proofs.Imports.{length-map-range_with_len, All-from_recursion, GameView, IsGame, IsFair, take, statute, length}
 use Rattle.mwc_sums.proofs.Imports.{rule_for}
@@ -16,16 +16,13 @@ use Rattle.std.proofs.lemmas.List.{get_or_past, nil_from_length, take_more, map-
 use Rattle.council_game.specs.{Game.has_bad_quota, Game.made_game, Game.first_weights, declared.fault.GameFault.TheVariants.Memory}
 use Rattle.council_game.specs.{Fault.Answers, Ranks.rank_places, declared.fault.GameFault.GameFault}
 use Rattle.council_game.proofs.Shared.Games.{passed, none-any, light-weights, makes, position_nowhere}
+pub use Rattle.council_game.proofs.Shared.Sets.{weight-sum}
 
 -- a row of weights adds up over its places
 pub row-sum : (ws : List ℕ) (n : ℕ) → length ws ≡ n → sum ws ≡ sum_by (λ i. get_or ws i 0) (range_with_len 0 n)
 row-sum ws n long = ap sum (fill_by_all (λ i. get_or ws i 0) ws n 0 long (λ k lt. refl)) ∙ sum-map (λ i. get_or ws i 0) (range_with_len 0 n)
 
 -- what a coalition weighs
-pub weight-sum : (ws : List ℕ) (n c : ℕ) → length ws ≡ n → weight ws c ≡ sum_by (λ p. cond (has n p c) 1 0 * get_or ws p 0) (range_with_len 0 n)
-unfolding weight
-weight-sum ws n c long = grind (arith, nat_tests, sum-filter)
-
 -- where all weigh the same
 pub alike-sum : (ws : List ℕ) (e : ℕ) → ((p : ℕ) → p < length ws → get_or ws p 0 ≡ e) → sum ws ≡ length ws * e
 alike-sum [] e same = omega arith

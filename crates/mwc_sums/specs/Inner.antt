@@ -2,3 +2,5 @@
 pub mod Fair
 pub mod Rules
 pub mod Seats
+pub mod Choices
+pub mod Ways

@@ -5,6 +5,7 @@ pub mod Chambers
 pub mod Completing
 pub mod Coverage
 pub mod Heads
+pub mod Kinds
 pub mod Inner
 pub mod Orders
 pub mod Statute

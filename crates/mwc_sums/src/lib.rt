@@ -14,17 +14,25 @@
 //! ```
 //!
 //! `weight_sums` counts what members with some weights lead to; this crate says for which games
-//! that is the answer.
+//! that is the answer. `count_by_kinds` counts a game whose members are of few kinds, under any rules:
+//! members of one kind have the same weight under every rule, and whether a coalition is minimal
+//! depends only on how many members of each kind it has.
 #![tactic(auto)]
 
 mod chamber;
 mod chambers;
+mod choices;
+mod count;
 mod counted_game;
 mod coverage;
+mod kinds;
 pub mod laws;
 mod seats;
 mod statute;
 mod vetoers;
+mod ways;
 
+pub use count::count_by_kinds;
 pub use counted_game::CountedGame;
 pub use coverage::{Coverage, Parts, count_by_sums};
+pub use kinds::{CHOICES, COALITIONS_EACH};

@@ -35,18 +35,6 @@ impl Model for Statute {
     ghost invariant = { λ s. All (IsFair s.members) (rule_views s.rules.items) };
 }
 
-/// Copies the names of a game's members.
-fn copy_names(alloc: Global, game: &Game) -> Result<Vec<String>, Memory>
-    ensures { IfOk result (λ names. map string_bytes names.items ≡ game.now.names) }
-{
-    let members = game.members();
-    let mut names = Vec::with_capacity(alloc, members)?;
-    for member in 0..members {
-        names.push(String::from_str(alloc, game.name(member))?)?;
-    }
-    Ok(names)
-}
-
 impl Statute {
     /// Returns the rules that a game consists of.
     #[tactic(auto, using(crate::proofs::VetoRules::statutes))]
@@ -178,7 +166,7 @@ impl Statute {
     {
         self.rules_are_fair();
         game.was_checked();
-        let names = copy_names(alloc, game)?;
+        let names = game.copy_names(alloc)?;
         match Game::with_rules(alloc, None, names, self.rules) {
             Ok(made) => {
                 made.was_checked();

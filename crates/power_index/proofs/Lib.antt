@@ -1,6 +1,7 @@
 pub mod Shared
 mod Ordered
 mod Quotients
+mod Reordered
 pub mod Sizes
 pub mod Unique
 mod Units

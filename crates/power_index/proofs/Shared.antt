@@ -5,7 +5,6 @@ pub mod Members
 pub mod Minimal
 pub mod Pieces
 pub mod Printed
-pub mod Reordered
 pub mod Small
 pub mod Sound
 pub mod Sums

@@ -11,7 +11,7 @@ use Rattle.std.specs.Option.{option_map_or}
 use Rattle.council_game.specs.declared.fault.GameFault.TheVariants.{Title, Members, Name, SameName, Weight, QuotaRange}
 use Rattle.council_game.specs.{Fault.◌>>=◌, Fault.refuse, Fault.refuse_at, Game.is_title, Votes.IsRanked}
 use Rattle.council_game.proofs.Shared.Rankings.{ranking-sum, ranked-falls, length-weights_by_rank, length-rank_places, places-at}
-use Rattle.council_game.proofs.Shared.Rankings.{weights-at}
+use Rattle.council_game.proofs.Shared.Rankings.{weights-at, early, length-early}
 
 -- ---- what a game that was made has passed
 checks-passed : (title count : Bool) (name repeat weight : Option ℕ) (quota : Bool) (made g : GameView)
@@ -68,8 +68,8 @@ pub nowhere_below : (p : ℕ → Bool) (m : ℕ) → ((i : ℕ) → i < m → p 
 nowhere_below p m h = grind (arith, nat_tests, position_nowhere, length-range_with_len, places-at)
 
 -- there are at most 40 members
-pub few-names : (g : GameView) → IsGame g → length g.names ≤ 40
-few-names g game = let p = passed g game.made in grind (arith, nat_tests)
+pub few-members : (g : GameView) → IsGame g → length g.names ≤ 40
+few-members g game = let p = passed g game.made in grind (arith, nat_tests)
 
 -- no name is longer than 64 bytes
 name-fits : (name : List ℕ) → not (is_name name) ≡ false → length name ≤ 64
@@ -142,9 +142,9 @@ votes-are g game =
     let quotas = none-any has_bad_quota g.rules p.quotas in
     let count : length (map (rule_by_rank g.ranks) g.rules) ≡ length g.rules = length-map g.rules (rule_by_rank g.ranks) in
     let all : AllByRecursion (IsRule (length g.names)) (map (rule_by_rank g.ranks) g.rules) =
-    subst (λ (ranks : List ℕ). AllByRecursion (IsRule (length g.names)) (map (rule_by_rank ranks) g.rules)) (sym game.ranks)
-    (rules-votes (length g.names) game.order g.rules few game.ordered full light quotas) in
+    subst (λ (ranks : List ℕ). AllByRecursion (IsRule (length g.names)) (map (rule_by_rank ranks) g.rules)) (sym game.ranked)
+    (rules-votes (length g.names) (early g.ranks) g.rules few (length-early g.ranks ∙ game.each_member) full light quotas) in
     let up : length g.rules ≡ 1 → IsRanked (map (rule_by_rank g.ranks) g.rules) =
     λ one. subst (λ (ranks : List ℕ). IsRanked (map (rule_by_rank ranks) g.rules))
-    (sym (game.ranks ∙ ap rank_places (game.by_weight one))) (rules-ranked g.rules) in
+    (sym (game.by_weight one)) (rules-ranked g.rules) in
     grind (arith, nat_tests)

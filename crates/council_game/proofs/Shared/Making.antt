@@ -7,6 +7,8 @@ use Rattle.council_game.proofs.Imports.{string_bytes, get_or_default}
 use Rattle.council_game.specs.Inner.Parts.{game_of_parts}
 use Rattle.std.proofs.Common.{String, Global, option_map, ltb-false}
 use Rattle.std.proofs.lemmas.List.Elements.{All-map}
+use Rattle.council_game.specs.Ranks.{AreOfRanking}
+use Rattle.council_game.proofs.Shared.Rankings.{early, length-early, length-rank_places, of-ranking}
 use Rattle.council_game.proofs.Shared.{Rankings.length-by_rank, Rankings.by_rank-at, RuleLists.held_full, WinningByPlaces.held-rule}
 use Rattle.council_game.proofs.Shared.Games.{passed, votes-are, light-weights, light-sum}
 pub use Rattle.council_game.proofs.Shared.Rankings.{RanksAre, ranks-of, ranked-falls, order-below}
@@ -69,10 +71,11 @@ is-game title names rules ks some few full ranks made =
     let size = length-map names string_bytes in
     record {
       made = made ∙ ap (λ (l : List ℕ). Ok (game_of_parts title names rules l)) ranks;
-      order = first_weights (rule_views rules);
-      ordered = first-length rules (length names) some full ∙ sym size;
-      ranks = ranks;
-      by_weight = λ one. refl;
+      each_member =
+          ap (λ (l : List ℕ). length l) ranks ∙ length-rank_places (first_weights (rule_views rules))
+          ∙ first-length rules (length names) some full ∙ sym size;
+      ranked = subst AreOfRanking (sym ranks) (of-ranking (first_weights (rule_views rules)));
+      by_weight = λ one. ranks;
       has_rule = omega (arith, count);
       few_rules = omega (arith, count);
       full = rw size (All-map (λ r. length r.weights ≡ length names) rule_view rules full);
@@ -81,7 +84,8 @@ is-game title names rules ks some few full ranks made =
 -- in each game the ranks are a permutation, and `member_at` goes back
 pub ranks-are : (g : GameView) → IsGame g → RanksAre (length g.names) g.ranks
 ranks-are g game =
-    rw (game.ranks, ← game.ordered) (ranks-of game.order)
+    let long = length-early g.ranks ∙ game.each_member in
+    subst (λ (n : ℕ). RanksAre n g.ranks) long (subst (RanksAre (length (early g.ranks))) (sym game.ranked) (ranks-of (early g.ranks)))
 
 pub held-votes : (g : GameView) (n : ℕ) (ranked : List Rule) → IsGame g → n ≡ length g.names → rule_views ranked ≡ (votes_of g).rules
     → IsVotes (votes n ranked)
@@ -122,11 +126,15 @@ pub is-reordered : (g : GameView) (ws : List ℕ) → IsGame g → 1 < length g.
     → IsGame (record g { ranks = rank_places ws })
 is-reordered g ws game several long = record {
   made = game.made;
-  order = ws;
-  ordered = long;
-  ranks = refl;
+  each_member = length-rank_places ws ∙ long;
+  ranked = of-ranking ws;
   by_weight = λ one. absurd (omega (arith, several, one));
   has_rule = game.has_rule;
   few_rules = game.few_rules;
   full = game.full;
 }
+
+pub reordered-parts : (g : GameView) (title : Option (String Global)) (names : List (String Global)) (rules : List Rule) (ks ws : List ℕ)
+    → option_map string_bytes title ≡ g.title → map string_bytes names ≡ g.names → rule_views rules ≡ g.rules → ks ≡ rank_places ws
+    → IsGame g → 1 < length g.rules → length ws ≡ length g.names → IsGame (game_of_parts title names rules ks)
+reordered-parts g title names rules ks ws a b c d game several long = rw (a, b, c, d) (is-reordered g ws game several long)

@@ -112,7 +112,7 @@ module _ (g : GameView) (is : IsGame g) where
   unfolding coalition_of_set
   set-below set = mask-below (λ p. set (member_at g.ranks p)) (length g.names)
 
-  set-one : (c d : ℕ) → c < 2 ^ length g.names → d < 2 ^ length g.names → HaveSameMembers g g c d → c ≡ d
+  pub set-one : (c d : ℕ) → c < 2 ^ length g.names → d < 2 ^ length g.names → HaveSameMembers g g c d → c ≡ d
   set-one c d lc ld same =
       let are = ranks-are g is in
       same-places (length g.names) c d lc ld (λ p lt.
@@ -185,7 +185,7 @@ wins-alike g h is_g is_h count c d same (r ∷ rs) =
     grind (arith, wins-alike g h is_g is_h count c d same rs, weigh)
 
 module _ (g h : GameView) (is_g : IsGame g) (is_h : IsGame h) (names : h.names ≡ g.names) (rules : h.rules ≡ g.rules) where
-  count : length h.names ≡ length g.names
+  pub count : length h.names ≡ length g.names
   count = ap (λ (l : List (List ℕ)). length l) names
 
   win : (c d : ℕ) → HaveSameMembers g h c d → wins (votes_of g).rules c ≡ wins (votes_of h).rules d
@@ -216,14 +216,14 @@ module _ (g h : GameView) (is_g : IsGame g) (is_h : IsGame h) (names : h.names �
       sym (win _ _ (fewer c d i same li own)) ∙ both.1 i li own)
 
   -- the coalition of h with the members of one of g
-  there : ℕ → ℕ
+  pub there : ℕ → ℕ
   there c = coalition_of_set h is_h (λ i. contains g i c)
 
-  there-same : (c : ℕ) → HaveSameMembers g h c (there c)
+  pub there-same : (c : ℕ) → HaveSameMembers g h c (there c)
   unfolding there
   there-same c i lt = sym (set-contains h is_h (λ i. contains g i c) i (omega (arith, count, lt)))
 
-  there-below : (c : ℕ) → there c < 2 ^ length g.names
+  pub there-below : (c : ℕ) → there c < 2 ^ length g.names
   unfolding there
   there-below c = let same = ap (λ (n : ℕ). 2 ^ n) count in omega (arith, same, set-below h is_h (λ i. contains g i c))
 

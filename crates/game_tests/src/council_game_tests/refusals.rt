@@ -71,3 +71,24 @@ fn lists_members(rt: HostRuntime) {
         Err(_) => say(&rt, "out of memory"),
     }
 }
+
+/// Of three members with one vote each and one, two and three shares, the last contributes most: so
+/// it gets the first place, and the coalitions get other numbers.
+#[test]
+fn orders_by_contribution(rt: HostRuntime) {
+    let alloc = rt.alloc();
+    let game = game_of_rules(&rt, alloc, &[(2, &[1, 1, 1]), (4, &[1, 2, 3])]);
+    say(&rt, "call");
+    match game.by_contribution(alloc) {
+        Ok(Some(other)) => {
+            say(&rt, "worked");
+            assert!(rt; other.members() <= 20);
+            let mut list = plain_list(alloc, &other).expect(&rt, "a list");
+            are_masks(&rt, &list, &[6, 5]);
+            other.renumber_all(&mut list, &game);
+            are_masks(&rt, &list, &[5, 3]);
+        }
+        Ok(None) => say(&rt, "the places are in this order"),
+        Err(_) => say(&rt, "out of memory"),
+    }
+}

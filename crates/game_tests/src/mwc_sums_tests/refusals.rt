@@ -5,7 +5,7 @@ ghost use Rattle.power_index.specs.Tables.{AreCountsOfGame};
 
 use crate::helpers::{game_of_rules, same, say};
 use council_game::{Game, Memory, plain_list};
-use mwc_sums::{Coverage, count_by_sums};
+use mwc_sums::{Coverage, count_by_kinds, count_by_sums};
 use power_index::Counts;
 use power_index::laws::minimal_coalitions_can_be_counted;
 use std::alloc::Global;
@@ -13,7 +13,7 @@ use std::io::Print;
 use std::process::Abort;
 
 /// All numbers of two counts are the same.
-fn same_counts(rt: &impl Abort, found: &Counts, wanted: &Counts) {
+pub(crate) fn same_counts(rt: &impl Abort, found: &Counts, wanted: &Counts) {
     let members = found.members();
     assert!(rt; members == wanted.members());
     same(rt, found.wide_total(), wanted.wide_total(), "in all");
@@ -29,7 +29,7 @@ fn same_counts(rt: &impl Abort, found: &Counts, wanted: &Counts) {
 }
 
 /// The counts of the minimal ones of all subsets, of a game of at most 20 members.
-fn by_subsets(rt: &impl Abort, alloc: Global, game: &Game) -> Counts
+pub(crate) fn by_subsets(rt: &impl Abort, alloc: Global, game: &Game) -> Counts
     ensures { AreCountsOfGame game.now result }
 {
     assert!(rt; game.members() <= 20);
@@ -113,4 +113,50 @@ fn counts_in_part(rt: HostRuntime) {
     let second = [1, 2, 2, 1, 3, 0, 0, 0, 0];
     let third = [0, 0, 0, 0, 0, 3, 1, 2, 0];
     counts(&rt, rt.alloc(), &[(8, &first), (5, &second), (4, &third)]);
+}
+
+/// Counts the game of these rules, of at most 20 members, by kinds, and says what came of it.
+fn counts_kinds<R: Abort + Print>(rt: &R, alloc: Global, rules: &[(u64, &[u64])]) {
+    let game = game_of_rules(rt, alloc, rules);
+    let wanted = by_subsets(rt, alloc, &game);
+    say(rt, "call");
+    match count_by_kinds(alloc, &game) {
+        Ok(Some(counts)) => {
+            say(rt, "worked");
+            same_counts(rt, &counts, &wanted);
+        }
+        Ok(None) => say(rt, "not taken"),
+        Err(_) => say(rt, "out of memory"),
+    }
+}
+
+/// Two kinds, of which one has a single member.
+#[test]
+fn counts_by_kinds(rt: HostRuntime) {
+    counts_kinds(
+        &rt,
+        rt.alloc(),
+        &[(7, &[1, 1, 1, 1, 5, 1, 1, 1, 1, 1, 1, 1])],
+    );
+}
+
+/// Three kinds under two rules, in mixed order, one of them without weight.
+#[test]
+fn counts_by_kinds_under_two_rules(rt: HostRuntime) {
+    let first = [4, 1, 0, 4, 1, 0, 4, 1, 0, 4, 1, 0, 4, 1, 0, 1, 0];
+    let second = [1, 3, 0, 1, 3, 0, 1, 3, 0, 1, 3, 0, 1, 3, 0, 3, 0];
+    counts_kinds(&rt, rt.alloc(), &[(11, &first), (10, &second)]);
+}
+
+/// Two kinds under four rules, some of them the same.
+#[test]
+fn counts_by_kinds_under_four_rules(rt: HostRuntime) {
+    let all = [1; 12];
+    let first = [1, 1, 1, 1, 1, 1, 1, 1, 1, 0, 0, 0];
+    let last = [0, 0, 0, 0, 0, 0, 0, 0, 0, 7, 7, 7];
+    counts_kinds(
+        &rt,
+        rt.alloc(),
+        &[(6, &all), (3, &first), (8, &last), (3, &first)],
+    );
 }

@@ -10,8 +10,7 @@ use Rattle.std.proofs.lemmas.List.Elements.{All-map, All-weaker, filter_passes, 
 use Rattle.council_game.proofs.Shared.RankPlaces.{by-member, game-rank_places}
 use Rattle.power_index.proofs.Shared.Sums.{length-filter-le}
 
-pub few-members : (g : GameView) → IsGame g → length g.names ≤ 40
-few-members g is = (votes-are g is).few
+pub use Rattle.council_game.proofs.Shared.Games.{few-members}
 
 -- the members that a coalition contains are as many as its places
 pub members-of : (g : GameView) → IsGame g → (c : ℕ) → count_by (λ i. contains g i c) (members g) ≡ size_of g c

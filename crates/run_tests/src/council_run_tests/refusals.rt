@@ -92,6 +92,29 @@ fn runs_on_toml(rt: HostRuntime) {
     runs(&rt, rt.alloc(), TWO_RULES, TWO_RULES_REPORT, false);
 }
 
+/// Two of three members must sign, and have two thirds of the shares, most of which the last one has:
+/// the members are walked over in the opposite order.
+const TURNED_RULES: &[u8] = b"quotas = [2, 4]\n\
+    member = [{name = \"A\", weights = [1, 1]},\
+    {name = \"B\", weights = [1, 2]},\
+    {name = \"C\", weights = [1, 3]}]";
+
+const TURNED_RULES_REPORT: &[u8] = b"members\t3\n\
+    quota\t2/4\n\
+    total\t3/6\n\
+    minimal\t2\n\
+    coalition\t2\t2/4\tA\tC\n\
+    coalition\t2\t2/5\tB\tC\n\
+    size\t2\t2\t1\t1\t2\n\
+    member\tA\t1/1\t1\t1/4\t0.250000\t1/4\t0.250000\n\
+    member\tB\t1/2\t1\t1/4\t0.250000\t1/4\t0.250000\n\
+    member\tC\t1/3\t2\t1/2\t0.500000\t1/2\t0.500000\n";
+
+#[test]
+fn runs_on_turned_rules(rt: HostRuntime) {
+    runs(&rt, rt.alloc(), TURNED_RULES, TURNED_RULES_REPORT, false);
+}
+
 /// The report of a tally of two rules of heads and weights.
 const TWO_RULES_TALLY: &[u8] = b"title\tTwo\n\
     members\t4\n\

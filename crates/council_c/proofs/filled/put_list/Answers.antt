@@ -1,4 +1,4 @@
-use Rattle.std.proofs.Common.{IfErr, IfOk, Some, subst}
+use Rattle.std.proofs.Common.{IfErr, IfOk, Some, ap, subst}
 use Rattle.coalitions.specs.declared.report_lines.ReportLines.{ReportLines}
 use Rattle.council_report.specs.Report.{report}
 use Rattle.council_run.proofs.Shared.Finding.{finds-found}
@@ -9,18 +9,18 @@ use Rattle.council_c.proofs.filled.put_list.Goals as goal
 pub put_found-requires : goal.put_found-requires
 put_found-requires c =
     finds-found (Some c.args.options.now.most) c.lines.result c.in_ok-game.game c.list_by_walk-found.result
-    (c.list_by_walk-found.ensures c.lines.result)
+    (c.list_by_walk-found.ensures c.lines.result (ap (λ (l : ReportLines). l.list) c.lines.ensures))
 
 pub returns-clause-ok : goal.returns-clause-ok
 returns-clause-ok c =
     let P : ReportLines → Type 0 = λ lines. IfOk c.put_found.result
     (FillsBy (report lines) (Some c.args.options.now.most) c.args.bytes.now c.args.room.now c.put_found.new.room) in
     subst P c.lines.ensures (c.put_found.ensures.ok (Some c.args.options.now.most) c.args.bytes.now
-    (c.list_by_walk-found.ensures c.lines.result) c.in_ok-game.ensures.game)
+    (c.list_by_walk-found.ensures c.lines.result (ap (λ (l : ReportLines). l.list) c.lines.ensures)) c.in_ok-game.ensures.game)
 
 pub returns-clause-err : goal.returns-clause-err
 returns-clause-err c =
     let P : ReportLines → Type 0 = λ lines. IfErr c.put_found.result
     (λ (fault : RunFault). StopsOn (report lines) (Some c.args.options.now.most) c.args.bytes.now fault.cause) in
     subst P c.lines.ensures (c.put_found.ensures.err (Some c.args.options.now.most) c.args.bytes.now
-    (c.list_by_walk-found.ensures c.lines.result) c.in_ok-game.ensures.game)
+    (c.list_by_walk-found.ensures c.lines.result (ap (λ (l : ReportLines). l.list) c.lines.ensures)) c.in_ok-game.ensures.game)

@@ -1,4 +1,4 @@
-use Rattle.mwc_sums.proofs.Imports.{length, string_bytes, ap, arith, length-map, held_full, StatuteView}
+use Rattle.mwc_sums.proofs.Imports.{length, ap, arith, length-map, held_full, StatuteView}
 use Rattle.mwc_sums.proofs.statute.Statute.game.Goals as goal
 
 pub with_rules-requires-clause-full : goal.with_rules-requires-clause-full

@@ -1,4 +1,4 @@
-use Rattle.mwc_sums.proofs.Imports.{length, ap, arith, nat_tests, length-map, held_full, StatuteView}
+use Rattle.mwc_sums.proofs.Imports.{arith, nat_tests, length-map, held_full}
 use Rattle.council_game.specs.Rules.{rule_view}
 use Rattle.mwc_sums.proofs.statute.Statute.weight.Goals as goal
 

@@ -1,5 +1,0 @@
-use Rattle.mwc_sums.proofs.Imports.{◌≡◌, map, string_bytes, take}
-use Rattle.mwc_sums.proofs.statute.copy_names.Given as goal
-
-abbrev pub invariant-loop-member : goal.invariant-loop-member
-invariant-loop-member l = map string_bytes l.names.items ≡ take l.member l.game.names
