@@ -44,9 +44,9 @@ module _ {v : Votes} {p x rest : ℕ} {es : List ℕ} (tried : Tried v p x es re
 
   -- a rule that passes its quota by less than the lightest member weighs spares only who weighs nothing
   pub tried-weightless : (i : ℕ) (l : Lane) → i < length v.rules → p ≤ v.members → LaneIs v.members (rule_at v.rules i) l
-      → get_or es i 0 < get_or l.lightest p 0 → Tried v p x es (bit_and rest l.weightless)
+      → get_or es i 0 < get_or l.lightest (p - 1) 0 → Tried v p x es (bit_and rest l.weightless)
   tried-weightless i l below le is less =
-      grind (arith, and_le_l, and_from, and_parts, both_ways, cases_Bool, eq-eqb, has-and, place-before, is.lightest p)
+      grind (arith, and_le_l, and_from, and_parts, both_ways, cases_Bool, eq-eqb, has-and, place-before, is.lightest (p - 1))
 
 module _ {v : Votes} {a : Cursor} (is : CursorIs v a) where
   -- ---- what is there and what comes

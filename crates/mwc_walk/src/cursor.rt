@@ -388,7 +388,21 @@ impl Cursor {
             NothingBelow (votes_of game.now) self.now.place self.now.prefix }
         ensures none { result ≡ false → NoneSpared (votes_of game.now) self.now.place self.now.prefix excess.now }
     {
-        let mut rest = self.may_be_spared(game, excess);
+        let few = self.may_be_spared(game, excess);
+        few != 0 && self.spares_any(game, excess, few)
+    }
+
+    /// Whether each rule can spare one of a few members. Kept out of line, since there are seldom any.
+    #[inline(never)]
+    fn spares_any(&self, game: &Game, excess: &[u64; limits::RULES], few: u64) -> bool
+        requires is { CursorIs (votes_of game.now) self.now }
+        requires tried { Tried (votes_of game.now) self.now.place self.now.prefix excess.now few }
+        ensures some { result ≡ true →
+            AreExcesses (votes_of game.now) self.now.place self.now.prefix excess.now →
+            NothingBelow (votes_of game.now) self.now.place self.now.prefix }
+        ensures none { result ≡ false → NoneSpared (votes_of game.now) self.now.place self.now.prefix excess.now }
+    {
+        let mut rest = few;
         while rest != 0 {
             let place = self.last_place(game, rest);
             if self.spares(game, excess, place) {
@@ -420,9 +434,10 @@ impl Cursor {
         ensures { Tried (votes_of game.now) self.now.place self.now.prefix excess.now result }
     {
         let mut few = mask_of(self.prefix, self.place, self.members);
+        let last = self.place.saturating_sub(1);
         for rule in 0..self.rules {
             let lane = &self.lanes[rule];
-            if excess[rule] < lane.lightest[self.place] {
+            if excess[rule] < lane.lightest[last] {
                 few &= lane.weightless;
             }
         }

@@ -18,8 +18,8 @@ pub(crate) struct Lane {
     pub(crate) sum: u64,
     /// The rank mask of the members without weight.
     pub(crate) weightless: u64,
-    /// For each place the least weight but 0 of the members before it; the greatest number if none has weight.
-    pub(crate) lightest: [u64; limits::SIZES],
+    /// For each place the least weight but 0 up to it; the greatest number if none there has weight.
+    pub(crate) lightest: [u64; limits::MEMBERS],
     /// The weights, in rank order.
     pub(crate) weights: [u64; limits::MEMBERS],
     /// For each place what the members from it on weigh together.
@@ -135,21 +135,19 @@ fn weightless_of(weights: &[u64; limits::MEMBERS], members: usize) -> u64
     none.mask()
 }
 
-/// Returns for each place the least weight but 0 of the members before it.
-fn lightest_of(weights: &[u64; limits::MEMBERS], members: usize) -> [u64; limits::SIZES]
+/// Returns for each place the least weight but 0 up to it.
+fn lightest_of(weights: &[u64; limits::MEMBERS], members: usize) -> [u64; limits::MEMBERS]
     requires { members ≤ MEMBERS }
-    ensures { (p q : ℕ) → p ≤ members → q < p → slice_index weights.now q < slice_index result p →
+    ensures { (p q : ℕ) → p < members → q ≤ p → slice_index weights.now q < slice_index result p →
         slice_index weights.now q ≡ 0 }
 {
-    let mut lightest = [u64::MAX; limits::SIZES];
+    let mut lightest = [u64::MAX; limits::MEMBERS];
+    let mut least = u64::MAX;
     for place in 0..members {
-        let least = lightest[place];
-        let weight = weights[place];
-        lightest[place + 1] = if weight == 0 {
-            least
-        } else {
-            least.min(weight)
-        };
+        if weights[place] > 0 {
+            least = least.min(weights[place]);
+        }
+        lightest[place] = least;
     }
     lightest
 }

@@ -46,7 +46,7 @@ pub record LaneIs (n : ℕ) (r : RuleView) (l : Lane) : Type 0 where
   pub weights : take n l.weights ≡ r.weights
   pub rest : (q : ℕ) → q ≤ n → slice_index l.rest q ≡ sum (drop q r.weights)
   pub weightless : (q : ℕ) → q < n → has n q l.weightless ≡ (slice_index r.weights q == 0)
-  pub lightest : (p q : ℕ) → p ≤ n → q < p → slice_index r.weights q < slice_index l.lightest p → slice_index r.weights q ≡ 0
+  pub lightest : (p q : ℕ) → p < n → q ≤ p → slice_index r.weights q < slice_index l.lightest p → slice_index r.weights q ≡ 0
 
 -- the first lanes are those of the rules
 abbrev pub LanesStand : Votes → List Lane → Type 0

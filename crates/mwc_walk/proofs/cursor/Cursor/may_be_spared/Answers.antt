@@ -9,6 +9,6 @@ pub loop-rule-preserved : goal.loop-rule-preserved
 loop-rule-preserved c = elim c.if-excess-rule.branch [
   | then-excess-rule w ↦ rw w.few-is (tried-weightless c.loop-rule.invariant c.loop-rule.rule _
       (omega (arith, c.loop-rule-test.true, c.requires.rules)) c.requires.place.to
-      (lane-here c.requires c.loop-rule.rule c.loop-rule-test.true) w.if-excess-rule.true)
+      (lane-here c.requires c.loop-rule.rule c.loop-rule-test.true) (rw c.saturating_sub-last.ensures at w.if-excess-rule.true))
   | else-excess-rule w ↦ rw w.few-is c.loop-rule.invariant
 ]

@@ -1,5 +1,5 @@
 use Rattle.mwc_walk.proofs.Imports.{votes_of, Tried}
-use Rattle.mwc_walk.proofs.cursor.Cursor.has_spared.Given as goal
+use Rattle.mwc_walk.proofs.cursor.Cursor.spares_any.Given as goal
 
 abbrev pub invariant-loop-rest : goal.invariant-loop-rest
 invariant-loop-rest l = Tried (votes_of l.game) l.self.place l.self.prefix l.excess l.rest
