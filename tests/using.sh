@@ -1,5 +1,6 @@
 #!/usr/bin/env bash
-# council-tools on the stored reports, and the commands of README.md, docs/USING.md and docs/STATUTES.md.
+# council-tools on the stored reports, the picture in README.md, and the commands of README.md, docs/USING.md and
+# docs/STATUTES.md.
 . "$(dirname "$0")/common.sh"
 cd "$top" || exit 1
 export PYTHONDONTWRITEBYTECODE=1
@@ -14,8 +15,9 @@ draws() {
 }
 
 tools=$top/tools/council-tools
-if needs python3 "council-tools table" "council-tools table on each example" "council-tools table on a refused game" "council-tools compare"; then
+if needs python3 "council-tools table" "the picture in README.md" "council-tools table on each example" "council-tools table on a refused game" "council-tools compare"; then
     draws "council-tools table" tests/using/wanted/table.txt "$tools" table <examples/eec-1958.tsv
+    draws "the picture in README.md" docs/eec-1958.svg "$tools" bars examples/eec-1958.tsv
     draws "council-tools compare" tests/using/wanted/compare.txt "$tools" compare examples/eec-1958.tsv examples/ec-1973.tsv
     why=
     for report in examples/*.tsv; do

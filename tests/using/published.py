@@ -1,5 +1,5 @@
 #!/usr/bin/env python3
-"""What README.md and docs/STATUTES.md say of published tables and treaties, against the program
+"""What docs/USING.md and docs/STATUTES.md say of published tables and treaties, against the program
 and the stored reports.
 
     tests/using/published.py PROGRAM
