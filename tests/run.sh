@@ -63,7 +63,7 @@ if [ ! -x "$program" ]; then
     failed=1
 else
     # the longest first, as many at once as there are processors
-    scripts="look refusals hostile sizes tally too_many small_machine output using packages launcher examples workers prefixes pages"
+    scripts="look refusals hostile sizes tally too_many small_machine output using packages launcher examples workers prefixes pages tour"
     # these want the library
     callers="foreign archive wheel"
     programs="random_games cases every_size reading rooms memory_source gate_source"
