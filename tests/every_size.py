@@ -4,9 +4,9 @@
     every_size.py PROGRAM
 
 runs PROGRAM on games of 1 to 40 members and 1 to 4 rules that have few minimal winning coalitions, and
-goes through 1 to 16 workers and 0 to 10 bits meanwhile. It compares each report, with and without
---tally, with that of tests/oracle.py. So a body that goes wrong at one number only is noticed. Prints
-`ok NAME` or `FAILED NAME: why`.
+goes through 1 to 16 workers, 0 to 10 bits and all choices of the options that show lines meanwhile. It
+compares each report, with and without --tally, with that of tests/oracle.py. So a body that goes wrong
+at one number or one choice only is noticed. Prints `ok NAME` or `FAILED NAME: why`.
 """
 import itertools
 import os
@@ -27,10 +27,18 @@ def game_of(members, rules):
     return oracle.Game(None, [f"M{member}" for member in range(members)], columns[:rules])
 
 
+def flags_of(*words):
+    """Every choice of these words, in either order."""
+    chosen = [list(some) for count in range(len(words) + 1) for some in itertools.combinations(words, count)]
+    return chosen + [flags[::-1] for flags in chosen]
+
+
 def main(words):
     if len(words) != 1:
         sys.exit("usage: every_size.py PROGRAM")
     program = os.path.abspath(words[0])
+    runs = itertools.cycle(flags_of("--list", "--sizes", "--notation", "--explain"))
+    tallies = itertools.cycle(["--tally", *flags] for flags in flags_of("--sizes", "--notation", "--explain"))
     numbers = itertools.cycle((workers, bits) for workers in range(1, 17) for bits in range(11))
     done, failed = 0, []
     with tempfile.TemporaryDirectory() as room:
@@ -39,7 +47,7 @@ def main(words):
                 game = game_of(members, rules)
                 with open(f"{room}/game", "wb") as file:
                     file.write(random_games.file_of(game))
-                for flags in ["--list", "--sizes"], ["--tally", "--sizes"]:
+                for flags in next(runs), next(tallies):
                     workers, bits = next(numbers)
                     options = [*flags, "--workers", str(workers), "--bits", str(bits)]
                     found = random_games.printed(program, f"{room}/game", options)

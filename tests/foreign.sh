@@ -99,6 +99,10 @@ equal_members 24 12 >"$temp/many.txt"
 same "more than a million" "$temp/many.txt"
 same "more than a million, with the most above" "$temp/many.txt" --most 4000000
 
+# ---- a report of some 60 KB
+game_file 6 1 1 1 1 1 1 1 1 1 1 1 1 >"$temp/twelve.toml"
+same "a long report" "$temp/twelve.toml" --list --sizes --notation
+
 # ---- faults
 : >"$temp/empty"
 same "no byte" "$temp/empty"
@@ -116,15 +120,18 @@ same "a bad weight" "$temp/weight.toml" --list
 # ---- options that no call takes: the program refuses the words, with the same status
 for words in "--most 4000001" "--tally --list" "--tally --most 5"; do
     for caller in ${callers[@]+"${callers[@]}"}; do
-        # shellcheck disable=SC2086
-        call "$caller" $words <"$top/examples/board.toml"
-        # shellcheck disable=SC2086
-        run $words <"$top/examples/board.toml"
-        if [ "$its" -eq 2 ] && [ "$status" -eq 2 ] && [ "$(cat "$temp/its.err")" = "council: bad options" ]; then
-            ok "from $caller: $words"
-        else
-            failed "from $caller: $words" "status $its and $status: $(head -n 1 "$temp/its.err")"
-        fi
+        # the options are checked before the game is read
+        for game in "$top/examples/board.toml" "$temp/bracket.txt"; do
+            # shellcheck disable=SC2086
+            call "$caller" $words <"$game"
+            # shellcheck disable=SC2086
+            run $words <"$game"
+            if [ "$its" -eq 2 ] && [ "$status" -eq 2 ] && [ "$(cat "$temp/its.err")" = "council: bad options" ]; then
+                ok "from $caller: $words, ${game##*/}"
+            else
+                failed "from $caller: $words, ${game##*/}" "status $its and $status: $(head -n 1 "$temp/its.err")"
+            fi
+        done
     done
 done
 

@@ -170,11 +170,13 @@ fi
 
 # ---- how far it has come: told on a terminal after a second, and wiped
 if needs python3 "a long tally on a terminal"; then
-    # a game that takes some seconds in one thread: of three rules, which sums do not take
+    # a game that takes some seconds in one thread: any 8 members win, by three rules that sums do not
+    # take, and under each rule all weights differ a little, so that no two members are of one kind
     {
-        echo 'quotas = [8, 8, 8]'
+        echo 'quotas = [8000000, 8000000, 8000000]'
         for ((member = 1; member <= 40; member++)); do
-            printf '[[member]]\nname = "%s"\nweights = [1, 1, 1]\n' "$member"
+            printf '[[member]]\nname = "%s"\nweights = [%s, %s, %s]\n' "$member" "$((1000000 + member))" \
+                "$((1000041 - member))" "$((1000000 + member * 7 % 41))"
         done
     } >"$temp/three.toml"
     export PYTHONPATH=$top/tests PYTHONDONTWRITEBYTECODE=1
@@ -204,7 +206,7 @@ assert run.told.count(b"\r\x1b[K") == 1, run.told.count(b"\r\x1b[K")
 END
     then ok "a long tally on a terminal"; else failed "a long tally on a terminal" "$(tail -n 1 "$temp/told")"; fi
     # a first slice of 225,792,840 coalitions: they are shown before it is done
-    sed 's/8, 8, 8/20, 20, 20/' "$temp/three.toml" >"$temp/half.toml"
+    sed 's/8000000/20000000/g' "$temp/three.toml" >"$temp/half.toml"
     if timeout "$seconds" python3 - "$program" "$temp/half.toml" >"$temp/told" 2>&1 <<'END'
 import re, sys
 from terminal import Run

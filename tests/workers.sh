@@ -26,7 +26,7 @@ for game in board.txt five.toml two.toml ec-1986.toml; do
 done
 
 # ---- on a terminal: how far a run has come, and that a game is read from standard input
-if needs python3 "a long run on a terminal" "a barren run and tally on a terminal" "a late fault on a terminal" "a late report on a terminal" "a game from a terminal"; then
+if needs python3 "a long run on a terminal" "a barren run on a terminal" "a late fault on a terminal" "a late report on a terminal" "a game from a terminal"; then
     # a game of 3,838,380 coalitions, listed in some tenths of a second; the program is stopped meanwhile, so that more than the
     # second goes by after which a run is told of
     {
@@ -48,34 +48,37 @@ for column in (0, 1):
     assert numbers == sorted(numbers) and numbers[-1] > 0, numbers
 END
     then ok "a long run on a terminal"; else failed "a long run on a terminal" "$(tail -n 1 "$temp/told")"; fi
-    # a game that takes hours: by heads small members come first, and the twelve large ones behind them differ, so that nearly
-    # any sum can still come. Its minimal winning coalitions are of large ones alone, and are met at the end. It is ended once it
-    # was told of twice, before any of them was met
-    large="519823 877546 700281 950433 613372 802119 737614 991027 564385 846973 925268 682491"
+    # a game that takes hours: 21 of 39 members must agree, 6 of the first twelve and 15 of the others, so
+    # a coalition with a seventh of the twelve is never minimal. The last member has so little weight under
+    # one rule only that no price shows it. The run is ended once it was told of twice, before it has found
+    # a coalition
     {
-        echo 'quotas = [2, 4605680, 1]'
-        number=0
-        for weight in 1 1 1 1 1 1 1 1 1 1 1 1 1 1 1 1 1 1 1 1 1 1 1 1 1 1 1 1 $large; do
-            printf '[[member]]\nname = "%s"\nweights = [1, %s, 1]\n' "$((number += 1))" "$weight"
+        echo 'quotas = [21000, 15000, 6000]'
+        for ((member = 1; member <= 40; member++)); do
+            if [ "$member" -le 12 ]; then
+                weights="1000, 0, 1000"
+            elif [ "$member" -lt 40 ]; then
+                weights="1000, 1000, 0"
+            else
+                weights="0, 1, 0"
+            fi
+            printf '[[member]]\nname = "%s"\nweights = [%s]\n' "$member" "$weights"
         done
     } >"$temp/barren.toml"
     if timeout "$seconds" python3 - "$program" "$temp/barren.toml" >"$temp/told" 2>&1 <<'END'
 import re, sys
 from terminal import Run
-for words, line in [
-    (["--bits", "0"], rb"\rcouncil: 0 coalitions found, 0 of 1 slices done, ([0-9,]+) prefixes examined"),
-    (["--tally"], rb"\rcouncil: 0 coalitions found, 0 of 256 slices done, ([0-9,]+) prefixes examined"),
-]:
-    run = Run([sys.argv[1], "--workers", "1", *words, sys.argv[2]])
-    run.read_until(lambda told: len(set(re.findall(line, told))) >= 2)
-    run.kill()
-    assert run.first > 1, f"told of after {run.first} seconds"
-    # each 1,048,576 of the one thread are told of
-    numbers = sorted({int(it.replace(b",", b"")) for it in re.findall(line + rb"(?=\r)", run.told)})
-    assert numbers and all(it % 2**20 == 0 for it in numbers), numbers
-    assert all(there - here == 2**20 for here, there in zip(numbers, numbers[1:])), numbers
+line = rb"\rcouncil: 0 coalitions found, 0 of 1 slices done, ([0-9,]+) prefixes examined"
+run = Run([sys.argv[1], "--workers", "1", "--bits", "0", sys.argv[2]])
+run.read_until(lambda told: len(set(re.findall(line, told))) >= 2)
+run.kill()
+assert run.first > 1, f"told of after {run.first} seconds"
+# each 1,048,576 of the one thread are told of
+numbers = sorted({int(it.replace(b",", b"")) for it in re.findall(line + rb"(?=\r)", run.told)})
+assert numbers and all(it % 2**20 == 0 for it in numbers), numbers
+assert all(there - here == 2**20 for here, there in zip(numbers, numbers[1:])), numbers
 END
-    then ok "a barren run and tally on a terminal"; else failed "a barren run and tally on a terminal" "$(tail -n 1 "$temp/told")"; fi
+    then ok "a barren run on a terminal"; else failed "a barren run on a terminal" "$(tail -n 1 "$temp/told")"; fi
     # the same game where one coalition fewer is asked for: the line is wiped before the fault
     if timeout "$seconds" python3 - "$program" "$temp/long.toml" >"$temp/told" 2>&1 <<'END'
 import sys

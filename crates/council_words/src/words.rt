@@ -32,7 +32,7 @@ are cut off: the Deegan-Packel index (Deegan and Packel 1978) and the public
 good index (Holler 1982; Holler and Packel 1983).";
 
 /// The version, and with which kit it was proved.
-const VERSION: &str = "1.2.0\nproved with rattle-kit-13b logic dac8208d650f15bf";
+const VERSION: &str = "1.2.0\nproved with rattle-kit-13f logic dac8208d650f15bf";
 
 const FORMS: &str = "A game file has one of two forms:
 

@@ -3,9 +3,10 @@ use Rattle.mwc_sums.proofs.Imports.{list_all, list_any, range_with_len, nat_test
 use Rattle.mwc_sums.proofs.Imports.{◌∙◌, ◌&&◌, not, ◌⊎◌, ℕ, ◌<◌, Bool, true, false, All, List, filter, ap, arith, length-map, places-at}
 use Rattle.mwc_sums.proofs.Imports.{cond, [], ◌∷◌, map, refl, All-head, All-tail, suc, ◌+◌, ◌*◌, ◌^◌, ◌++◌, length, get_or, ◌≡◌}
 use Rattle.mwc_sums.proofs.Imports.{filter-append, filter-both, down, down-below}
-use Rattle.std.proofs.lemmas.List.{Elements.filter_passes, Folds.Any-from_list_any, Folds.list_any_at, FromFn.map-range_with_len_more}
+use Rattle.std.proofs.lemmas.List.{Elements.filter_passes, Folds.Any-from_list_any, Folds.list_any_at}
 use Rattle.std.proofs.{Common.length-append, lemmas.Bool.cases_Bool}
 use Rattle.mwc_sums.proofs.Completing.{double-pow, down-two}
+pub use Rattle.mwc_sums.proofs.Listed.{pushed}
 
 pub any-at : (t : ℕ → Bool) (n i : ℕ) → i < n → t i ≡ true → list_any t (range_with_len 0 n) ≡ true
 any-at t n i lt passes = grind (arith, list_any_at t (range_with_len 0 n) i 0, length-range_with_len 0 n, places-at n i 0 lt)
@@ -17,10 +18,6 @@ any-of t n some =
 
 pub all-at : (t : ℕ → Bool) (n i : ℕ) → i < n → list_all t (range_with_len 0 n) ≡ true → t i ≡ true
 all-at t n i lt all = grind (arith, length-range_with_len 0 n, places-at n i 0 lt, AllPass-from_list_all t (range_with_len 0 n) all i 0)
-
-pub pushed : (f : ℕ → ℕ) (n : ℕ) {x : ℕ} {front all : List ℕ} → front ≡ map f (range_with_len 0 n) → x ≡ f n → all ≡ front ++ x ∷ []
-    → all ≡ map f (range_with_len 0 (n + 1))
-pushed f n is own more = grind (arith, map-range_with_len_more f 0 n n)
 
 -- either one who passes the first test fails the second, or none does
 pub missing : (veto f : ℕ → Bool) (n : ℕ) → ((i : ℕ) × (i < n) × (veto i ≡ true) × (f i ≡ false)) ⊎ ((i : ℕ) → i < n → veto i ≡ true → f i ≡ true)

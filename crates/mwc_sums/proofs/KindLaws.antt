@@ -1,33 +1,22 @@
 -- The kinds of a game's places.
 use Rattle.mwc_sums.proofs.KindImports.{◌≡◌, ◌∙◌, ℕ, zero, suc, ◌<◌, ◌≤◌, ◌==◌, Bool, true, false, not, List, [], ◌∷◌, length, get_or}
-use Rattle.mwc_sums.proofs.KindImports.{map, filter, sym, ap, refl, arith, inl, inr, list_all, list_any, range_with_len, rule_at}
+use Rattle.mwc_sums.proofs.KindImports.{map, filter, sym, ap, refl, arith, inl, inr, list_all, range_with_len, rule_at}
 use Rattle.mwc_sums.proofs.KindImports.{nat_tests, cases_Bool, cases_lt, length-range_with_len, places-at, RuleView, Votes, alike, is_known}
 use Rattle.mwc_sums.proofs.KindImports.{kinds, kind_of, members_of_kind, eqb-true}
 use Rattle.std.proofs.Common.{eq-eqb, AllPairs}
 use Rattle.std.proofs.lemmas.Bool.{both_ways, not-true}
-use Rattle.std.proofs.lemmas.List.{Folds.Any-from_list_any, Folds.list_any_at, Elements.All-filter, Elements.filter_passes, Kept.AllPairs-filter}
-use Rattle.std.proofs.lemmas.List.Sums.{AllPass-from_list_all, list_all-from_AllPass, fails_before_first, passes_at_first, position_or_len_is}
+use Rattle.std.proofs.lemmas.List.{Elements.All-filter, Elements.filter_passes, Kept.AllPairs-filter}
+use Rattle.std.proofs.lemmas.List.Sums.{list_all-from_AllPass, fails_before_first, passes_at_first, position_or_len_is}
 use Rattle.power_index.proofs.Shared.Sums.{length-filter-le}
 use Rattle.mwc_sums.specs.declared.kinds.Kind.{Kind}
 use Rattle.mwc_sums.specs.Inner.Choices.{kind_at}
+pub use Rattle.mwc_sums.proofs.Counting.{all-at, any-at, any-of}
 use Rattle.mwc_sums.proofs.{Digits.choices-some, Listed.listed-at, Listed.listed-long}
 
 -- ---- tests of the numbers of a range
-pub all-at : (t : ℕ → Bool) (n i : ℕ) → i < n → list_all t (range_with_len 0 n) ≡ true → t i ≡ true
-all-at t n i lt all = grind (arith, length-range_with_len 0 n, places-at n i 0 lt, AllPass-from_list_all t (range_with_len 0 n) all i 0)
-
 pub all-of : (t : ℕ → Bool) (n : ℕ) → ((i : ℕ) → i < n → t i ≡ true) → list_all t (range_with_len 0 n) ≡ true
 all-of t n each = grind (arith, list_all-from_AllPass, length-range_with_len 0 n, places-at)
 
-any-of : (t : ℕ → Bool) (n : ℕ) → list_any t (range_with_len 0 n) ≡ true → (i : ℕ) × (i < n) × (t i ≡ true)
-any-of t n some =
-    let (k, x, lt, at, passes) = Any-from_list_any t (range_with_len 0 n) some in
-    grind (arith, length-range_with_len 0 n, places-at n k x)
-
-any-at : (t : ℕ → Bool) (n i : ℕ) → i < n → t i ≡ true → list_any t (range_with_len 0 n) ≡ true
-any-at t n i lt passes = grind (arith, list_any_at t (range_with_len 0 n) i 0, length-range_with_len 0 n, places-at n i 0 lt)
-
--- what passes is kept
 pub kept : (f : ℕ → Bool) (xs : List ℕ) (i : ℕ) → i < length xs → f (get_or xs i 0) ≡ true
     → (k : ℕ) × (k < length (filter f xs)) × (get_or (filter f xs) k 0 ≡ get_or xs i 0)
 kept f [] i lt passes = absurd (omega arith)

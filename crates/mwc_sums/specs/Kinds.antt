@@ -33,7 +33,7 @@ choices v (suc k) = choices v k * (members_of_kind v k + 1)
 abbrev pub all_choices : Votes → ℕ
 all_choices v = choices v (length (kinds v))
 
--- that is no great number, and a game has many coalitions for each choice
+-- there are few of them, and the game has many coalitions for each
 pub record HasFewChoices (g : GameView) : Type 0 where
   pub few : all_choices (votes_of g) ≤ CHOICES
   pub coalitions : all_choices (votes_of g) * COALITIONS_EACH ≤ 2 ^ length g.names

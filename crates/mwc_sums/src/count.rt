@@ -12,8 +12,8 @@ use council_game::{Game, Memory};
 use power_index::Counts;
 use std::alloc::Global;
 
-/// Makes the counts of a game from those of its coalitions by choice. (Out of line: inlined, it would
-/// cost stack on every call.)
+/// Makes the counts of a game from those of its coalitions by choice. (Out of line: inlined, it
+/// would cost stack on every call.)
 #[inline(never)]
 fn counts_of(alloc: Global, game: &Game, kinds: &Kinds) -> Result<Box<Counts>, Memory>
     requires { AreKindsOf (votes_of game.now) kinds.now }
@@ -31,9 +31,9 @@ fn counts_of(alloc: Global, game: &Game, kinds: &Kinds) -> Result<Box<Counts>, M
 /// Counts the minimal winning coalitions of a game whose members are of few kinds.
 ///
 /// Members are of one kind if they have the same weight under every rule. A coalition's choice is
-/// how many members of each kind it has. There are few choices if they are at most `CHOICES`, and the
-/// game has at least `COALITIONS_EACH` coalitions for each. It takes up to 40 MB. Of any other game
-/// it returns `None`.
+/// how many members of each kind it has. There are few choices if there are at most `CHOICES`, and
+/// the game has at least `COALITIONS_EACH` coalitions for each. Then this takes up to 40 MB. For
+/// any other game it returns `None`.
 ///
 /// # Errors
 ///

@@ -7,15 +7,13 @@ use power_index::Counts;
 use std::alloc::Global;
 use std::process::Abort;
 
-/// Weights of 1 for `count` members from one on, and of 0 for the others.
-fn ones(from: usize, count: usize) -> [u64; 40] {
-    let mut weights = [0; 40];
-    for member in 0..40 {
+/// Gives `count` members from one on the weight 1.
+fn give_ones(weights: &mut [u64], from: usize, count: usize) {
+    for member in 0..weights.len() {
         if from <= member && member - from < count {
             weights[member] = 1;
         }
     }
-    weights
 }
 
 /// The counts of the game of these rules, if its members are of few kinds.
@@ -43,7 +41,9 @@ fn has_counts(
 /// A fund of two halves of 20, which asks for 27 members, 11 of each half.
 #[test]
 fn counts_a_fund_of_two_halves(rt: HostRuntime) {
-    let (all, first, second) = (ones(0, 40), ones(0, 20), ones(20, 20));
+    let (all, mut first, mut second) = ([1; 40], [0; 40], [0; 40]);
+    give_ones(&mut first, 0, 20);
+    give_ones(&mut second, 20, 20);
     has_counts(
         &rt,
         rt.alloc(),
@@ -56,7 +56,9 @@ fn counts_a_fund_of_two_halves(rt: HostRuntime) {
 /// A parliament of 28 and 12.
 #[test]
 fn counts_a_parliament_of_two_groups(rt: HostRuntime) {
-    let (all, first, second) = (ones(0, 40), ones(0, 28), ones(28, 12));
+    let (all, mut first, mut second) = ([1; 40], [0; 40], [0; 40]);
+    give_ones(&mut first, 0, 28);
+    give_ones(&mut second, 28, 12);
     has_counts(
         &rt,
         rt.alloc(),
@@ -74,16 +76,14 @@ fn counts_a_parliament_of_two_groups(rt: HostRuntime) {
 /// A council of four chambers of 9, of which two ask for 2 members and one for 3.
 #[test]
 fn counts_a_council_of_four_chambers(rt: HostRuntime) {
-    let (all, first, second, third) = (ones(0, 36), ones(0, 9), ones(9, 9), ones(18, 9));
+    let (all, mut first, mut second, mut third) = ([1; 36], [0; 36], [0; 36], [0; 36]);
+    give_ones(&mut first, 0, 9);
+    give_ones(&mut second, 9, 9);
+    give_ones(&mut third, 18, 9);
     has_counts(
         &rt,
         rt.alloc(),
-        &[
-            (24, &all[..36]),
-            (2, &first[..36]),
-            (2, &second[..36]),
-            (3, &third[..36]),
-        ],
+        &[(24, &all), (2, &first), (2, &second), (3, &third)],
         1_248_288_795,
         &[
             (0, 831_791_870),
