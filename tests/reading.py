@@ -1,25 +1,30 @@
 #!/usr/bin/env python3
 """What to read to trust the headline: the definitions that its contracts mention, and theirs in turn.
 
-    reading.py            compares docs/READING.md with what the sources say
-    reading.py --list     prints the list as docs/READING.md has it
+    reading.py            compares docs/TRUST.md with what the sources say
+    reading.py --list     prints the list as docs/TRUST.md has it
     reading.py --inner    names the definitions of specs/ that no public contract reaches
 
 It follows the `use` lines of crates/NAME/specs and the `ghost use` lines of crates/NAME/src. Lines are
 those of definitions: no blank lines, comments or `use` lines.
 
-Prints `ok reading: what` or `FAILED reading: why` for each of these: the list is that of docs/READING.md;
-it has at most LIMIT lines; no module of a folder `Inner` or `Shared` stands in it; those folders have all definitions
-that no public contract reaches, and no others; and each definition that docs/DEFINITIONS.md names, as
-`Module.name`, exists.
+The last part of the list has what the calls of RINGS mention beyond that: what a worker sent, and what the ends of its
+ring show of it, with the words of rtrb by which these ends are seen.
+
+Prints `ok reading: what` or `FAILED reading: why` for each of these: the list is that of docs/TRUST.md;
+it has at most LIMIT lines, and its last part RINGS_LIMIT more; no module of a folder `Inner` or `Shared` stands in it;
+those folders have all definitions that no public contract reaches, and no others; and each definition that
+docs/DEFINITIONS.md names, as `Module.name`, exists.
 """
 import glob
 import os
 import re
 import sys
+import textwrap
 
-# lower it with each definition that goes; never raise it without a reason
+# lower them with each definition that goes; never raise them without a reason
 LIMIT = 416
+RINGS_LIMIT = 57
 # crate, source module, type or None, function or None for all
 HEADLINE = [
     ("mwc_pipe", "trace", None, "replay"),
@@ -29,6 +34,12 @@ HEADLINE = [
     ("mwc_gather", "gathering", None, "gather"),
     ("mwc_gather", "gathered", "Gathered", "in_order"),
     ("council_run", "runs", None, "run"),
+]
+# what says that each ring was read to its end and gave what the worker sent
+RINGS = [
+    ("mwc_gather", "worker", None, "work"),
+    ("mwc_pipe", "ring_out", "RingOut", "end"),
+    ("mwc_pipe", "rest", "Rest", "next"),
 ]
 # in reading order: the first pattern that fits a module
 PARTS = [
@@ -191,6 +202,25 @@ def reading_list():
     return lines, total
 
 
+def rings_list():
+    """The lines of the last part of the list, and how many lines of definitions it names."""
+    seen, other = closure(roots_of(HEADLINE))
+    here, words = closure(roots_of(RINGS))
+    here, words = sorted(here - seen), {k for k in words - other if ".declared." not in k[0]}
+    for path in glob.glob(f"{CRATES}/mwc_pipe/src/*.rt"):
+        # by which words of rtrb the ends are seen
+        for module, names in re.findall(r"^    ghost use (Rattle\.rtrb\.[\w.]+)\.\{(.*)\};$", open(path, encoding="utf-8").read(), re.M):
+            words |= {(module, name) for name in names.split(", ")}
+    count = sum(len(defs[k]) for k in here)
+    lines = [f"## The rings: {len(here)} more definitions, {count} lines"]
+    for module in sorted({k[0] for k in here}):
+        names = ", ".join(f"`{k[1]}`" for k in here if k[0] == module)
+        lines.append(f"- {module[7:].replace('.specs.', '/specs/')}.antt: {names}")
+    for module in sorted({k[0] for k in words}):
+        lines.append(f"- {module[7:]}: " + ", ".join(f"`{k[1]}`" for k in sorted(words) if k[0] == module))
+    return lines, count
+
+
 def inner():
     """The definitions that no public contract reaches."""
     given = set()
@@ -211,11 +241,15 @@ def told(good, what, why=""):
 
 def check():
     lines, total = reading_list()
-    page = open(os.path.join(TOP, "docs", "READING.md"), encoding="utf-8").read().split("\n")
+    rings, more = rings_list()
+    lines += rings
+    page = open(os.path.join(TOP, "docs", "TRUST.md"), encoding="utf-8").read()
+    page = page.replace("\n  ", " ").split("\n")
     shown = [line for line in page if line.startswith(("## ", "- "))]
     odd = [line for line in lines + shown if (line in lines) != (line in shown)]
-    results = [told(shown == lines, "docs/READING.md has the list", f", but for: {odd[0] if odd else 'the order'}")]
+    results = [told(shown == lines, "docs/TRUST.md has the list", f", but for: {odd[0] if odd else 'the order'}")]
     results.append(told(total <= LIMIT, f"{total} lines of definitions, at most {LIMIT}"))
+    results.append(told(more <= RINGS_LIMIT, f"{more} lines of definitions for the rings, at most {RINGS_LIMIT}"))
     inside = [line for line in lines if "/Inner" in line or "/Shared" in line]
     results.append(told(not inside, "no definition of a folder Inner or Shared", f": {inside}"))
     unshown = set(inner())
@@ -231,7 +265,8 @@ def check():
 
 
 if "--list" in sys.argv:
-    print("\n".join(reading_list()[0]))
+    for line in reading_list()[0] + rings_list()[0]:
+        print(textwrap.fill(line, 98, subsequent_indent="  ", break_long_words=False, break_on_hyphens=False))
 elif "--inner" in sys.argv:
     print("\n".join(f"{module[7:]} {name}" for module, name in inner()))
 else:
