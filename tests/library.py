@@ -1,5 +1,6 @@
 #!/usr/bin/env python3
-"""Each piece of code in docs/LIBRARY.md is in the sources of a crate, and the example that it begins with is whole.
+"""Each piece of code in docs/LIBRARY.md is in the sources or the proofs of a crate, and the example that it begins with
+is whole.
 
     tests/library.py
 
@@ -27,9 +28,10 @@ def report(good, name, why):
 
 
 page = read("docs/LIBRARY.md")
-sources = [packed(read(os.path.relpath(path, TOP))) for path in sorted(glob.glob(f"{TOP}/crates/*/src/**/*.rt", recursive=True))]
-for block in re.findall(r"```rust\n(.*?)```", page, re.S):
-    first = next(line.strip() for line in block.split("\n") if line.strip())
-    report(any(packed(block) in source for source in sources), f"docs/LIBRARY.md: {first}", "no crate has this code")
+for language, files in ("rust", "src/**/*.rt"), ("antt", "proofs/**/*.antt"):
+    sources = [packed(read(os.path.relpath(path, TOP))) for path in sorted(glob.glob(f"{TOP}/crates/*/{files}", recursive=True))]
+    for block in re.findall(rf"```{language}\n(.*?)```", page, re.S):
+        first = next(line.strip() for line in block.split("\n") if line.strip())
+        report(any(packed(block) in source for source in sources), f"docs/LIBRARY.md: {first}", "no crate has this code")
 example = read("crates/examples/src/all_indices.rt")
 report(example in page, "docs/LIBRARY.md has crates/examples/src/all_indices.rt whole", "it has not")
