@@ -32,7 +32,7 @@ LIMITS = [
 WORN = [
     (r"in place of", 0, "instead of"),
     (r"of today", 0, "present, or a date"),
-    (r"as (?:it|they) (?:is|are|was|were)\b", 0, "unchanged"),
+    (r"as (?:it|they) (?:is|was|were)(?=[.,;:])", 0, "unchanged"),
     (r"the like", 0, "name them"),
     (r"(?:is|are) told", 0, "is informed, or the program says"),
     (r"a telling", 0, "a report"),
@@ -45,7 +45,10 @@ WORN = [
     (r"\bparcels?\b", 0, "row of words"),
     (r"\bpatience\b", 0, "backoff"),
     (r"\blookouts?\b", 0, "observer"),
-    (r"\bstands? for that\b", 0, "is"),
+    (r"(?<=[.:;] )where (?:an?|the|no|there|it|this|some|few|its|all)\b", 0, "if"),
+    (r"stands? (?:as|at|behind|there|once|twice)\b", 0, "is"),
+    (r"(?:comes?|came) to (?:that|it|this)\b", 0, "say what happens"),
+    (r"alone\b", 1, "only"),
     (r"is to hold", 0, "holds"),
     (r"so that", 1, "so, or two sentences"),
 ]
@@ -76,7 +79,7 @@ def prose(text):
     joined = " ".join(line.strip() for _, line in lines_of(text))
     joined = re.sub(r"`[^`]*`", " ` ", joined)
     joined = re.sub(r"\]\([^)]*\)", "]", joined)
-    return re.sub(r"\s+", " ", re.sub(r'"[^"]*"', '"', joined))
+    return re.sub(r"\s+", " ", re.sub(r'"[^"]{0,100}"', '"', joined))
 
 
 def wide(text):
