@@ -1,0 +1,147 @@
+#!/usr/bin/env python3
+"""The style of the documents: README.md, CONTRIBUTING.md and docs/*.md.
+
+    tests/style.py
+
+Prints `ok style: what` or `FAILED style: what: why` for each page and each of these: no line of prose is wider than
+100 columns (tables, headings, code and lines with a link may be wider); each relative link leads to a file, and each
+anchor to a heading of it; no worn-out phrase stands in the prose; and no page has more words than its limit. Words are
+those of the whole page, code and tables too, that have a letter or a digit.
+"""
+import glob
+import os
+import re
+import sys
+
+TOP = os.path.dirname(os.path.dirname(os.path.realpath(__file__)))
+WIDTH = 100
+# pages that share a limit, and the limit; a page that does not exist is skipped
+LIMITS = [
+    (["README.md"], 900),
+    (["docs/TOUR.md"], 1200),
+    (["docs/PROOF.md"], 2400),
+    (["docs/ARCHITECTURE.md"], 2200),
+    (["docs/DECISIONS.md"], 1000),
+    (["docs/DEFINITIONS.md"], 1800),
+    (["docs/FORMATS.md"], 1550),
+    (["docs/USING.md", "docs/STATUTES.md"], 3000),
+    (["docs/LIBRARY.md", "docs/LANGUAGES.md"], 1900),
+    (["CONTRIBUTING.md"], 1200),
+]
+# a pattern, how often a page may have it, and what to write instead
+WORN = [
+    (r"in place of", 0, "instead of"),
+    (r"of today", 0, "present, or a date"),
+    (r"as (?:it|they) (?:is|was|were)(?=[.,;:])", 0, "unchanged"),
+    (r"the like", 0, "name them"),
+    (r"(?:is|are) told", 0, "is informed, or the program says"),
+    (r"a telling", 0, "a report"),
+    (r"want of memory", 0, "out of memory"),
+    (r"which what", 0, "say it in two sentences"),
+    (r"what of \w+ is", 0, "say it in two sentences"),
+    (r"hands? none over", 0, "sends nothing"),
+    (r"says? what there is to say", 0, "reports"),
+    (r"\bdesks?\b", 0, "scheduler"),
+    (r"\bparcels?\b", 0, "row of words"),
+    (r"\bpatience\b", 0, "backoff"),
+    (r"\blookouts?\b", 0, "observer"),
+    (r"(?<=[.:;] )where (?:an?|the|no|there|it|this|some|few|its|all)\b", 0, "if"),
+    (r"stands? (?:as|at|behind|there|once|twice)\b", 0, "is"),
+    (r"(?:comes?|came) to (?:that|it|this)\b", 0, "say what happens"),
+    (r"alone\b", 1, "only"),
+    (r"is to hold", 0, "holds"),
+    (r"so that", 1, "so, or two sentences"),
+]
+
+
+def read(page):
+    with open(os.path.join(TOP, page), encoding="utf-8") as it:
+        return it.read()
+
+
+def report(what, faults):
+    print(f"FAILED style: {what}: {'; '.join(faults[:5])}" if faults else f"ok style: {what}")
+    return not faults
+
+
+def lines_of(text):
+    """The lines outside code, each with its number."""
+    code = False
+    for number, line in enumerate(text.split("\n"), 1):
+        if line.lstrip().startswith("```"):
+            code = not code
+        elif not code:
+            yield number, line
+
+
+def prose(text):
+    """The prose in one line: without code, the addresses of links, and what is quoted."""
+    joined = " ".join(line.strip() for _, line in lines_of(text))
+    joined = re.sub(r"`[^`]*`", " ` ", joined)
+    joined = re.sub(r"\]\([^)]*\)", "]", joined)
+    return re.sub(r"\s+", " ", re.sub(r'"[^"]{0,100}"', '"', joined))
+
+
+def wide(text):
+    return [f"line {number} has {len(line)} columns" for number, line in lines_of(text)
+            if len(line) > WIDTH and not line.startswith(("|", "#")) and "](" not in line and "://" not in line
+            and " " in line.strip("- ")]
+
+
+def anchors(text):
+    """The anchors of a page's headings, as GitHub makes them."""
+    found, seen = set(), {}
+    for _, line in lines_of(text):
+        heading = re.match(r"#{1,6} +(.*?) *#*$", line)
+        if heading:
+            words = re.sub(r"\[([^\]]*)\]\([^)]*\)", r"\1", heading.group(1)).lower()
+            anchor = re.sub(r"[^\w\- ]", "", words).replace(" ", "-")
+            times = seen.get(anchor, 0)
+            seen[anchor] = times + 1
+            found.add(f"{anchor}-{times}" if times else anchor)
+        found |= set(re.findall(r'<a (?:id|name)="([^"]+)"', line))
+    return found
+
+
+def dead(page, text):
+    faults = []
+    joined = "\n".join(re.sub(r"`[^`\n]*`", "`", line) for _, line in lines_of(text))
+    for target in re.findall(r"\]\(\s*([^)\s]+)\s*\)", joined):
+        if re.match(r"[a-z]+:", target):
+            continue
+        path, _, anchor = target.partition("#")
+        file = os.path.normpath(os.path.join(os.path.dirname(page), path)) if path else page
+        if not os.path.exists(os.path.join(TOP, file)):
+            faults.append(f"no file {target}")
+        elif anchor and (not file.endswith(".md") or anchor not in anchors(read(file))):
+            faults.append(f"no anchor {target}")
+    return faults
+
+
+def worn(text):
+    faults, words = [], prose(text)
+    for pattern, most, better in WORN:
+        found = list(re.finditer(pattern if pattern.startswith(r"\b") else r"\b" + pattern, words, re.I))
+        if len(found) > most:
+            place = words[max(0, found[-1].start() - 20) : found[-1].end() + 20]
+            faults.append(f'"{found[-1].group(0)}" {len(found)} times, as in "..{place}..": write {better}')
+    return faults
+
+
+def words_of(page):
+    return sum(bool(re.search(r"\w", word)) for word in read(page).split())
+
+
+good = True
+pages = ["README.md", "CONTRIBUTING.md"] + sorted(os.path.relpath(it, TOP) for it in glob.glob(f"{TOP}/docs/*.md"))
+for page in pages:
+    text = read(page)
+    good &= report(f"{page}: no line is wider than {WIDTH} columns", wide(text))
+    good &= report(f"{page}: links lead somewhere", dead(page, text))
+    good &= report(f"{page}: no worn-out phrase", worn(text))
+for group, limit in LIMITS:
+    there = [page for page in group if page in pages]
+    if there:
+        count = sum(map(words_of, there))
+        good &= report(f"{' and '.join(there)}: at most {limit} words", [f"{count} words"] if count > limit else [])
+sys.exit(0 if good else 1)
