@@ -9,7 +9,6 @@ use Rattle.std.specs.Int.{trailing_zeros}
 use Rattle.std.proofs.lemmas.List.Elements.{All-map, All-weaker, filter_passes, recursion_from_All}
 use Rattle.council_game.proofs.Shared.RankPlaces.{by-member, game-rank_places}
 use Rattle.power_index.proofs.Shared.Sums.{length-filter-le}
-
 pub use Rattle.council_game.proofs.Shared.Games.{few-members}
 
 -- the members that a coalition contains are as many as its places
