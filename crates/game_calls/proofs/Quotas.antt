@@ -1,12 +1,13 @@
 -- The first rule of a game at another quota.
-use Rattle.std.proofs.Common.{◌≡◌, ℕ, ◌<◌, ◌≤◌, false, ◌||◌, ltb, List, [], ◌∷◌, length, get_or, sum, refl, ap, arith, Option, Result, Ok}
+use Rattle.std.proofs.Common.{◌≡◌, ◌∙◌, ℕ, ◌<◌, ◌≤◌, false, ◌||◌, ltb, List, [], ◌∷◌, length, get_or, sum, refl, ap, arith}
 use Rattle.std.proofs.Common.{Err, le-ltb}
-use Rattle.std.proofs.lemmas.{Bool.or_parts, Grind.common_steps, List.Elements.recursion_from_All}
+use Rattle.std.proofs.lemmas.{Bool.or_parts, Grind.common_steps, List.Elements.recursion_from_All, List.Elements.All-cons, List.Elements.All-nil}
 use Rattle.std.specs.List.{list_any}
 use Rattle.council_game.specs.{Fault.Answers, declared.fault.GameFault.GameFault, declared.fault.GameFault.TheVariants.Memory}
 use Rattle.council_game.specs.Votes.{RuleView, rule_at}
-use Rattle.council_game.specs.Game.{GameView, IsGame, made_game, total, first_weights, is_heavy, has_bad_quota}
+use Rattle.council_game.specs.Game.{GameView, IsGame, made_game, total, is_heavy, has_bad_quota}
 use Rattle.council_game.proofs.Shared.Games.{passed, makes, first-full, nowhere_below, position-none}
+use Rattle.council_game.proofs.Shared.Rankings.{length-rank_places, of-ranking}
 use Rattle.game_calls.specs.Quotas.{at_quota}
 
 first-light : (rs : List RuleView) (q i : ℕ) → 0 < length rs → is_heavy rs i ≡ false
@@ -17,25 +18,25 @@ first-light (r ∷ rs) q i some h = ap (λ b. b || false) (or_parts (ltb 1000000
 good-quota : (q : ℕ) (ws : List ℕ) → 1 ≤ q → q ≤ sum ws → list_any has_bad_quota (record { quota = q; weights = ws } ∷ []) ≡ false
 good-quota q ws some met = rw (le-ltb q 1 some, le-ltb (sum ws) q met) refl
 
-first-ranks : (rs : List RuleView) → 0 < length rs → first_weights rs ≡ (rule_at rs 0).weights
-first-ranks [] some = absurd (omega arith)
-first-ranks (r ∷ rs) some = refl
-
-ranked : (title : Option (List ℕ)) (names : List (List ℕ)) (rules : List RuleView) (ks ls : List ℕ) → ks ≡ ls
-    → ◌≡◌ {A = Result GameView GameFault} (Ok (record { title = title; names = names; rules = rules; ranks = ks }))
-    (Ok (record { title = title; names = names; rules = rules; ranks = ls }))
-ranked title names rules ks ls e = λ i. Ok (record { title = title; names = names; rules = rules; ranks = e i })
-
 pub another_quota : (g : GameView) → IsGame g → (q : ℕ) → 1 ≤ q → q ≤ total (rule_at g.rules 0) → IsGame (at_quota g q)
 another_quota g game q some met =
     let p = passed g game.made in
     let rs : List RuleView = record { quota = q; weights = (rule_at g.rules 0).weights } ∷ [] in
-    let first = first-ranks g.rules game.has_rule in
+    let ws : List ℕ = (rule_at g.rules 0).weights in
     let full = recursion_from_All (λ (r : RuleView). length r.weights ≡ length g.names) g.rules game.full in
     let count : length (rule_at g.rules 0).weights ≡ length g.names = grind (arith, first-full) in
     let light = nowhere_below (is_heavy rs) (length g.names)
     (λ i lt. first-light g.rules q i game.has_rule (position-none (is_heavy g.rules) (length g.names) p.weights i lt)) in
-    grind (arith, makes, good-quota, ranked)
+    record {
+      made = makes g.title g.names rs p.title p.members p.names p.repeats light (good-quota q ws some met);
+      each_member = length-rank_places ws ∙ count;
+      ranked = of-ranking ws;
+      by_weight = λ one. refl;
+      has_rule = omega arith;
+      few_rules = omega arith;
+      full = All-cons (λ (r : RuleView). length r.weights ≡ length g.names) (record { quota = q; weights = ws }) [] count
+          (All-nil (λ (r : RuleView). length r.weights ≡ length g.names));
+    }
 
 -- so that no fault but want of memory is answered
 pub only-memory : (g : GameView) (q : ℕ) (fault : GameFault) → IsGame g → 1 ≤ q → q ≤ total (rule_at g.rules 0)

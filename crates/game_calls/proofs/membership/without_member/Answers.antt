@@ -1,6 +1,7 @@
-use Rattle.std.proofs.Common.{arith}
 use Rattle.game_calls.proofs.Others.{others_kept}
 use Rattle.game_calls.proofs.membership.without_member.Goals as goal
 
 pub returns-clause-others : goal.returns-clause-others
-returns-clause-others c = grind (arith, others_kept)
+returns-clause-others c =
+    others_kept c.args.game.now c.members.ensures.game c.members.result c.args.member c.place_of.result c.args.coalition c.without.result
+    c.members.ensures.count c.place_of.ensures.place c.requires c.without.ensures.others
