@@ -217,14 +217,19 @@ class Reports(unittest.TestCase):
             self.check_same(one, other)
 
     def test_an_interrupt_ends_a_long_call(self):
-        code = f"import council\nprint('begun', flush=True)\ncouncil.report({BIG}, {LONG})\n"
+        # (what a shell starts in the background ignores SIGINT, and so would the child)
+        heeds = "import signal\nsignal.signal(signal.SIGINT, signal.default_int_handler)\n"
+        code = f"{heeds}import council\nprint('begun', flush=True)\ncouncil.report({BIG}, {LONG})\n"
         folder = str(Path(council.__file__).resolve().parent.parent)
         child = subprocess.Popen([sys.executable, "-c", code], stdout=subprocess.PIPE, stderr=subprocess.PIPE, env={**os.environ, "PYTHONPATH": folder})
         child.stdout.readline()
         time.sleep(0.5)
         begun = time.monotonic()
         child.send_signal(signal.SIGINT)
-        _, err = child.communicate(timeout=60)
+        try:
+            _, err = child.communicate(timeout=60)
+        finally:
+            child.kill()
         self.assertIn(b"KeyboardInterrupt", err)
         self.assertLess(time.monotonic() - begun, 20)
 
