@@ -169,7 +169,7 @@ installs() {
         return
     fi
     as_user "$root/bin/council" "$here/examples/board.toml" >"$temp/out" 2>"$temp/err"
-    if ! cmp -s "$temp/out" "$top/examples/board.tsv" || [ ! -s "$root/share/man/man1/council.1" ] || [ ! -s "$root/share/doc/council/docs/USING.md" ]; then
+    if ! cmp -s "$temp/out" "$top/examples/board.tsv" || [ ! -s "$root/share/man/man1/council.1" ] || [ ! -s "$root/share/doc/council/docs/GUIDE.md" ]; then
         failed "$name" "the program or a document is not in its place: $(head -n 1 "$temp/err")"
         return
     fi
@@ -258,7 +258,7 @@ install --uninstall h 2>err; grep -q 'council.1 is a folder, and stays' err
 has h share share/man share/man/man1 share/man/man1/council.1 bin
 END
 holds "a DESTDIR that does not begin with /" <<'END'
-DESTDIR=i install /usr; [ -x i/usr/bin/council ]; [ -s i/usr/share/doc/council/docs/USING.md ]
+DESTDIR=i install /usr; [ -x i/usr/bin/council ]; [ -s i/usr/share/doc/council/docs/GUIDE.md ]
 DESTDIR=i/ install --uninstall /usr/; has i usr
 END
 holds "no PREFIX and no HOME" <<'END'

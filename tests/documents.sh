@@ -32,8 +32,8 @@ same_options completions/_council
     grep -oE -e '-s [a-zA-Z]' "$top/completions/council.fish" | sed 's/-s /-/'
 } >"$temp/found"
 same_options completions/council.fish
-sed -n '/^| Option/,/^$/p' "$top/docs/USING.md" | cut -d '|' -f 2 | grep -oE -e '-(-[a-z]+|[a-zA-Z])\b' >"$temp/found"
-same_options docs/USING.md
+sed -n '/^| Option/,/^$/p' "$top/docs/GUIDE.md" | cut -d '|' -f 2 | grep -oE -e '-(-[a-z]+|[a-zA-Z])\b' >"$temp/found"
+same_options docs/GUIDE.md
 
 if needs bash "completions/council.bash completes"; then
     # shellcheck disable=SC2016

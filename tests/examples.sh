@@ -17,7 +17,7 @@ done
 
 for game in "$top"/docs/statutes/*; do
     name=docs/statutes/$(basename "$game")
-    if ! grep -qF "$(basename "$game")" "$top/docs/STATUTES.md" "$top/docs/USING.md"; then
+    if ! grep -qF "$(basename "$game")" "$top/docs/GUIDE.md"; then
         failed "$name" "no document names it"
     elif needs python3 "$name"; then
         python3 "$top/tests/oracle.py" "$game" >"$temp/oracle"

@@ -1,5 +1,5 @@
 #!/usr/bin/env python3
-"""The style of the documents: README.md, CONTRIBUTING.md and docs/*.md.
+"""The style of the documents: README.md, CONTRIBUTING.md, CHANGELOG.md and docs/*.md.
 
     tests/style.py
 
@@ -23,10 +23,11 @@ LIMITS = [
     (["docs/ARCHITECTURE.md"], 2200),
     (["docs/DECISIONS.md"], 1000),
     (["docs/DEFINITIONS.md"], 1800),
-    (["docs/FORMATS.md"], 1550),
-    (["docs/USING.md", "docs/STATUTES.md"], 3000),
+    (["docs/FORMATS.md"], 1400),
+    (["docs/GUIDE.md"], 3000),
     (["docs/LIBRARY.md", "docs/LANGUAGES.md"], 1900),
     (["CONTRIBUTING.md"], 1200),
+    (["CHANGELOG.md"], 1200),
 ]
 # a pattern, how often a page may have it, and what to write instead
 WORN = [
@@ -84,7 +85,7 @@ def prose(text):
 
 def wide(text):
     return [f"line {number} has {len(line)} columns" for number, line in lines_of(text)
-            if len(line) > WIDTH and not line.startswith(("|", "#")) and "](" not in line and "://" not in line
+            if len(line) > WIDTH and not line.lstrip().startswith(("|", "#")) and "](" not in line and "://" not in line
             and " " in line.strip("- ")]
 
 
@@ -133,7 +134,7 @@ def words_of(page):
 
 
 good = True
-pages = ["README.md", "CONTRIBUTING.md"] + sorted(os.path.relpath(it, TOP) for it in glob.glob(f"{TOP}/docs/*.md"))
+pages = ["README.md", "CONTRIBUTING.md", "CHANGELOG.md"] + sorted(os.path.relpath(it, TOP) for it in glob.glob(f"{TOP}/docs/*.md"))
 for page in pages:
     text = read(page)
     good &= report(f"{page}: no line is wider than {WIDTH} columns", wide(text))

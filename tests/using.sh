@@ -1,6 +1,6 @@
 #!/usr/bin/env bash
-# council-tools on the stored reports, the picture in README.md, and the commands of README.md, docs/USING.md and
-# docs/STATUTES.md.
+# council-tools on the stored reports, the picture in README.md, and the commands of README.md and
+# docs/GUIDE.md.
 . "$(dirname "$0")/common.sh"
 cd "$top" || exit 1
 export PYTHONDONTWRITEBYTECODE=1
@@ -65,7 +65,7 @@ ln -s "$tools" "$temp/bin/council-tools"
 ln -s "$program" "$temp/bin/council"
 ln -s "$program" "$temp/folder/council"
 cp -r examples "$temp/folder/examples"
-for document in README.md docs/USING.md docs/STATUTES.md; do
+for document in README.md docs/GUIDE.md; do
     number=0
     while IFS= read -r line; do
         case $line in

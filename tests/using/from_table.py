@@ -61,7 +61,7 @@ gives("two rules", ["65%", "55%"], "name,people,states\nA,5.5,1\nB,3,1\nC,1,1\n"
 gives("heads", ["65%", "heads:55%"], "name,people\nA,5.5\nB,3\nC,1\n", "[62, 2]", ["[55, 1]", "[30, 1]", "[10, 1]"])
 gives("heads alone", ["heads:2", "--no-heading"], "A\nB\nC\n", "2", ["1", "1", "1"])
 
-# ---- quotas of 101 votes, as docs/STATUTES.md has them, and of decimals
+# ---- quotas of 101 votes, as docs/GUIDE.md has them, and of decimals
 TABLE = "A,40\nB,35\nC,26\n"
 for quota, wanted in [(">50%", 51), ("50%", 51), ("1/2", 51), (">1/2", 51), ("2/3", 68), (">2/3", 68), ("100%", 101), ("51", 51), (">50", 51),
                       ("49.5", 50), (">=49,5", 50), ("66.67%", 68), ("heads:2", 2)]:

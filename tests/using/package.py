@@ -36,7 +36,7 @@ else:
 # ---- one version everywhere
 version = subprocess.run([PROGRAM, "--version"], capture_output=True, text=True).stdout.split("\n")[0].split(" ")[-1]
 for path, place in [("python/pyproject.toml", r'^version = "(.*)"$'), ("python/src/council/__init__.py", r'^__version__ = "(.*)"$'), ("r/council/DESCRIPTION", r"^Version: (.*)$"),
-                    ("docs/USING.md", r"council-([0-9.]+)-py3-none-manylinux_2_34_x86_64\.whl")]:
+                    ("docs/GUIDE.md", r"council-([0-9.]+)-py3-none-manylinux_2_34_x86_64\.whl")]:
     with open(f"{TOP}/{path}", encoding="utf-8") as it:
         same(f"the version in {path}", set(re.findall(place, it.read(), re.M)), {version})
 

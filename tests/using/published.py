@@ -1,6 +1,6 @@
 #!/usr/bin/env python3
-"""What docs/USING.md and docs/STATUTES.md say of published tables and treaties, against the program
-and the stored reports.
+"""What docs/GUIDE.md says of published tables and treaties, against the program and the stored
+reports.
 
     tests/using/published.py PROGRAM
 """
@@ -41,7 +41,7 @@ same("the Security Council: both indices", each, ({Fraction(1, 9)}, {Fraction(2,
 old, new = [next(it for it in stored(name).members if it.name == "Luxembourg") for name in ("eec-1958", "ec-1973")]
 case("published: Luxembourg in 1958 and 1973", old.coalitions == 0 and new.coalitions > 0 and Fraction(new.weights[0], 58) < Fraction(old.weights[0], 17))
 
-# ---- "or 24 of 27 states": what it adds to the Treaty of Lisbon, as docs/STATUTES.md says
+# ---- "or 24 of 27 states": what it adds to the Treaty of Lisbon, as docs/GUIDE.md says
 union = stored("eu-27-lisbon")
 weights, quota, total = [it.weights[0] for it in union.members], union.quotas[0], union.totals[0]
 added = [out for out in combinations(range(27), 3) if total - sum(weights[at] for at in out) < quota]
@@ -56,7 +56,7 @@ for at, it in enumerate(union.members):
     moved.append(abs(Fraction(it.coalitions + more, seats + 24 * len(added)) - it.public_good_exact))
 same("the Union: 24 of 27 states", (len(added), heavy, max(moved) < Fraction(5, 10**7), union.minimal), (22, [], True, 4377844))
 
-# ---- the American override of docs/STATUTES.md, for each number of members of both houses
+# ---- the American override of docs/GUIDE.md, for each number of members of both houses
 wrong = [
     (president, vice, senators, deputies)
     for president in (0, 1) for vice in (0, 1) for senators in range(101) for deputies in range(436)
