@@ -1,10 +1,11 @@
 //! The plain form of the whole program, to measure the proved one against: Rust with the standard
 //! library alone, one thread, and a `BufWriter` for the report.
 //!
-//! `report_baseline FILE [--most N] [--list]` reads a game as `[q; w1, .., wn]` or as a game file of
-//! the plain form that `examples/` has (a key and its value on a line), lists its minimal winning
-//! coalitions by a depth-first walk with bounds that leaves aside what has a member too many, and prints the report that `council` prints for
-//! these options. It checks little: it is for games that are right.
+//! `report_baseline FILE [--most N] [--list]` reads a game as `[q; w1, .., wn]` or as a game file
+//! of the plain form that `examples/` has (a key and its value on a line), lists its minimal
+//! winning coalitions by a depth-first walk with bounds that leaves aside what has a member too
+//! many, and prints the report that `council` prints for these options. It checks little: it is for
+//! games that are right.
 
 use std::env;
 use std::fs;
@@ -155,9 +156,9 @@ impl Walk {
         (0..self.rules).all(|r| self.quotas[r] <= sum(r))
     }
 
-    /// Whether some member of a prefix is missed by no rule, with whatever comes to the prefix. With one rule
-    /// none is: the last member came in where the quota was not met. Only members without weight under each
-    /// rule whose quota is not met are tried.
+    /// Whether some member of a prefix is missed by no rule, with whatever comes to the prefix.
+    /// With one rule none is: the last member came in where the quota was not met. Only members
+    /// without weight under each rule whose quota is not met are tried.
     fn spares_one(&self, mask: u64, sums: &Sums) -> bool {
         if self.rules == 1 {
             return false;
@@ -174,8 +175,8 @@ impl Walk {
         })
     }
 
-    /// Lists what stands below the prefix of `place` places that `mask` is, whose last one was just `taken` in
-    /// or left out. Answers whether there is still room for more.
+    /// Lists what stands below the prefix of `place` places that `mask` is, whose last one was just
+    /// `taken` in or left out. Answers whether there is still room for more.
     fn decide(&mut self, place: usize, mask: u64, sums: Sums, taken: bool) -> bool {
         if taken && self.spares_one(mask, &sums) {
             return true;

@@ -1,19 +1,21 @@
 #!/usr/bin/env bash
 # How long the proved program takes over a plain program of the same work, in two tables. The plain
-# one is bench/report_baseline.rs, and for tallies by sums bench/sums_baseline.rs, each Rust with the standard library
-# alone in one thread. Each program is timed as a whole, from its start to its end, with its report going to /dev/null.
+# one is bench/report_baseline.rs, and for tallies by sums bench/sums_baseline.rs, each Rust with
+# the standard library alone in one thread. Each program is timed as a whole, from its start to its
+# end, with its report going to /dev/null.
 #
-# The first table: the least time of RUNS runs (11) of the plain program, in seconds, and that of the
-# proved one over it, with 1, 2 and 4 workers; the four take turns, so that a slow spell of the machine
-# meets all of them. Then the greatest resident memory of the plain program in MiB, and the proved
-# one's over it. The second: the longest of ten runs, in seconds, beside as many
-# busy loops as there are processors. It is no test, and nothing fails at a slow run.
+# The first table: the least time of RUNS runs (11) of the plain program, in seconds, and that of
+# the proved one over it, with 1, 2 and 4 workers; the four take turns, so that a slow spell of the
+# machine meets all of them. Then the greatest resident memory of the plain program in MiB, and the
+# proved one's over it. The second: the longest of ten runs, in seconds, beside as many busy loops
+# as there are processors. It is no test, and nothing fails at a slow run.
 #
-# How well threads wait is in no contract, and no test tells it: a wake-up that is lost costs a millisecond. It shows
-# here. A bell that is never rung, or a turn that rings nobody, makes a ring that is full or empty cost that millisecond
-# each time: the list of 658,008 coalitions goes in some 10,000 rows, and takes seconds. Looks that are never renewed
-# make each wait a sleep, so that 2 and 4 workers gain little over 1. Looks that never become fewer hold processors that
-# others want: the last table, beside busy loops, rises.
+# How well threads wait is in no contract, and no test tells it: a wake-up that is lost costs a
+# millisecond. It shows here. A bell that is never rung, or a turn that rings nobody, makes a ring
+# that is full or empty cost that millisecond each time: the list of 658,008 coalitions goes in some
+# 10,000 rows, and takes seconds. Looks that are never renewed make each wait a sleep, so that 2 and
+# 4 workers gain little over 1. Looks that never become fewer hold processors that others want: the
+# last table, beside busy loops, rises.
 #
 # bench/run.sh [PROGRAM]   PROGRAM is crates/council/out/council if it is not given
 set -eu
@@ -88,7 +90,8 @@ notation() {
     echo "[$quota; $(echo "$@" | sed 's/ /, /g')]"
 }
 
-# game_file QUOTAS WEIGHTS..: a game file of several rules; the numbers of each have commas between them.
+# game_file QUOTAS WEIGHTS..: a game file of several rules; the numbers of each have commas between
+# them.
 game_file() {
     local quotas=$1 member=0 weights
     shift
@@ -105,8 +108,8 @@ repeat() {
     for ((left = $1; left > 0; left--)); do echo "$2"; done
 }
 
-# random_file SEED RULES: a game file of 26 members with random weights up to 50 and zeros under each rule,
-# and as quotas more than a third of what they add up to.
+# random_file SEED RULES: a game file of 26 members with random weights up to 50 and zeros under
+# each rule, and as quotas more than a third of what they add up to.
 random_file() {
     local x=$1 rules=$2 rule member sum weight quotas="" weights=()
     for ((rule = 0; rule < rules; rule++)); do
@@ -194,8 +197,9 @@ rows '26 random, two rules' "$temp/random-2.toml"
 rows '26 random, three rules' "$temp/random-3.toml"
 rows '26 random, four rules' "$temp/random-4.toml"
 
-# Games of one rule, and of weights and heads, are counted by sums, and those of many weights that have nothing in common by halves: their
-# time does not follow the number of coalitions. The plain program counts all of them by sums.
+# Games of one rule, and of weights and heads, are counted by sums, and those of many weights that
+# have nothing in common by halves: their time does not follow the number of coalitions. The plain
+# program counts all of them by sums.
 echo
 echo "tallies by sums: the least of $runs runs, in seconds, and memory"
 printf '%-26s %20s %8s %8s %6s %8s\n' game coalitions 'plain s' seconds over KiB

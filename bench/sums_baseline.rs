@@ -1,13 +1,14 @@
-// A plain program to compare tallies by sums with: it counts the minimal winning coalitions of a game without
-// listing any, how many have each size, and for each member how many of each size contain it. Rust with the standard
-// library alone, with nothing proved.
+// A plain program to compare tallies by sums with: it counts the minimal winning coalitions of a
+// game without listing any, how many have each size, and for each member how many of each size
+// contain it. Rust with the standard library alone, with nothing proved.
 //
-// It reads a file with the notation of a game, one line `[q; w1, .., wn]` for one rule, and a second one where a second rule gives
-// all members the same weight above zero, and prints the number of coalitions and the time of the counting alone, in
-// microseconds.
+// It reads a file with the notation of a game, one line `[q; w1, .., wn]` for one rule, and a
+// second one where a second rule gives all members the same weight above zero, and prints the
+// number of coalitions and the time of the counting alone, in microseconds.
 use std::time::Instant;
 
-/// The prefixes of so many members that go together: what they still need, and how many of them have each size.
+/// The prefixes of so many members that go together: what they still need, and how many of them
+/// have each size.
 type Row = Vec<(u64, Vec<u64>)>;
 
 struct Game {
@@ -64,7 +65,8 @@ fn choices(n: usize) -> Vec<u64> {
     row
 }
 
-/// How many minimal winning coalitions have each size, of those without member `left_out` where there is one.
+/// How many minimal winning coalitions have each size, of those without member `left_out` where
+/// there is one.
 fn sizes(game: &Game, rests: &[u64], left_out: Option<usize>) -> Vec<u64> {
     let n = game.weights.len();
     let mut found = vec![0u64; n + 1];
@@ -79,7 +81,8 @@ fn sizes(game: &Game, rests: &[u64], left_out: Option<usize>) -> Vec<u64> {
             continue;
         }
         let ways = choices(behind);
-        // whoever takes this member, and needs no more than it: the coalition is complete, but for heads
+        // whoever takes this member, and needs no more than it: the coalition is complete, but for
+        // heads
         for (_, of_size) in row.iter().take_while(|(need, _)| *need <= weight) {
             for (size, count) in of_size.iter().enumerate() {
                 let size = size + 1;
@@ -95,7 +98,8 @@ fn sizes(game: &Game, rests: &[u64], left_out: Option<usize>) -> Vec<u64> {
     found
 }
 
-/// The prefixes of one member more, those that the rest can complete: it is left out, or taken by those who need more.
+/// The prefixes of one member more, those that the rest can complete: it is left out, or taken by
+/// those who need more.
 fn next_row(row: Row, weight: u64, rest: u64) -> Row {
     let mut taken = row
         .iter()

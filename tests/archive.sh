@@ -1,6 +1,7 @@
 #!/usr/bin/env bash
-# The archive of tools/release.sh (wheel.sh tests the wheel), made of the program: twice the same, unpacked where nobody can write, used by another user without
-# a toolchain, installed and taken out again.
+# The archive of tools/release.sh (wheel.sh tests the wheel), made of the program: twice the same,
+# unpacked where nobody can write, used by another user without a toolchain, installed and taken out
+# again.
 . "$(dirname "$0")/common.sh"
 
 for command in git tar gzip sha256sum find; do
@@ -82,7 +83,8 @@ if ! as_user test -r "$here/README.md"; then
 fi
 if as_user sh -c 'command -v rt' >/dev/null; then skipped "without a toolchain" "it is in /usr/bin or /bin"; fi
 
-# run_there NAME WANTED WORD..: whether the program prints the file WANTED on these words, in the folder of the archive.
+# run_there NAME WANTED WORD..: whether the program prints the file WANTED on these words, in the
+# folder of the archive.
 run_there() {
     local name=$1 wanted=$2
     shift 2
@@ -142,7 +144,8 @@ if [ -f "$shared" ] && needs cc "$name: linked" && needs pkg-config "$name: link
     printed "$name: linked by pkg-config" "$here/examples/board.tsv"
 fi
 
-# links of documents to files that only a clone has are no fault there, but those of LANGUAGES.md lead somewhere
+# links of documents to files that only a clone has are no fault there, but those of LANGUAGES.md
+# lead somewhere
 name="in the archive, its own links lead to files"
 missing=$(
     for page in README.md docs/LANGUAGES.md; do
@@ -159,7 +162,8 @@ else
 fi
 
 # ---- installed and taken out
-# installs NAME FOLDER DESTDIR [PREFIX]: whether install.sh puts all below the folder, and takes all out.
+# installs NAME FOLDER DESTDIR [PREFIX]: whether install.sh puts all below the folder, and takes all
+# out.
 installs() {
     local name=$1 root=$2 before=DESTDIR=$3 prefix=("${@:4}")
     (cd "$temp/home" && as_user env "$before" "$here/install.sh" "${prefix[@]}") >"$temp/out" 2>"$temp/err" </dev/null

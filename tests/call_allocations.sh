@@ -1,11 +1,12 @@
 #!/usr/bin/env bash
 # Makes the library's calls while their allocations are refused, one after the other, and then all
-# from one on. Each call is a test in src/NAME_tests/refusals.rt of the crate that tests the library NAME, that prints `call` before
-# it and its answer after it, `worked`, `out of memory` or `not started`, or which part of a run found
-# no memory, looks whether all stands as it must after that answer, and fails if not. Where no
-# allocation was refused the answer is the worked one. Where one was, it is want of memory or, for
-# calls that start threads, that one did not start, each for the allocations that it is for; no call
-# works then. The built tests of the crates are run, and the library that refuses is allocations/refuse.c.
+# from one on. Each call is a test in src/NAME_tests/refusals.rt of the crate that tests the library
+# NAME, that prints `call` before it and its answer after it, `worked`, `out of memory` or `not
+# started`, or which part of a run found no memory, looks whether all stands as it must after that
+# answer, and fails if not. Where no allocation was refused the answer is the worked one. Where one
+# was, it is want of memory or, for calls that start threads, that one did not start, each for the
+# allocations that it is for; no call works then. The built tests of the crates are run, and the
+# library that refuses is allocations/refuse.c.
 . "$(dirname "$0")/common.sh"
 
 compile_refuse
@@ -20,8 +21,8 @@ tests_of() {
     done
 }
 
-# are_built CRATE: whether the built tests of the crate are there, and no source of them or of the libraries
-# of their line in crates.txt is newer.
+# are_built CRATE: whether the built tests of the crate are there, and no source of them or of the
+# libraries of their line in crates.txt is newer.
 are_built() {
     local own tests name newer
     own=$(tests_of "$1")
@@ -48,8 +49,8 @@ for name in council_game council_file mwc_walk mwc_pipe power_index mwc_tally mw
     are_built "$name" || exit 1
 done
 
-# Makes the call of the test $3 of the crate $2 with the allocations refused that $1 names, and keeps
-# its answer and its status, and in $temp/said what refuse.c says.
+# Makes the call of the test $3 of the crate $2 with the allocations refused that $1 names, and
+# keeps its answer and its status, and in $temp/said what refuse.c says.
 call() {
     local own
     own=$(tests_of "$2")
@@ -60,8 +61,8 @@ call() {
     answer=$(sed -n 2p "$temp/out")
 }
 
-# Whether the last call ended, and answered `worked` where no allocation was refused, and else one of
-# these answers. It says why not.
+# Whether the last call ended, and answered `worked` where no allocation was refused, and else one
+# of these answers. It says why not.
 answers() {
     local wanted
     if [ "$status" -ne 0 ]; then
@@ -76,9 +77,10 @@ answers() {
     return 1
 }
 
-# The shape of the answers of a sweep, as an expression over one letter for each: g for want of memory for
-# the game, m for want of memory to gather, o for want of memory, s for a thread that did not start, w for one
-# that worked. So the answers say where each allocation was made, one after the other. Empty where any mix is right.
+# The shape of the answers of a sweep, as an expression over one letter for each: g for want of
+# memory for the game, m for want of memory to gather, o for want of memory, s for a thread that did
+# not start, w for one that worked. So the answers say where each allocation was made, one after the
+# other. Empty where any mix is right.
 shape=''
 
 # Whether the answers of the last sweep have their shape. It says why not.
@@ -92,7 +94,8 @@ has_shape() {
     return 1
 }
 
-# sweep HOW CRATE TEST ANSWER..: the call answers so while allocations are refused, as long as one is.
+# sweep HOW CRATE TEST ANSWER..: the call answers so while allocations are refused, as long as one
+# is.
 sweep() {
     local how=$1 name="$2 $3, $1" number why='' counts
     : >"$temp/answers"
@@ -120,13 +123,15 @@ sweep() {
     fi
 }
 
-# takes_memory CRATE TEST [ANSWER]: where allocations are refused, the call answers want of memory, or so.
+# takes_memory CRATE TEST [ANSWER]: where allocations are refused, the call answers want of memory,
+# or so.
 takes_memory() {
     sweep REFUSE_AT "$1" "$2" "out of memory" "${@:3}"
     sweep REFUSE_FROM "$1" "$2" "out of memory" "${@:3}"
 }
 
-# starts_threads CRATE TEST: where allocations are refused, the call answers that a thread did not start.
+# starts_threads CRATE TEST: where allocations are refused, the call answers that a thread did not
+# start.
 starts_threads() {
     sweep REFUSE_AT "$1" "$2" "not started"
     sweep REFUSE_FROM "$1" "$2" "not started"
@@ -143,8 +148,9 @@ takes_none() {
     fi
 }
 
-# asks_for_little CRATE TEST: the call works while each allocation of more than 4,096 bytes is refused, whatever the
-# limits and counts are that it is given: it asks for the room that its answer needs.
+# asks_for_little CRATE TEST: the call works while each allocation of more than 4,096 bytes is
+# refused, whatever the limits and counts are that it is given: it asks for the room that its answer
+# needs.
 asks_for_little() {
     local why=''
     call REFUSE_OVER=4096 "$1" "$2"
@@ -198,7 +204,8 @@ takes_memory mwc_closed_count counts_in_part
 takes_memory mwc_closed_count counts_by_kinds
 takes_memory mwc_closed_count counts_by_kinds_under_two_rules
 takes_memory mwc_closed_count counts_by_kinds_under_four_rules
-# room for three desks; for each of three workers its room, and the start of its thread; and what comes then
+# room for three desks; for each of three workers its room, and the start of its thread; and what
+# comes then
 shape='o+(o{4,})(s+)\1\2\1\2o+'
 takes_memory mwc_gather gathers "not started"
 takes_memory mwc_gather gathers_too_many "not started"
@@ -207,16 +214,16 @@ takes_memory mwc_gather puts_parts_in_order
 takes_memory mwc_gather finds_the_pieces
 takes_memory mwc_gather sends_into_a_batch
 takes_none mwc_gather marks_without_memory
-# a run of three workers: the game, with several rules also the game by contribution, the gathering as above, the row
-# of pieces, the two threads that it starts for counting, and the report
+# a run of three workers: the game, with several rules also the game by contribution, the gathering
+# as above, the row of pieces, the two threads that it starts for counting, and the report
 shape='g+o*m+(m{4,})(s+)\1\2\1\2m+o+(s+)\3o+'
 for game in runs_on_brackets runs_on_toml runs_on_turned_rules; do
     for how in REFUSE_AT REFUSE_FROM; do
         sweep "$how" council_run "$game" "no memory for the game" "no memory to gather" "not started" "out of memory"
     done
 done
-# a tally by sums: the game, the counts and the report; by threads: the game, the room, the starts of three threads, beside
-# which those that run already make room for their counts, and the report
+# a tally by sums: the game, the counts and the report; by threads: the game, the room, the starts
+# of three threads, beside which those that run already make room for their counts, and the report
 for how in REFUSE_AT REFUSE_FROM; do
     shape='g+o+'
     sweep "$how" council_run tallies_by_sums "no memory for the game" "out of memory"

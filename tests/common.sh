@@ -1,6 +1,6 @@
-# What the test scripts share. Each is run as `bash tests/NAME.sh PROGRAM`, and begins by reading this
-# file. It prints a line `ok NAME` or `FAILED NAME: why` for each test, or `skipped NAME: why` for one
-# that can't be run here.
+# What the test scripts share. Each is run as `bash tests/NAME.sh PROGRAM`, and begins by reading
+# this file. It prints a line `ok NAME` or `FAILED NAME: why` for each test, or `skipped NAME: why`
+# for one that can't be run here.
 # shellcheck shell=bash
 set -u
 export LC_ALL=C
@@ -21,10 +21,10 @@ for command in awk cmp cp cut date diff env grep head mktemp sed sort tail timeo
     fi
 done
 
-# The seconds that one run may take before it is taken for a hang: 60, ten times what the longest takes, or on a slower
-# or busier machine as many more times as one example takes longer there than a tenth of a second. A script of short
-# runs says fewer by `limit`. One script after the other
-# may be told by SECONDS_EACH, which says the seconds.
+# The seconds that one run may take before it is taken for a hang: 60, ten times what the longest
+# takes, or on a slower or busier machine as many more times as one example takes longer there than
+# a tenth of a second. A script of short runs says fewer by `limit`. One script after the other may
+# be told by SECONDS_EACH, which says the seconds.
 if [ -z "${SECONDS_EACH:-}" ]; then
     begun=$(date +%s%N)
     timeout 600 "$program" --workers 1 "$top/examples/eu-1995.toml" >/dev/null 2>&1 </dev/null
@@ -47,7 +47,8 @@ skipped() {
     echo "skipped $1: $2"
 }
 
-# needs COMMAND NAME..: whether there is such a command; where not, the tests of these names are skipped.
+# needs COMMAND NAME..: whether there is such a command; where not, the tests of these names are
+# skipped.
 needs() {
     local command=$1 name
     command -v "$command" >/dev/null && return 0

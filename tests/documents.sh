@@ -1,5 +1,6 @@
 #!/usr/bin/env bash
-# The manual page, the completions, the version and the texts of docs/FORMATS.md, against the program.
+# The manual page, the completions, the version and the texts of docs/FORMATS.md, against the
+# program.
 . "$(dirname "$0")/common.sh"
 
 run --help </dev/null
@@ -69,7 +70,8 @@ run --version </dev/null
 version=$(sed -n '1s/^council //p' "$temp/out")
 kit=$(sed -n '2s/^proved with //p' "$temp/out")
 date=$(sed -n "s/^## $version, //p" "$top/CHANGELOG.md")
-# each_is FILE PLACE WANTED: whether the file has this text at each place, where sed finds it by its marks, and has one.
+# each_is FILE PLACE WANTED: whether the file has this text at each place, where sed finds it by its
+# marks, and has one.
 each_is() {
     local found
     found=$(sed -nE "s/$2/\\1/p" "$top/$1" | sort -u)

@@ -1,7 +1,8 @@
 #!/usr/bin/env bash
-# The library for other languages: what C, Python and Rust get by its one call is what the program prints, byte by byte, with
-# the same status. The library is crates/council_c/out/libcouncil.a, which `tools/build.py --library` makes (.ci/run has it
-# made), or the file that COUNCIL_LIBRARY names. The callers are those of foreign/.
+# The library for other languages: what C, Python and Rust get by its one call is what the program
+# prints, byte by byte, with the same status. The library is crates/council_c/out/libcouncil.a,
+# which `tools/build.py --library` makes (.ci/run has it made), or the file that COUNCIL_LIBRARY
+# names. The callers are those of foreign/.
 . "$(dirname "$0")/common.sh"
 
 library=${COUNCIL_LIBRARY:-$top/crates/council_c/out/libcouncil.a}

@@ -38,8 +38,8 @@ from collections import Counter
 SECONDS = 1.0
 TIMES = 3
 PAUSE = 5
-# After this many seconds a run has not ended. Where other work holds all processors, each hand-over of a
-# full ring waits for its turn, so a long list may take half a minute.
+# After this many seconds a run has not ended. Where other work holds all processors, each hand-over
+# of a full ring waits for its turn, so a long list may take half a minute.
 HANGS = 5 * int(os.environ.get("SECONDS_EACH", 60))
 # Bytes that mean something in one of the two forms.
 TELLING = [b"[", b"]", b"[[", b"]]", b"=", b"\n", b"\r\n", b'"', b"'", b'"""', b"#", b",", b";", b".", b"-", b"{", b"}",

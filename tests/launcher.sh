@@ -1,7 +1,7 @@
 #!/usr/bin/env bash
-# The script `council`: through symbolic links, and when it builds. The links go to the script of this
-# repository, whose program is built; the rest is seen in a copy, with a toolchain that only says what
-# it was asked for.
+# The script `council`: through symbolic links, and when it builds. The links go to the script of
+# this repository, whose program is built; the rest is seen in a copy, with a toolchain that only
+# says what it was asked for.
 . "$(dirname "$0")/common.sh"
 
 # ---- through links
@@ -59,8 +59,8 @@ chmod +x "$temp/kit/rt"
 echo "kit one" >"$temp/version"
 echo none >"$temp/fails"
 
-# Runs the copy, or the one in the folder $from, from another folder, with the toolchain of a folder; what it asked it for
-# goes to $temp/asked.
+# Runs the copy, or the one in the folder $from, from another folder, with the toolchain of a
+# folder; what it asked it for goes to $temp/asked.
 kit=$temp/kit
 use() {
     : >"$temp/asked"
@@ -253,7 +253,8 @@ else
 fi
 
 # ---- what stops it
-# begin TEXT: begins a build of the copy that goes on until $temp/holds is removed; $launcher is its process.
+# begin TEXT: begins a build of the copy that goes on until $temp/holds is removed; $launcher is its
+# process.
 begin() {
     echo "// $1" >>"$copy/crates/low/src/lib.rt"
     : >"$temp/asked"

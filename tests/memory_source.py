@@ -24,10 +24,12 @@ import tempfile
 
 ANSWER = re.compile(r"\b(?:[A-Z]\w*::)?(?:Memory|Start)\b|\bAllocError\b(?!>)")
 GROWTH = r"[\w.]*\.(?:push|push_back|reserve|extend_from_slice)\((?:[^|&]|&(?!&))*\)"
-# a growth that is asked alone whether it failed, a thread that was not spawned, and a proof of what a fault is
+# a growth that is asked alone whether it failed, a thread that was not spawned, and a proof of what
+# a fault is
 ASKS = re.compile(rf"(?:if |let \w+ = ){GROWTH}\.is_err\(\)(?: \{{|;)$|if let Err\(\w+\) = {GROWTH} \{{$|let Ok\(\w+\) = [\w.]*\bspawn_with\([^|&]*\) else \{{$")
 PROVED = re.compile(r"prove!\(matches!\(\w+, (?:[A-Z]\w*::)?Memory\)\);$")
-# a loss that is told, a call that is asked whether it failed, and a growth by a great number that the code makes up
+# a loss that is told, a call that is asked whether it failed, and a growth by a great number that
+# the code makes up
 LOSS = re.compile(r"\.lose\(\)|\blost\s*\|?=(?![=>])(?! false;)|\.is_(?:err|ok)\(\)|(?:reserve\w*|with_capacity|resize)\(.*(?:\d{4}|\d_\d|<<|(?<!limits::)\b[A-Z]{2})")
 
 

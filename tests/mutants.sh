@@ -1,16 +1,19 @@
 #!/usr/bin/env bash
-# Wrong bodies that no clause refuses, or not with every reading of it, since want of memory, a failed read or
-# write, threads and time are in no contract. Each edit of mutants/ is of the form of a must-fail edit, with a
-# first line `test: NAME in CRATE`; it is put into a copy of the crate, with its tests, the module CRATE_tests of another
-# crate, as a module of it, that test is run without a proof, and must fail. It must pass before, on the clean crate,
-# and a test that the time limit ended says nothing: but where the line is `test: NAME in CRATE late` the body makes a call so
-# slow that its test does not end. `test: NAME in CRATE slow` says that the test takes minutes without a proof.
+# Wrong bodies that no clause refuses, or not with every reading of it, since want of memory, a
+# failed read or write, threads and time are in no contract. Each edit of mutants/ is of the form of
+# a must-fail edit, with a first line `test: NAME in CRATE`; it is put into a copy of the crate,
+# with its tests, the module CRATE_tests of another crate, as a module of it, that test is run
+# without a proof, and must fail. It must pass before, on the clean crate, and a test that the time
+# limit ended says nothing: but where the line is `test: NAME in CRATE late` the body makes a call
+# so slow that its test does not end. `test: NAME in CRATE slow` says that the test takes minutes
+# without a proof.
 #
 #     tests/mutants.sh [NAME..]            the edits of these names, or all, half a minute to two minutes each
 #     tests/mutants.sh --some N            N of those that are neither late nor slow, others with each day and each commit
 #     tests/mutants.sh --fit [NAME..]      says only whether each can still be put into the sources
 #
-# It needs python3 and the toolchain's rt, and the libraries below each crate as `rt check` leaves them.
+# It needs python3 and the toolchain's rt, and the libraries below each crate as `rt check` leaves
+# them.
 set -u
 top=$(cd "$(dirname "${BASH_SOURCE[0]}")/.." && pwd)
 fit=no
@@ -47,8 +50,8 @@ for crate in "$top"/crates/*; do
         cp -rp "$top/crates/$crate/out/rlib" "$room/crates/$crate/out/"
     fi
 done
-# Puts the tests of each library into it, as a module of its own, with the helpers that tests share, and what they use into
-# its line of crates.txt.
+# Puts the tests of each library into it, as a module of its own, with the helpers that tests share,
+# and what they use into its line of crates.txt.
 python3 - "$room" <<'END'
 import glob, os, re, sys
 room = sys.argv[1]
@@ -82,8 +85,8 @@ with open(f"{room}/crates.txt", "w", encoding="utf-8") as it:
     for name, (said, used) in lines.items():
         it.write(f"{' '.join([name, *said])}: {' '.join(used)}\n")
 END
-# What the test of this name says in the crate as it stands: `passes`, `fails`, `late` where the time limit ended it,
-# or `none` where it was not run.
+# What the test of this name says in the crate as it stands: `passes`, `fails`, `late` where the
+# time limit ended it, or `none` where it was not run.
 say_test() {
     (cd "$room/crates/$crate" && rt try --test --seconds 300 -- "$test") >"$room/said" 2>&1 </dev/null
     awk -v name="$test" '
@@ -96,8 +99,8 @@ say_test() {
     ' "$room/said"
 }
 
-# Judges the body by what its test said on the clean crate and says with the body in it. No answer is no notice, unless the
-# body is one that makes a call endless.
+# Judges the body by what its test said on the clean crate and says with the body in it. No answer
+# is no notice, unless the body is one that makes a call endless.
 judge() {
     local said
     said=$(say_test)

@@ -1,6 +1,6 @@
 #!/usr/bin/env bash
-# The packages for Python and R with the program, against tests/oracle.py and the stored reports. The package for Python
-# with the library is tested by wheel.sh.
+# The packages for Python and R with the program, against tests/oracle.py and the stored reports.
+# The package for Python with the library is tested by wheel.sh.
 . "$(dirname "$0")/common.sh"
 cd "$top" || exit 1
 export PYTHONDONTWRITEBYTECODE=1

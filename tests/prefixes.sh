@@ -1,12 +1,13 @@
 #!/usr/bin/env bash
-# Every prefix of a game file is answered as its text says: a cut file is no game but where it is one.
+# Every prefix of a game file is answered as its text says: a cut file is no game but where it is
+# one.
 . "$(dirname "$0")/common.sh"
 
 game=$'quota = 51\n[[member]]\nname = "A"\nweight = 50\n[[member]]\nname = "B"\nweight = 49\n[[member]]\nname = "C"\nweight = 1'
 text="the game file is not TOML"
 
-# The answer of the prefix whose last line is `last`, which is not empty, and which has `members` members
-# before that line: a fault's text, or nothing for a game.
+# The answer of the prefix whose last line is `last`, which is not empty, and which has `members`
+# members before that line: a fault's text, or nothing for a game.
 answer() {
     local members=$1 last=$2
     case $last in

@@ -1,10 +1,11 @@
 #!/usr/bin/env bash
 # Refuses the program's allocations, one after the other, and then each from one on, until no
 # refusal is met. Each time the program says that it is out of memory, or that a worker could not be
-# started, with status 5, that one line on standard error and nothing on standard output; or, where the
-# refused allocation belongs to the reading of its command line, it does exactly what it does with ample memory. At a
-# fault of the command line it may also tell less of the fault, on standard error and with status 2,
-# and with --explain it may lack lines after the first. The library that refuses is allocations/refuse.c.
+# started, with status 5, that one line on standard error and nothing on standard output; or, where
+# the refused allocation belongs to the reading of its command line, it does exactly what it does
+# with ample memory. At a fault of the command line it may also tell less of the fault, on standard
+# error and with status 2, and with --explain it may lack lines after the first. The library that
+# refuses is allocations/refuse.c.
 . "$(dirname "$0")/common.sh"
 
 compile_refuse
@@ -24,8 +25,8 @@ printf '%65537s' '' >"$temp/fault-6.txt"
 printf 'council: out of memory\n' >"$temp/memory"
 printf 'council: a worker could not be started\n' >"$temp/start"
 
-# Runs the program on the words with the allocation refused that $1 names; what refuse.c says goes to
-# a file of its own.
+# Runs the program on the words with the allocation refused that $1 names; what refuse.c says goes
+# to a file of its own.
 hostile() {
     local refusal=$1
     shift
@@ -43,8 +44,8 @@ is_shorter() {
         { [ "$ample" -eq 2 ] || head -n "$(wc -l <"$temp/err")" "$temp/ample.err" | cmp -s - "$temp/err"; }
 }
 
-# How many allocations the program makes before it opens its game: with the same words, and a file that is
-# not there.
+# How many allocations the program makes before it opens its game: with the same words, and a file
+# that is not there.
 allocations_of_words() {
     local number
     for ((number = 1; number <= 10000; number++)); do
@@ -54,8 +55,8 @@ allocations_of_words() {
     echo $((number - 1))
 }
 
-# sweep NAME WORDS..: the runs end so while allocations are refused, as long as one is. One that ends as
-# with ample memory met its refusal in the reading of the command line.
+# sweep NAME WORDS..: the runs end so while allocations are refused, as long as one is. One that
+# ends as with ample memory met its refusal in the reading of the command line.
 sweep() {
     local name=$1 ample how number why memory start same late shorter said first
     shift

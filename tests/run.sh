@@ -1,20 +1,22 @@
 #!/usr/bin/env bash
-# Runs the tests of this folder on the built program, several at once, and call_allocations.sh on the built tests of the crates:
+# Runs the tests of this folder on the built program, several at once, and call_allocations.sh on
+# the built tests of the crates:
 #
 #     tests/run.sh PROGRAM [--library]
 #
-# With --library it also makes the library for other languages, over what `rt ci` has just proved, beside the tests that
-# do not want it.
+# With --library it also makes the library for other languages, over what `rt ci` has just proved,
+# beside the tests that do not want it.
 #
-# Each prints `ok NAME` or `FAILED NAME: why`, or `skipped NAME: why` for a test that can't be run on
-# this machine. The last line is `N passed, M failed`, with `, K skipped` behind it where some were, and
-# the status is not 0 if any failed.
+# Each prints `ok NAME` or `FAILED NAME: why`, or `skipped NAME: why` for a test that can't be run
+# on this machine. The last line is `N passed, M failed`, with `, K skipped` behind it where some
+# were, and the status is not 0 if any failed.
 #
-# It sees whether each of the wrong bodies of mutants/ can still be planted, and plants two of them, others with each
-# day and each commit (mutants.sh); with COUNCIL_MUTANTS=1 it plants them all, more than half an hour more.
+# It sees whether each of the wrong bodies of mutants/ can still be planted, and plants two of them,
+# others with each day and each commit (mutants.sh); with COUNCIL_MUTANTS=1 it plants them all, more
+# than half an hour more.
 #
-# A machine must have bash, python3, cc (to refuse allocations), taskset (for runs on one processor),
-# and the toolchain's rt; what is missing is said, and what wants it is skipped.
+# A machine must have bash, python3, cc (to refuse allocations), taskset (for runs on one
+# processor), and the toolchain's rt; what is missing is said, and what wants it is skipped.
 set -u
 cd "$(dirname "$0")/.." || exit 1
 program=${1:-crates/council/out/council}

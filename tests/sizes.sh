@@ -18,8 +18,9 @@ one_of_each() {
     done
 }
 
-# A game file of two rules that speak of different members: of each a quota, and twice how many members of
-# which weight. Each coalition that the first rule needs goes with each that the second needs.
+# A game file of two rules that speak of different members: of each a quota, and twice how many
+# members of which weight. Each coalition that the first rule needs goes with each that the second
+# needs.
 two_parts() {
     echo "quotas = [$1, $6]"
     {

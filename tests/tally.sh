@@ -1,6 +1,6 @@
 #!/usr/bin/env bash
-# --tally: the same report as without it, for any number of coalitions, and the line that tells how far
-# it has come.
+# --tally: the same report as without it, for any number of coalitions, and the line that tells how
+# far it has come.
 . "$(dirname "$0")/common.sh"
 
 # these take less than a second, by sums milliseconds; one by one some would take minutes
@@ -111,7 +111,8 @@ for rules in 2 3 4; do
     same_as_run "26 random members and $rules rules" "$needed" "${votes[@]}"
 done
 
-# a house by weights and by how many they are, beside a senate; and one by two rules of weights, beside a senate and a president
+# a house by weights and by how many they are, beside a senate; and one by two rules of weights,
+# beside a senate and a president
 mapfile -t votes < <(for it in 9 7 6 6 5 4 3 2 1; do echo "$it, 1, 0"; done && for it in 5 4 3 3 2 1; do echo "0, 0, $it"; done)
 same_as_run "a house with heads and a senate" '22, 5, 10' "${votes[@]}"
 mapfile -t votes < <(for it in '9, 1' '7, 2' '6, 4' '6, 6' '5, 7' '4, 3' '2, 8' '1, 9'; do echo "$it, 0, 0"; done &&
@@ -124,7 +125,8 @@ minimal_of() {
     run --tally "$temp/rules.toml"
     succeeded "--tally of $1" && minimal=$(sed -n 's/^minimal\t//p' "$temp/out")
 }
-# a house of 20 by two rules, beside a senate of 19: threads count the house alone, whose coalitions go with each of the senate's
+# a house of 20 by two rules, beside a senate of 19: threads count the house alone, whose coalitions
+# go with each of the senate's
 x=7
 house=() senate=() both=()
 for ((member = 0; member < 20; member++)); do
@@ -170,8 +172,9 @@ fi
 
 # ---- how far it has come: told on a terminal after a second, and wiped
 if needs python3 "a long tally on a terminal"; then
-    # a game that takes some seconds in one thread: any 8 members win, by three rules that sums do not
-    # take, and under each rule all weights differ a little, so that no two members are of one kind
+    # a game that takes some seconds in one thread: any 8 members win, by three rules that sums do
+    # not take, and under each rule all weights differ a little, so that no two members are of one
+    # kind
     {
         echo 'quotas = [8000000, 8000000, 8000000]'
         for ((member = 1; member <= 40; member++)); do
@@ -264,7 +267,8 @@ shares() {
         total=$((total + 1000000000 / rank))
     done
 }
-# counted NAME FILE MINIMAL FIRST LAST: how many there are, and how many have the first member and the last
+# counted NAME FILE MINIMAL FIRST LAST: how many there are, and how many have the first member and
+# the last
 counted() {
     run --tally --workers 1 "$2"
     if succeeded "$1"; then
@@ -302,7 +306,8 @@ random 36 100000000
     done
 } >"$temp/persons.toml"
 counted "36 states by persons, and 20 heads" "$temp/persons.toml" 394303398 182415240 237664887
-# a president, a house of 20 and one of 19: 32,502 coalitions of the one house, and 17,967 of the other, of which 5,902 have its last member
+# a president, a house of 20 and one of 19: 32,502 coalitions of the one house, and 17,967 of the
+# other, of which 5,902 have its last member
 random 39 1000000
 rows=('1, 0, 0')
 of_house=0

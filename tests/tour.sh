@@ -1,11 +1,12 @@
 #!/usr/bin/env bash
-# docs/TOUR.md: its commands print what it shows after them, and each call in its table has the clause beside it.
+# docs/TOUR.md: its commands print what it shows after them, and each call in its table has the
+# clause beside it.
 . "$(dirname "$0")/common.sh"
 cd "$top" || exit 1
 page=docs/TOUR.md
 
-# Each line `$ COMMAND` prints the lines up to the next such line or the end of the block. Commands that need a proof
-# have no `$`, and are not run.
+# Each line `$ COMMAND` prints the lines up to the next such line or the end of the block. Commands
+# that need a proof have no `$`, and are not run.
 mkdir "$temp/bin"
 ln -s "$program" "$temp/bin/council"
 command=

@@ -40,9 +40,9 @@ if needs python3 tests/using; then
     done
 fi
 
-# Each command of the documents prints what the document shows after it: a line `$ ./council ..` and the
-# lines up to the next such line or the end of the block. Commands without the `$` succeed, in a folder that
-# has only the program, council-tools, and examples.
+# Each command of the documents prints what the document shows after it: a line `$ ./council ..` and
+# the lines up to the next such line or the end of the block. Commands without the `$` succeed, in a
+# folder that has only the program, council-tools, and examples.
 command=
 : >"$temp/wanted"
 shows() {

@@ -1,5 +1,6 @@
 #!/usr/bin/env bash
-# The wheel of tools/release.sh: twice the same, installed without a network, and its own tests with the library in it.
+# The wheel of tools/release.sh: twice the same, installed without a network, and its own tests with
+# the library in it.
 . "$(dirname "$0")/common.sh"
 
 name="the wheel"

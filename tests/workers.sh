@@ -27,8 +27,8 @@ done
 
 # ---- on a terminal: how far a run has come, and that a game is read from standard input
 if needs python3 "a long run on a terminal" "a barren run on a terminal" "a late fault on a terminal" "a late report on a terminal" "a game from a terminal"; then
-    # a game of 3,838,380 coalitions, listed in some tenths of a second; the program is stopped meanwhile, so that more than the
-    # second goes by after which a run is told of
+    # a game of 3,838,380 coalitions, listed in some tenths of a second; the program is stopped
+    # meanwhile, so that more than the second goes by after which a run is told of
     {
         echo 'quota = 6'
         for ((member = 1; member <= 40; member++)); do
@@ -48,10 +48,10 @@ for column in (0, 1):
     assert numbers == sorted(numbers) and numbers[-1] > 0, numbers
 END
     then ok "a long run on a terminal"; else failed "a long run on a terminal" "$(tail -n 1 "$temp/told")"; fi
-    # a game that takes hours: 21 of 39 members must agree, 6 of the first twelve and 15 of the others, so
-    # a coalition with a seventh of the twelve is never minimal. The last member has so little weight under
-    # one rule only that no price shows it. The run is ended once it was told of twice, before it has found
-    # a coalition
+    # a game that takes hours: 21 of 39 members must agree, 6 of the first twelve and 15 of the
+    # others, so a coalition with a seventh of the twelve is never minimal. The last member has so
+    # little weight under one rule only that no price shows it. The run is ended once it was told of
+    # twice, before it has found a coalition
     {
         echo 'quotas = [21000, 15000, 6000]'
         for ((member = 1; member <= 40; member++)); do
@@ -89,8 +89,9 @@ assert b"slices done" in run.told, run.told[:60]
 assert run.told.endswith(b"\r\x1b[Kcouncil: too many minimal winning coalitions\r\n  --tally counts any number of them\r\n"), run.told[-120:]
 END
     then ok "a late fault on a terminal"; else failed "a late fault on a terminal" "$(tail -n 1 "$temp/told")"; fi
-    # the same game where all are wanted: once they are shown, each slice is, one after the other; the line is wiped
-    # once, before the first byte of the report, which is on the same terminal, and nothing is written between and after
+    # the same game where all are wanted: once they are shown, each slice is, one after the other;
+    # the line is wiped once, before the first byte of the report, which is on the same terminal,
+    # and nothing is written between and after
     run --workers 1 --most 4000000 "$temp/long.toml"
     sed 's/$/\r/' "$temp/out" >"$temp/report"
     if timeout "$seconds" python3 - "$program" "$temp/long.toml" "$temp/report" >"$temp/told" 2>&1 <<'END'

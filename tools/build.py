@@ -58,9 +58,11 @@ FILLS = 100
 MORE_LANES = 1
 # how long each proof took when it was last made from nothing
 MEASURED = f"{OUT}/seconds"
-# where that is not known: a second for this many lines of code (not of proofs and definitions), as most crates take
+# where that is not known: a second for this many lines of code (not of proofs and definitions), as
+# most crates take
 LINES_A_SECOND = 10
-# how long the statements below a library are read, and how long the program is compiled and linked, in seconds
+# how long the statements below a library are read, and how long the program is compiled and linked,
+# in seconds
 READ, COMPILED = 15, 60
 # how many processors a proof keeps busy, on the whole
 BUSY = 1.3

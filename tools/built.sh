@@ -1,13 +1,13 @@
 #!/bin/sh
-# Whether the program at hand is whole, of these sources, and by this toolchain: by sums of what they hold, and
-# not by their times. ./council reads this file; tools/build.py and .ci/run run it:
+# Whether the program at hand is whole, of these sources, and by this toolchain: by sums of what
+# they hold, and not by their times. ./council reads this file; tools/build.py and .ci/run run it:
 #
 #     tools/built.sh sources     prints a sum of all that the program is proved from
 #     tools/built.sh keep SUM    keeps that the program was now built, of sources with this sum
 #     tools/built.sh why         prints why the program is to be built, in one word; nothing where it is not
 #
-# What is kept stands in crates/council/out/built: the sum of the sources, the length and the sum of the program,
-# and the toolchain. Where it cannot be written it is not kept.
+# What is kept stands in crates/council/out/built: the sum of the sources, the length and the sum of
+# the program, and the toolchain. Where it cannot be written it is not kept.
 case ${0##*/} in
 built.sh) top=$(CDPATH='' cd -P -- "$(dirname -- "$0")/.." >/dev/null && pwd -P && echo .) && top=${top%??} || exit 1 ;;
 esac
@@ -53,10 +53,12 @@ keep() {
     ls -lLi "$(command -v rt)" 2>/dev/null | put "$asked"
 }
 
-# Whether a program of which nothing was kept, as `rt ci` leaves it, can be taken as built: it reaches to the end that
-# its header tells, runs, and no source is newer. What it was built of is then kept.
+# Whether a program of which nothing was kept, as `rt ci` leaves it, can be taken as built: it
+# reaches to the end that its header tells, runs, and no source is newer. What it was built of is
+# then kept.
 is_taken() {
-    # the table of sections ends a program: where it begins, and how many rows of which length it has
+    # the table of sections ends a program: where it begins, and how many rows of which length it
+    # has
     if [ "$(head -c 4 "$program" | od -An -c | tr -d ' ')" = 177ELF ]; then
         end=$(($(od -An -t u8 -j 40 -N 8 "$program") + $(od -An -t u2 -j 58 -N 2 "$program") * $(od -An -t u2 -j 60 -N 2 "$program")))
         [ "$(wc -c <"$program")" -ge "$end" ] || return 1
@@ -66,7 +68,8 @@ is_taken() {
     keep "$(sources)"
 }
 
-# Whether the toolchain at hand is the one that built the program. Without one that answers, nothing can be built.
+# Whether the toolchain at hand is the one that built the program. Without one that answers, nothing
+# can be built.
 has_same_toolchain() {
     rt=$(command -v rt) || return 0
     file=$(ls -lLi "$rt" 2>/dev/null)
@@ -76,8 +79,9 @@ has_same_toolchain() {
     printf '%s\n' "$file" | put "$asked"
 }
 
-# Why the program is to be built: `first` where there is none, `whole` where it is not whole, `sources` where it is not
-# of these sources, `toolchain` where another toolchain built it. Nothing where it is not to be built.
+# Why the program is to be built: `first` where there is none, `whole` where it is not whole,
+# `sources` where it is not of these sources, `toolchain` where another toolchain built it. Nothing
+# where it is not to be built.
 why() {
     if ! [ -e "$program" ]; then
         echo first

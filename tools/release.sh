@@ -1,14 +1,14 @@
 #!/bin/sh
-# Makes dist/council-VERSION-x86_64-linux.tar.gz, which needs no toolchain, the wheel for Python, and
-# dist/SHA256SUMS beside them:
+# Makes dist/council-VERSION-x86_64-linux.tar.gz, which needs no toolchain, the wheel for Python,
+# and dist/SHA256SUMS beside them:
 #
 #     tools/release.sh [--draft] [--to FOLDER] [PROGRAM]
 #
-# from the program that ./council or .ci/run has proved and built of the sources at hand. All must be
-# committed, and .ci/run must have passed on that commit, which also makes the library for other
-# languages; --draft makes an archive without, and the file PROVED in it says so. Without the library
-# there is no wheel. Two releases of one commit and one program are the same bytes: names are sorted,
-# owners fixed, times those of the commit.
+# from the program that ./council or .ci/run has proved and built of the sources at hand. All must
+# be committed, and .ci/run must have passed on that commit, which also makes the library for other
+# languages; --draft makes an archive without, and the file PROVED in it says so. Without the
+# library there is no wheel. Two releases of one commit and one program are the same bytes: names
+# are sorted, owners fixed, times those of the commit.
 set -eu
 top=$(CDPATH='' cd -P -- "$(dirname -- "$0")/.." >/dev/null && pwd -P)
 out=$top/crates/council/out

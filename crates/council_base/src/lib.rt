@@ -1,5 +1,6 @@
-//! What all crates share: coalitions, counts by size, lists by place, `Memory`, the limits, the options of a run, the
-//! observer of its workers, readers and writers seen call by call, and text that is safe to show.
+//! What all crates share: coalitions, counts by size, lists by place, `Memory`, the limits, the
+//! options of a run, the observer of its workers, readers and writers seen call by call, and text
+//! that is safe to show.
 #![tactic(auto)]
 
 mod coalition;

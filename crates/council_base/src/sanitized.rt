@@ -1,8 +1,9 @@
 //! Text from outside, made safe to show in a line on a terminal.
 use std::fmt::{self, Display, Formatter, Write};
 
-/// The letters that show nothing, from the first to the last of each range: those that Unicode lists as default ignorable
-/// code points, and then separators of lines, the marks of annotations, a blank of Braille, and codes that are no letters.
+/// The letters that show nothing, from the first to the last of each range: those that Unicode
+/// lists as default ignorable code points, and then separators of lines, the marks of annotations,
+/// a blank of Braille, and codes that are no letters.
 const INVISIBLE: &[(u32, u32)] = &[
     (0xAD, 0xAD),
     (0x34F, 0x34F),
@@ -27,8 +28,8 @@ const INVISIBLE: &[(u32, u32)] = &[
     (0xFDD0, 0xFDEF),
 ];
 
-/// Whether a letter must not stand in a line on a terminal: it moves the terminal, ends a line, turns
-/// the direction of writing, shows nothing, or is a blank of another width.
+/// Whether a letter must not stand in a line on a terminal: it moves the terminal, ends a line,
+/// turns the direction of writing, shows nothing, or is a blank of another width.
 fn is_harmful(letter: char) -> bool {
     let code = u32::from(letter);
     letter.is_control()
@@ -39,7 +40,8 @@ fn is_harmful(letter: char) -> bool {
             .any(|(first, last)| *first <= code && code <= *last)
 }
 
-/// A writer that passes on the letters that are `left`, dots instead of the next one, and none after it.
+/// A writer that passes on the letters that are `left`, dots instead of the next one, and none
+/// after it.
 #[derive(Drop)]
 struct Cut<'a, W> {
     writer: &'a mut W,
@@ -70,8 +72,8 @@ pub struct Sanitized<T> {
     most: usize,
 }
 
-/// Makes text from outside safe to show: at most `most` characters of it, with a blank instead of each
-/// that moves a terminal, ends a line, turns the direction of writing, or shows nothing.
+/// Makes text from outside safe to show: at most `most` characters of it, with a blank instead of
+/// each that moves a terminal, ends a line, turns the direction of writing, or shows nothing.
 pub fn sanitize<T: Display>(what: T, most: usize) -> Sanitized<T> {
     Sanitized { what, most }
 }

@@ -9,9 +9,9 @@ use std::io::Write;
 
 /// A writer, as one sees it that hands its writes on. Each writer is one.
 ///
-/// `is_write` ties the writer and the bytes before one write to its answer, and to the writer as it is then;
-/// `is_flush` the same of a flush. Whoever knows no more of a sink than this trait can show each by one call alone:
-/// not by none, and not by two.
+/// `is_write` ties the writer and the bytes before one write to its answer, and to the writer as it
+/// is then; `is_flush` the same of a flush. Whoever knows no more of a sink than this trait can
+/// show each by one call alone: not by none, and not by two.
 pub trait Sink {
     ghost held: { Self → Option (List ℕ) };
 

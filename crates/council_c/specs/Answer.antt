@@ -44,7 +44,8 @@ abbrev pub status_of_call : Fault → ℕ
 status_of_call fault.Options = 2
 status_of_call (fault.Run why) = status_of why
 
--- A call that gives status 0 reports, and one that gives another was stopped by a fault of that status.
+-- A call that gives status 0 reports, and one that gives another was stopped by a fault of that
+-- status.
 abbrev pub Answers : CouncilOptions → List ℕ → List ℕ → List ℕ → ℕ → ℕ → Type 0
 Answers o bytes before after len status =
     ((status ≡ 0) × Reports o bytes before after len)

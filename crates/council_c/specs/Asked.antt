@@ -4,7 +4,8 @@ use Rattle.council_base.specs.declared.limits.TheConstants.{COALITIONS}
 use Rattle.council_base.specs.declared.report_lines.ReportLines.{ReportLines}
 use Rattle.council_c.specs.declared.options.CouncilOptions.{CouncilOptions}
 
--- no call takes them: they ask for more than can be kept, or a tally, which keeps none, to list or to keep some
+-- no call takes them: they ask for more than can be kept, or a tally, which keeps none, to list or
+-- to keep some
 abbrev pub are_wrong : CouncilOptions → Bool
 are_wrong o = nat_lt COALITIONS o.most || o.tally && (o.list || nat_lt 0 o.most)
 

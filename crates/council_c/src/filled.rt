@@ -117,8 +117,8 @@ fn put_tally(
     put_found(alloc, &game, found, options.lines(), room)
 }
 
-/// Puts the report of the game in some bytes into a buffer, as much of it as fits. It returns how long
-/// the report is.
+/// Puts the report of the game in some bytes into a buffer, as much of it as fits. It returns how
+/// long the report is.
 ///
 /// # Errors
 ///

@@ -1,5 +1,5 @@
-//! One call for other languages: from the bytes of a game to its report, in a buffer of the caller's and in the
-//! caller's thread. `include/council.h` declares it for C.
+//! One call for other languages: from the bytes of a game to its report, in a buffer of the
+//! caller's and in the caller's thread. `include/council.h` declares it for C.
 //!
 //! ```text
 //! uint32_t status = council_report(game, strlen(game), &options, text, sizeof text, &length);

@@ -7,8 +7,8 @@ use std::alloc::Global;
 use std::io;
 use std::io::Write;
 
-/// The beginning of a text, as much of it as fits its bytes. A write takes what there is room for, and in the
-/// end nothing. It fails where the page cannot grow.
+/// The beginning of a text, as much of it as fits its bytes. A write takes what there is room for,
+/// and in the end nothing. It fails where the page cannot grow.
 #[derive(Drop)]
 pub(crate) struct Page {
     bytes: Vec<u8>,

@@ -5,7 +5,8 @@ use council_file::{bracket_rule, is_bracket};
 use council_game::{Memory, limits};
 use std::alloc::Global;
 
-/// How the front of a bracket text can end, and what is then wanted behind it. The first end that fits says it.
+/// How the front of a bracket text can end, and what is then wanted behind it. The first end that
+/// fits says it.
 const ENDS: &[(&str, &str)] = &[
     ("", "nothing may stand behind the bracket"),
     (
@@ -18,7 +19,8 @@ const ENDS: &[(&str, &str)] = &[
     ("[1;1]", "a bracket is expected here"),
 ];
 
-/// What is wanted behind the front of a bracket text; none where a text with this front breaks the grammar.
+/// What is wanted behind the front of a bracket text; none where a text with this front breaks the
+/// grammar.
 fn wanted_behind(alloc: Global, front: &str) -> Result<Option<&'static str>, Memory> {
     for (end, wanted) in ENDS {
         let text = format!(in alloc; "{front}{end}")?;
@@ -29,7 +31,8 @@ fn wanted_behind(alloc: Global, front: &str) -> Result<Option<&'static str>, Mem
     Ok(None)
 }
 
-/// How many bytes of a text a bracket text can begin with, found by steps of 2^16 halved down to 1: where a length fits, each shorter one does.
+/// How many bytes of a text a bracket text can begin with, found by steps of 2^16 halved down to 1:
+/// where a length fits, each shorter one does.
 fn longest_front(alloc: Global, text: &str) -> Result<usize, Memory> {
     let mut len = 0usize;
     for halvings in 0..17u32 {
@@ -61,8 +64,8 @@ impl Explanation<'_> {
     }
 }
 
-/// What is to be said of a game that was read, where another may be meant: of a bracket text with a weight `000`, as a comma
-/// between thousands makes one. The bytes are those of the file.
+/// What is to be said of a game that was read, where another may be meant: of a bracket text with a
+/// weight `000`, as a comma between thousands makes one. The bytes are those of the file.
 pub fn remark(bytes: &[u8]) -> Option<&'static str> {
     let told = "a weight 000 was read as 0: a comma ends a weight, also between thousands";
     for number in bytes.split(|byte| !byte.is_ascii_digit()) {

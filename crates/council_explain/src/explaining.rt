@@ -26,7 +26,8 @@ fn tree_of(alloc: Global, text: &str) -> Result<(Table, Option<Error>), Memory> 
     }
 }
 
-/// Says what a fault says of the bytes of a file, which are no TOML if there is an error, and a bracket text if there is a rule.
+/// Says what a fault says of the bytes of a file, which are no TOML if there is an error, and a
+/// bracket text if there is a rule.
 fn explain_fault(
     explanation: &mut Explanation<'_>,
     alloc: Global,
@@ -63,9 +64,9 @@ fn explain_fault(
     Ok(())
 }
 
-/// Why a game file was refused, and where: lines of text, each begun with two blanks and ended with LF; none
-/// where there is nothing to say. The bytes are those of the file, and the fault is the one that
-/// `council_file::parse_game` answers for them.
+/// Why a game file was refused, and where: lines of text, each begun with two blanks and ended with
+/// LF; none where there is nothing to say. The bytes are those of the file, and the fault is the
+/// one that `council_file::parse_game` answers for them.
 ///
 /// # Errors
 ///

@@ -9,8 +9,8 @@ use std::alloc::Global;
 use std::io;
 use std::io::Read;
 
-/// A reader that gives what another gives, and keeps it, where it is to. Each read is handed on once, as it is,
-/// and its bytes are those of the reader inside.
+/// A reader that gives what another gives, and keeps it, where it is to. Each read is handed on
+/// once, as it is, and its bytes are those of the reader inside.
 #[derive(Drop)]
 pub struct Kept<'a, I> {
     reader: &'a mut I,

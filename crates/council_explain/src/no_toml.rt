@@ -6,8 +6,8 @@ use toml::de::Error;
 const SEPARATORS: &[(char, &str)] = &[('\t', "TABs"), (';', "semicolons"), (',', "commas")];
 
 impl Explanation<'_> {
-    /// Says that the text looks like a table, where a line of several columns stands before those of a game file; whether
-    /// it does.
+    /// Says that the text looks like a table, where a line of several columns stands before those
+    /// of a game file; whether it does.
     fn explain_table(&mut self) -> bool {
         for (index, line) in self.text.lines().enumerate() {
             if line.starts_with(['#', '[']) || line.contains('=') {
@@ -27,8 +27,8 @@ impl Explanation<'_> {
         false
     }
 
-    /// Says which bytes are no text, or else why the text of them is not TOML, though it begins as a bracket text does
-    /// where `is_bracket` says so.
+    /// Says which bytes are no text, or else why the text of them is not TOML, though it begins as
+    /// a bracket text does where `is_bracket` says so.
     pub fn explain_no_toml(&mut self, bytes: &[u8], error: Option<&Error>, is_bracket: bool) {
         if bytes.starts_with(b"\xFF\xFE") || bytes.starts_with(b"\xFE\xFF") {
             self.line("the file is saved as UTF-16: save it as UTF-8");

@@ -36,7 +36,8 @@ impl Explanation<'_> {
         self.line("weight goes with quota, and weights go with quotas");
     }
 
-    /// Says what is wrong with the value of `quotas`, or which member has a key that does not go with it.
+    /// Says what is wrong with the value of `quotas`, or which member has a key that does not go
+    /// with it.
     fn explain_quotas(&mut self, value: &Value) {
         let Value::Array(quotas) = value else {
             return self.explain_value(value, "quotas are an array of 1 to 4 whole numbers");

@@ -3,8 +3,8 @@ use crate::explanation::{Explanation, short};
 use council_base::Memory;
 use std::alloc::Global;
 
-/// What ends the comment or the quotes that are open behind a letter, by what ended those before it: the end of a line, or
-/// quotes; `\` where the next letter ends nothing.
+/// What ends the comment or the quotes that are open behind a letter, by what ended those before
+/// it: the end of a line, or quotes; `\` where the next letter ends nothing.
 fn end_behind(end: Option<char>, letter: char) -> Option<char> {
     match end {
         None if letter == '#' => Some('\n'),
@@ -29,8 +29,8 @@ pub fn bare(alloc: Global, text: &str) -> Result<String, Memory> {
     Ok(bare)
 }
 
-/// The line of a bare text in which a key stands first, as a whole word before what fits a key; its first line has the
-/// number `first`.
+/// The line of a bare text in which a key stands first, as a whole word before what fits a key; its
+/// first line has the number `first`.
 fn line_of_key(bare: &str, first: usize, key: &str) -> Option<usize> {
     for (place, _) in bare.match_indices(key) {
         if let Some((front, rest)) = bare.split_at_checked(place)
@@ -44,7 +44,8 @@ fn line_of_key(bare: &str, first: usize, key: &str) -> Option<usize> {
 }
 
 impl Explanation<'_> {
-    /// Says the line and the column of a place, and what stands in the line; the column is in characters.
+    /// Says the line and the column of a place, and what stands in the line; the column is in
+    /// characters.
     pub fn explain_place(&mut self, place: usize) {
         let front = self.text.get(..place).unwrap_or(self.text);
         let (_, last) = front.rsplit_once('\n').unwrap_or(("", front));
@@ -68,8 +69,8 @@ impl Explanation<'_> {
         }
     }
 
-    /// Says where a key of a member stands, or else the member: it is behind the header, or else the brace, that has its
-    /// number among its like.
+    /// Says where a key of a member stands, or else the member: it is behind the header, or else
+    /// the brace, that has its number among its like.
     pub fn explain_key_of(&mut self, member: usize, key: &str) {
         let is_header = self.bare.contains("[[member]]");
         let mark = if is_header { "[[member]]" } else { "{" };

@@ -1,4 +1,5 @@
-//! Values of a file, as an explanation shows them, and what turns a number that is not whole into one that is.
+//! Values of a file, as an explanation shows them, and what turns a number that is not whole into
+//! one that is.
 use crate::explanation::{Explanation, short};
 use toml::Value;
 
@@ -50,7 +51,8 @@ impl Explanation<'_> {
         self.line(format_args!("{} is {}: {wanted}", short(value), kind(value)));
     }
 
-    /// Says what is wrong with what is to be a text on one line: what it is, what it has, or else how long it is.
+    /// Says what is wrong with what is to be a text on one line: what it is, what it has, or else
+    /// how long it is.
     pub(crate) fn explain_text(&mut self, value: &Value, wanted: &str) {
         let Value::String(text) = value else {
             return self.explain_value(value, wanted);
@@ -73,8 +75,8 @@ impl Explanation<'_> {
         }
     }
 
-    /// Says by which power of ten the decimals of a text become whole numbers; nothing where it has none, or more than
-    /// the greatest weight has zeros.
+    /// Says by which power of ten the decimals of a text become whole numbers; nothing where it has
+    /// none, or more than the greatest weight has zeros.
     fn explain_factor(&mut self, text: &str) {
         let decimals = most_decimals(text);
         if 0 < decimals

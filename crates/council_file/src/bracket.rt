@@ -17,7 +17,8 @@ pub fn is_bracket(bytes: &[u8]) -> bool
     scanner.take_opening() && scanner.take_digits()
 }
 
-/// The weights up to the bracket that closes the text, and nothing where the text breaks the grammar.
+/// The weights up to the bracket that closes the text, and nothing where the text breaks the
+/// grammar.
 #[tactic(auto, using(crate::proofs::Weights::commas))]
 fn weights_of(alloc: Global, scanner: &mut Scanner<'_>) -> Result<Option<Vec<u64>>, AllocError>
     ensures { IfOk result (λ o. option_map (λ v. v.items) o ≡ weights_of scanner.old) }

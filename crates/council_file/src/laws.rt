@@ -5,15 +5,15 @@ ghost use Rattle.council_file.specs.Laws.{NotationReadsBack};
 ghost use Rattle.council_file.specs.Reads.{Gave};
 ghost use Rattle.std.specs.Prelude.{◌≡◌, ℕ, List, Option, Some};
 
-/// Who reads the notation of a rule of a game gets a game of that rule alone, whose members are named 1,
-/// 2, .. and which has no title.
+/// Who reads the notation of a rule of a game gets a game of that rule alone, whose members are
+/// named 1, 2, .. and which has no title.
 #[tactic(auto, using(crate::proofs::ReadsBack::reads_back))]
 pub fn notation_reads_back()
     ensures { (g : GameView) → IsGame g → NotationReadsBack g }
 {}
 
-/// Where all bytes of a reader are known, the game of those that it gave is the game of all of them, and so is
-/// the first fault.
+/// Where all bytes of a reader are known, the game of those that it gave is the game of all of
+/// them, and so is the first fault.
 #[tactic(auto, using(crate::proofs::Given::known_bytes))]
 pub fn known_bytes_give_their_game()
     ensures { (all bytes : List ℕ) (after : Option (List ℕ)) → Gave (Some all) after bytes →

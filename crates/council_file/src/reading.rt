@@ -30,7 +30,8 @@ fn read_some<R: Read>(reader: &mut R, bytes: &mut Vec<u8>, room: usize) -> Resul
     }
 }
 
-/// The bytes up to the end, or more than 65,536 of them. Each read that goes on gives at least one byte.
+/// The bytes up to the end, or more than 65,536 of them. Each read that goes on gives at least one
+/// byte.
 fn read_bytes<R: Read>(alloc: Global, reader: &mut R) -> Result<Vec<u8>, GameFault>
     ensures gave { IfOk result
         (λ v. Gave (R.remaining reader.old) (R.remaining reader.new) v.items) }
@@ -46,8 +47,8 @@ fn read_bytes<R: Read>(alloc: Global, reader: &mut R) -> Result<Vec<u8>, GameFau
     Ok(bytes)
 }
 
-/// The game of the bytes that the reader gives, or the first fault. It reads up to the end, or until
-/// 65,537 bytes have come.
+/// The game of the bytes that the reader gives, or the first fault. It reads up to the end, or
+/// until 65,537 bytes have come.
 ///
 /// # Errors
 ///

@@ -74,7 +74,8 @@ fn lone_rule(alloc: Global, table: &Table) -> Result<Vec<Rule>, AllocError>
     Ok(rules)
 }
 
-/// The rules in the tree of a file: a number that is missing or out of range is one that no game has.
+/// The rules in the tree of a file: a number that is missing or out of range is one that no game
+/// has.
 ///
 /// # Errors
 ///

@@ -6,8 +6,8 @@ use Rattle.council_game.specs.Ranks.{rank_places}
 use Rattle.council_game.specs.Votes.{RuleView}
 use Rattle.council_game.specs.declared.contribution.TheConstants.{PARTS, MOST}
 
--- what a member of this weight contributes to a rule: its weight in parts of what the rule can do without, and one;
--- all of that is 10^15 parts, and 4,000 times that is the most
+-- what a member of this weight contributes to a rule: its weight in parts of what the rule can do
+-- without, and one; all of that is 10^15 parts, and 4,000 times that is the most
 abbrev pub share_of : RuleView → ℕ → ℕ
 share_of r weight = min (weight * PARTS / (total r - r.quota + 1)) MOST
 

@@ -61,8 +61,8 @@ made_game title names rules = do
 abbrev pub ranked_by_first : GameView → GameView
 ranked_by_first g = record g { ranks = rank_places (first_weights g.rules) }
 
--- What is a game: its checks pass, it has 1 to 4 rules, each with a weight for each member, and its rank places are
--- those of a ranking: by weight if it has one rule.
+-- What is a game: its checks pass, it has 1 to 4 rules, each with a weight for each member, and its
+-- rank places are those of a ranking: by weight if it has one rule.
 pub record IsGame (g : GameView) : Type 0 where
   pub made : made_game g.title g.names g.rules ≡ Ok (ranked_by_first g)
   pub each_member : length g.ranks ≡ length g.names
@@ -76,7 +76,7 @@ pub record IsGame (g : GameView) : Type 0 where
 abbrev pub votes_of : GameView → Votes
 votes_of g = record { members = length g.names; rules = map (rule_by_rank g.ranks) g.rules }
 
--- coalitions of a game, none of them empty; that its minimal winning coalitions are such is a law of `power_index`,
--- `laws::minimal_coalitions_can_be_counted`
+-- coalitions of a game, none of them empty; that its minimal winning coalitions are such is a law
+-- of `power_index`, `laws::minimal_coalitions_can_be_counted`
 abbrev pub AreNonemptyCoalitions : GameView → List ℕ → Type 0
 AreNonemptyCoalitions g list = All (λ c. (0 < c) × (c < 2 ^ length g.names)) list

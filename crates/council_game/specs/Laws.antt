@@ -28,8 +28,8 @@ ProperSubsetsLose v =
     (a c : ℕ) → a < 2 ^ v.members → c < 2 ^ v.members
     → minimal v c ≡ true → IsProperSubset v.members a c → wins v.rules a ≡ false
 
--- the list of minimal coalitions is not empty, no longer than the game has coalitions, strictly descending, and has
--- coalitions of the game alone, none of them empty
+-- the list of minimal coalitions is not empty, no longer than the game has coalitions, strictly
+-- descending, and has coalitions of the game alone, none of them empty
 pub record IsListing (v : Votes) : Type 0 where
   pub some : 0 < length (minimal_coalitions v)
   pub few : length (minimal_coalitions v) ≤ 2 ^ v.members
@@ -44,8 +44,9 @@ pub record HasEachSet (g : GameView) : Type 0 where
   pub members : (set : ℕ → Bool) (i : ℕ) → i < length g.names → contains g i (coalition set) ≡ set i
   pub one : (c d : ℕ) → c < 2 ^ length g.names → d < 2 ^ length g.names → HaveSameMembers g g c d → c ≡ d
 
--- In two games of the same members and rules, coalitions of the same members are as large, win alike, and are minimal
--- alike; so as many minimal winning coalitions pass a test that looks at their members only.
+-- In two games of the same members and rules, coalitions of the same members are as large, win
+-- alike, and are minimal alike; so as many minimal winning coalitions pass a test that looks at
+-- their members only.
 pub record IsSameByMembers (g h : GameView) : Type 0 where
   pub size : (c d : ℕ) → HaveSameMembers g h c d → size_of g c ≡ size_of h d
   pub win : (c d : ℕ) → HaveSameMembers g h c d → wins (votes_of g).rules c ≡ wins (votes_of h).rules d

@@ -13,8 +13,9 @@ pub const PARTS: u128 = 1_000_000_000_000_000;
 pub const MOST: u128 = 4_000_000_000_000_000_000;
 
 impl Game {
-    /// Returns a copy of the game whose places are in the order in which a walk over its coalitions is short: members
-    /// who contribute more come first. Returns none if its places are in this order, or if it has one rule.
+    /// Returns a copy of the game whose places are in the order in which a walk over its coalitions
+    /// is short: members who contribute more come first. Returns none if its places are in this
+    /// order, or if it has one rule.
     ///
     /// What a member contributes to a rule is its weight divided by what the rule can do without
     /// (total - quota + 1). So members who can veto come first, and large members before small

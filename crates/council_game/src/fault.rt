@@ -15,8 +15,8 @@ pub enum GameFault {
     Read,
     /// More than 65,536 bytes.
     TooLong,
-    /// Not UTF-8, or not TOML; also an integer that does not fit 64 bits, and arrays or inline tables that
-    /// are nested more than 80 deep.
+    /// Not UTF-8, or not TOML; also an integer that does not fit 64 bits, and arrays or inline
+    /// tables that are nested more than 80 deep.
     Text,
     /// A key that no game file has.
     UnknownKey,
@@ -36,16 +36,16 @@ pub enum GameFault {
     QuotaRange,
     /// A bracket text that breaks its grammar.
     Bracket,
-    /// Both `quota` and `quotas`, `quotas` that is no list of 1 to 4 integers, `weights` beside `quota`, or
-    /// `weight` beside `quotas`.
+    /// Both `quota` and `quotas`, `quotas` that is no list of 1 to 4 integers, `weights` beside
+    /// `quota`, or `weight` beside `quotas`.
     Rules,
     /// A growth was refused.
     Memory,
 }
 
 impl GameFault {
-    /// A number of the fault, from 1 to 14, for tables and tests. It is not the order of the checks, and no
-    /// status of the program.
+    /// A number of the fault, from 1 to 14, for tables and tests. It is not the order of the
+    /// checks, and no status of the program.
     pub fn number(self) -> u8
         ensures { result ≡ number_of self }
     {

@@ -7,7 +7,8 @@ ghost use Rattle.council_game.specs.Game.{votes_of};
 use crate::{Coalition, Game, Memory};
 use std::alloc::Global;
 
-/// The minimal winning coalitions of a game of at most 20 members, in listing order, by trying each coalition.
+/// The minimal winning coalitions of a game of at most 20 members, in listing order, by trying each
+/// coalition.
 ///
 /// # Errors
 ///

@@ -7,8 +7,9 @@ ghost use Rattle.council_game.specs.Votes.{minimal_coalitions};
 use crate::{Coalition, Game};
 
 impl Game {
-    /// Turns the list of this game's minimal winning coalitions into that of another game of the same
-    /// members and rules, whose members have other rank places. Both lists are in listing order.
+    /// Turns the list of this game's minimal winning coalitions into that of another game of the
+    /// same members and rules, whose members have other rank places. Both lists are in listing
+    /// order.
     pub fn renumber_all(&self, list: &mut [Coalition], other: &Game)
         requires names { other.now.names ≡ self.now.names }
         requires rules { other.now.rules ≡ self.now.rules }

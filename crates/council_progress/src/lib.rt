@@ -1,5 +1,5 @@
-//! How far a run or a tally has come, in one line on a terminal. What it says is tested, since no contract can say
-//! what a terminal shows. And a writer that wipes the line before it writes.
+//! How far a run or a tally has come, in one line on a terminal. What it says is tested, since no
+//! contract can say what a terminal shows. And a writer that wipes the line before it writes.
 //!
 //! ```text
 //! let progress = Progress::new(rt, rt.stderr().is_terminal(), 64);

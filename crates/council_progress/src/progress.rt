@@ -23,8 +23,8 @@ struct Done {
     is_shown: bool,
 }
 
-/// Prints how far a run or a tally has come, in one line that is written anew each time, if standard error is a
-/// terminal and more than a second has passed.
+/// Prints how far a run or a tally has come, in one line that is written anew each time, if
+/// standard error is a terminal and more than a second has passed.
 #[derive(Drop)]
 pub struct Progress<'a, R> {
     rt: &'a R,

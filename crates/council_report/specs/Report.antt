@@ -1,4 +1,5 @@
--- The report of a game, as a function of its title, names and numbers and of its minimal winning coalitions.
+-- The report of a game, as a function of its title, names and numbers and of its minimal winning
+-- coalitions.
 use Rattle.std.specs.Prelude.{ℕ, List, [], ◌++◌, if◌then◌else◌, length}
 use Rattle.std.specs.List.{flat_map, range_with_len}
 use Rattle.council_base.specs.declared.report_lines.ReportLines.{ReportLines}

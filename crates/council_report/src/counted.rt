@@ -6,8 +6,8 @@ ghost use Rattle.power_index.specs.Tables.{AreSound, table_total};
 use council_game::Game;
 use power_index::Counts;
 
-/// A game, the number of its members, and the counts of a list of its coalitions, of which there are
-/// some, none of them empty. The list itself need not be there.
+/// A game, the number of its members, and the counts of a list of its coalitions, of which there
+/// are some, none of them empty. The list itself need not be there.
 #[derive(Drop)]
 pub(crate) struct Counted<'a> {
     pub(crate) game: &'a Game,

@@ -45,7 +45,8 @@ fn push_counts(out: &mut Block, counted: &Counted<'_>, size: usize)
     }
 }
 
-/// `size`, a size, how many coalitions have it, and how many of those contain each member; no line where none has it.
+/// `size`, a size, how many coalitions have it, and how many of those contain each member; no line
+/// where none has it.
 #[tactic(auto, unfolding(crate::specs::Lines::size_line))]
 pub(crate) fn push_size(out: &mut Block, counted: &Counted<'_>, size: usize)
     requires { size ≤ counted.now.members }

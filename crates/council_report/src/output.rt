@@ -48,8 +48,8 @@ fn write_whole<W: Write>(writer: &mut W, bytes: &[u8]) -> Result<(), WriteFault>
     Ok(())
 }
 
-/// Bytes on their way to a writer, whether memory for some was refused, and the number of those that
-/// the writer took before.
+/// Bytes on their way to a writer, whether memory for some was refused, and the number of those
+/// that the writer took before.
 #[derive(Drop)]
 pub(crate) struct Block {
     pub(crate) bytes: Vec<u8>,

@@ -118,9 +118,9 @@ fn send<W: Write>(
     block.finish(writer)
 }
 
-/// Writes the report of a game over a list of its coalitions with these counts. The list need be there,
-/// in pieces, only where it is shown. The lines are made from the counts; that they are those of the
-/// list is shown here.
+/// Writes the report of a game over a list of its coalitions with these counts. The list need be
+/// there, in pieces, only where it is shown. The lines are made from the counts; that they are
+/// those of the list is shown here.
 fn write_over<W: Write>(
     alloc: Global,
     game: &Game,
@@ -190,8 +190,9 @@ pub fn write_report_of<W: Write>(
     write_over(alloc, game, pieces, counts, shown, writer)
 }
 
-/// Writes the report of a game, with no line for a coalition, from the counts of its minimal winning
-/// coalitions alone, however many these are, and flushes once. The answer is the number of bytes.
+/// Writes the report of a game, with no line for a coalition, from the counts of its minimal
+/// winning coalitions alone, however many these are, and flushes once. The answer is the number of
+/// bytes.
 ///
 /// No byte goes out before all memory is there.
 ///
@@ -217,15 +218,16 @@ pub fn write_tally<W: Write>(
     write_over(alloc, game, &[], counts, shown, writer)
 }
 
-/// Writes the report of a game over a list of 1 to 4,000,000 of its coalitions, none of them empty, and
-/// flushes once. The answer is the number of bytes.
+/// Writes the report of a game over a list of 1 to 4,000,000 of its coalitions, none of them empty,
+/// and flushes once. The answer is the number of bytes.
 ///
 /// No byte goes out before all memory is there.
 ///
 /// # Errors
 ///
-/// Memory where a growth was refused; nothing was written then. Write where a write or the flush failed,
-/// or a write took nothing; it tells how many bytes the writer took, which are the first ones of the report.
+/// Memory where a growth was refused; nothing was written then. Write where a write or the flush
+/// failed, or a write took nothing; it tells how many bytes the writer took, which are the first
+/// ones of the report.
 pub fn write_report<W: Write>(
     alloc: Global,
     game: &Game,

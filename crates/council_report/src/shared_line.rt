@@ -15,8 +15,9 @@ use crate::text::{push_number, push_values};
 use council_game::{Coalition, Game, limits};
 use std::alloc::{AllocError, Global};
 
-/// The line of a coalition, with a subtotal at each place up to its last member. What the next coalition
-/// shares with it is kept, and only what follows is made anew; in listing order this is little.
+/// The line of a coalition, with a subtotal at each place up to its last member. What the next
+/// coalition shares with it is kept, and only what follows is made anew; in listing order this is
+/// little.
 #[derive(Drop)]
 pub(crate) struct SharedLine {
     /// What each member adds, by rank.
@@ -145,8 +146,8 @@ impl SharedLine {
         out.push(&self.names);
     }
 
-    /// Puts the line: `coalition`, its size, its weight under each rule, the names of its members in
-    /// rank order.
+    /// Puts the line: `coalition`, its size, its weight under each rule, the names of its members
+    /// in rank order.
     #[tactic(auto, unfolding(crate::specs::Lines::coalition_line))]
     pub(crate) fn push(&self, out: &mut Block, game: &Game)
         requires line { IsWholeLine game.now self.now.coalition self.now }

@@ -13,7 +13,8 @@ use Rattle.council_run.specs.declared.fault.Cause.{Cause}
 use Rattle.council_run.specs.declared.fault.Cause.TheVariants as cause
 use Rattle.council_run.specs.declared.fault.RunFault.{RunFault}
 
--- the reader, from what it had left before to what it has after, gave bytes with this game, or with this first fault
+-- the reader, from what it had left before to what it has after, gave bytes with this game, or with
+-- this first fault
 abbrev pub Reads : Option (List ℕ) → Option (List ℕ) → Result GameView GameFault → Type 0
 Reads unread left answer = (bytes : List ℕ) × Gave unread left bytes × (game_of bytes ≡ answer)
 
@@ -36,7 +37,8 @@ IsWithin limit g = IfSome limit (λ most. count_of g ≤ most)
 abbrev pub WritesNothing : Option (List ℕ) → Option (List ℕ) → ℕ → Type 0
 WritesNothing before after written = (written ≡ 0) × Keeps before after
 
--- A run that stops wrote nothing, or the first bytes of the text; the fault of a game is that of the bytes read.
+-- A run that stops wrote nothing, or the first bytes of the text; the fault of a game is that of
+-- the bytes read.
 abbrev pub Stops : (GameView → List ℕ) → Option ℕ → (Result GameView GameFault → Type 0) → Option (List ℕ) → Option (List ℕ)
     → Cause → ℕ → Type 0
 Stops text limit Read before after (cause.Game game.Read) written = WritesNothing before after written
@@ -49,7 +51,8 @@ Stops text limit Read before after cause.Memory written = WritesNothing before a
 Stops text limit Read before after cause.Write written =
     (g : GameView) × Read (Ok g) × IsWithin limit g × (written ≤ length (text g)) × Appends before after (take written (text g))
 
--- A run that succeeds wrote the text of the game that it read, and nothing else; the game is within its limit.
+-- A run that succeeds wrote the text of the game that it read, and nothing else; the game is within
+-- its limit.
 abbrev pub IsOutcome : (GameView → List ℕ) → Option ℕ → (Result GameView GameFault → Type 0) → Option (List ℕ) → Option (List ℕ)
     → Result ℕ RunFault → Type 0
 IsOutcome text limit Read before after (Ok len) =

@@ -1,4 +1,5 @@
-//! Counting the coalitions of a game, and keeping none: by sums, and what these leave by worker threads or by one walk.
+//! Counting the coalitions of a game, and keeping none: by sums, and what these leave by worker
+//! threads or by one walk.
 ghost use Rattle.std.specs.Prelude.{◌≡◌, IfErr, IfOk, None, false};
 ghost use Rattle.council_base.specs.declared.report_lines.ReportLines.{ReportLines};
 ghost use Rattle.council_run.specs.Found.{Finds, IsWorkersFault};
@@ -18,12 +19,12 @@ use std::alloc::Global;
 use std::sync::Wait;
 use std::thread::Threads;
 
-/// A tally has at least 2^8 slices if there are 8 members: the last of them are the longest, and with
-/// fewer one thread would still count when the others have ended.
+/// A tally has at least 2^8 slices if there are 8 members: the last of them are the longest, and
+/// with fewer one thread would still count when the others have ended.
 pub const LEAST_BITS: u8 = 8;
 
-/// Counts all coalitions of a game that sums leave: by kinds, if its members are of few kinds, or else by worker
-/// threads behind a gate.
+/// Counts all coalitions of a game that sums leave: by kinds, if its members are of few kinds, or
+/// else by worker threads behind a gate.
 fn count_rest<T: Threads + Wait + Sync, G: Gate + Sync>(
     rt: &T,
     alloc: Global,
@@ -63,7 +64,8 @@ fn count_by_threads<T: Threads + Wait + Sync, G: Gate + Sync>(
     )
 }
 
-/// Counts all coalitions of a game that sums leave: by kinds, if its members are of few kinds, or else by one walk.
+/// Counts all coalitions of a game that sums leave: by kinds, if its members are of few kinds, or
+/// else by one walk.
 fn count_rest_by_walk(alloc: Global, game: &Game) -> Result<Box<Counts>, Memory>
     ensures { IfOk result (λ counts. AreCountsOfGame game.now counts.value) }
 {
@@ -106,8 +108,8 @@ fn count_all<T: Threads + Wait + Sync, G: Gate + Sync>(
     }
 }
 
-/// Counts the coalitions of a game by sums, and what these leave by worker threads behind a gate. It
-/// takes a game with any number of them, and keeps none.
+/// Counts the coalitions of a game by sums, and what these leave by worker threads behind a gate.
+/// It takes a game with any number of them, and keeps none.
 ///
 /// # Errors
 ///
@@ -129,7 +131,8 @@ pub fn count_by_workers<T: Threads + Wait + Sync, G: Gate + Sync>(
     })
 }
 
-/// Counts the coalitions of a game by sums, and what these leave by one walk, in the calling thread.
+/// Counts the coalitions of a game by sums, and what these leave by one walk, in the calling
+/// thread.
 ///
 /// # Errors
 ///

@@ -29,7 +29,8 @@ pub enum Cause {
     Memory,
 }
 
-/// Why a run stopped, and how many bytes the writer took. Only after `Write` it may have taken some.
+/// Why a run stopped, and how many bytes the writer took. Only after `Write` it may have taken
+/// some.
 #[derive(Clone, Copy, Debug, PartialEq, Eq)]
 pub struct RunFault {
     pub cause: Cause,

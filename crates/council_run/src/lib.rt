@@ -1,5 +1,5 @@
-//! A run, from the bytes of a weighted voting game to its report: read the game, find its minimal winning coalitions or
-//! count them, and write the report with both power indices.
+//! A run, from the bytes of a weighted voting game to its report: read the game, find its minimal
+//! winning coalitions or count them, and write the report with both power indices.
 //!
 //! ```text
 //! let length = run(rt, alloc, &mut reader, &options, &NoGate, &mut writer)?;

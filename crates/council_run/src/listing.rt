@@ -59,8 +59,8 @@ fn count_gathered<T: Threads + Wait + Sync>(
     Ok(on_heap(alloc, counts)?)
 }
 
-/// Keeps the coalitions that workers listed: as they lie, if the game itself was walked over; else renumbered and
-/// sorted, if they are to be shown.
+/// Keeps the coalitions that workers listed: as they lie, if the game itself was walked over; else
+/// renumbered and sorted, if they are to be shown.
 fn keep(
     alloc: Global,
     game: &Game,
@@ -91,8 +91,8 @@ fn keep(
 /// # Errors
 ///
 /// The first of these: out of memory for the game in that order; a fault of the gathering; out of
-/// memory for the row of its pieces; Start if a thread that counts them could not be started; out of
-/// memory for their counts, or for their list.
+/// memory for the row of its pieces; Start if a thread that counts them could not be started; out
+/// of memory for their counts, or for their list.
 pub fn list_by_workers<T: Threads + Wait + Sync, G: Gate + Sync>(
     rt: &T,
     alloc: Global,

@@ -21,8 +21,8 @@ fn number_of(alloc: Global, game: &Game) -> Result<Option<u64>, GameFault>
     }
 }
 
-/// Returns how many minimal winning coalitions the game of a game file has, if sums count all of it;
-/// none for any other game.
+/// Returns how many minimal winning coalitions the game of a game file has, if sums count all of
+/// it; none for any other game.
 ///
 /// # Errors
 ///

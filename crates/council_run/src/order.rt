@@ -9,8 +9,8 @@ use council_game::Game;
 use council_game::laws::places_do_not_matter;
 use power_index::laws::places_change_no_count;
 
-/// Returns the game to walk over: the one in the order of contribution, if there is one. It has as many minimal
-/// winning coalitions as the game itself, and its counts are those of the game.
+/// Returns the game to walk over: the one in the order of contribution, if there is one. It has as
+/// many minimal winning coalitions as the game itself, and its counts are those of the game.
 pub(crate) fn choose_game<'a>(game: &'a Game, ordered: &'a Option<Game>) -> &'a Game
     requires { IfSome ordered.now (λ h. h ≡ by_contribution game.now) }
     ensures game { result.now ≡ unwrap_or ordered.now game.now }

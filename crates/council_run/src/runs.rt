@@ -70,12 +70,13 @@ pub fn run<T: Threads + Wait + Sync, R: Read, W: Write, G: Gate + Sync>(
     report_found(alloc, &game, found, options.lines(), writer)
 }
 
-/// Reads a game, counts its minimal winning coalitions, however many there are, and writes its report, with no line for
-/// a coalition, and nothing else. It returns the number of bytes written. It may wait for its workers.
+/// Reads a game, counts its minimal winning coalitions, however many there are, and writes its
+/// report, with no line for a coalition, and nothing else. It returns the number of bytes written.
+/// It may wait for its workers.
 ///
-/// Sums count what they can, and worker threads walk over the rest. No coalition is kept, so the memory does not grow
-/// with their number, and `most` and `list` of the options have no effect. Threads fix at least 8 of the heaviest
-/// members in each slice, if there are 8.
+/// Sums count what they can, and worker threads walk over the rest. No coalition is kept, so the
+/// memory does not grow with their number, and `most` and `list` of the options have no effect.
+/// Threads fix at least 8 of the heaviest members in each slice, if there are 8.
 ///
 /// # Errors
 ///

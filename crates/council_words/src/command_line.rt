@@ -26,8 +26,8 @@ fn no_words(rt: &impl Eprint, error: io::Error) -> ExitCode {
 /// The name of the program, whatever path started it.
 const NAME: &[u8] = b"council";
 
-/// The words of the command line, of which the first is `NAME`. The path that started the program may
-/// be no UTF-8, and is no argument.
+/// The words of the command line, of which the first is `NAME`. The path that started the program
+/// may be no UTF-8, and is no argument.
 #[derive(Drop)]
 struct Named<'a, R>(&'a R);
 
@@ -67,7 +67,8 @@ pub fn collect_words(rt: &(impl AllocGlobal + Env + Eprint)) -> Result<Vec<Strin
     }
 }
 
-/// Prints what the parser of the command line says: a fault, or the text of `--help` or `--version`.
+/// Prints what the parser of the command line says: a fault, or the text of `--help` or
+/// `--version`.
 fn refuse(rt: &(impl Print + Eprint), error: &Error) -> ExitCode {
     if error.kind() == ErrorKind::OutOfMemory {
         return out_of_memory(rt);
@@ -92,7 +93,8 @@ fn sanitize_words(alloc: Global, words: &[String]) -> Result<Vec<String>, AllocE
     Ok(sanitize_words)
 }
 
-/// Prints what the parser says of words that it refuses, or answers by a text: of the words as they can stand in a line.
+/// Prints what the parser says of words that it refuses, or answers by a text: of the words as they
+/// can stand in a line.
 fn refuse_words(rt: &(impl AllocGlobal + Print + Eprint), words: &[String]) -> ExitCode {
     let Ok(words) = sanitize_words(rt.alloc(), words) else {
         return out_of_memory(rt);
@@ -110,8 +112,8 @@ fn refuse_words(rt: &(impl AllocGlobal + Print + Eprint), words: &[String]) -> E
 ///
 /// # Errors
 ///
-/// The status to end with, if the parser refuses them, or answers `--help` or `--version`. The fault
-/// or the answer is printed first.
+/// The status to end with, if the parser refuses them, or answers `--help` or `--version`. The
+/// fault or the answer is printed first.
 pub fn parse_arguments<'a>(
     rt: &(impl AllocGlobal + Print + Eprint),
     words: &'a [String],

@@ -1,5 +1,5 @@
-//! The command line of `council`: what its words ask for, each number in its range. Tests show what the words mean,
-//! since no contract can say that.
+//! The command line of `council`: what its words ask for, each number in its range. Tests show what
+//! the words mean, since no contract can say that.
 //!
 //! ```text
 //! let words = collect_words(rt)?;

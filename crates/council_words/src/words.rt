@@ -84,7 +84,8 @@ opened or read, 2 where the command line is wrong, 3 where the file has no game,
 4 where the game has more than --most coalitions, 5 where memory, a thread or
 the output failed.";
 
-/// An option that takes a number: how `--help` writes the number, what it is where none is given, and its range.
+/// An option that takes a number: how `--help` writes the number, what it is where none is given,
+/// and its range.
 #[derive(Clone, Copy)]
 struct Number {
     name: &'static str,

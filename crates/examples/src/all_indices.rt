@@ -11,8 +11,8 @@ use mwc_walk::list_all;
 use power_index::{Counts, MemberIndices, all_indices};
 use std::alloc::Global;
 
-/// Both indices of each member, in the order of the file; none where the game has more than 4,000,000 minimal
-/// winning coalitions.
+/// Both indices of each member, in the order of the file; none where the game has more than
+/// 4,000,000 minimal winning coalitions.
 ///
 /// # Errors
 ///

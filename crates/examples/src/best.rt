@@ -8,8 +8,8 @@ use mwc_walk::Walk;
 use mwc_walk::laws::one_slice_is_the_whole;
 use power_index::laws::minimal_coalitions_can_be_counted;
 
-/// A minimal winning coalition that weighs least under the first rule: the best of a walk, which keeps one
-/// coalition and compares. The first in listing order need not be it.
+/// A minimal winning coalition that weighs least under the first rule: the best of a walk, which
+/// keeps one coalition and compares. The first in listing order need not be it.
 pub fn lightest(game: &Game) -> Option<Coalition>
     ensures some { IsSome result }
     ensures listed { IfSome result (Contains (minimal_coalitions (votes_of game.now))) }

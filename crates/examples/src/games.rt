@@ -56,7 +56,8 @@ pub fn quota_in_millionths(game: &Game) -> u128
     1_000_000 * u128::from(game.quota()) / u128::from(game.total())
 }
 
-/// Whether two games of as many members rank them alike: each member has the same rank place in both.
+/// Whether two games of as many members rank them alike: each member has the same rank place in
+/// both.
 pub fn are_ranked_alike(one: &Game, other: &Game) -> bool
     requires { length one.now.names ≡ length other.now.names }
     ensures { IsTrue result ↔ ((i : ℕ) → i < length one.now.names →

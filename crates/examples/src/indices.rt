@@ -17,7 +17,8 @@ use power_index::laws::{
 use power_index::{Counts, Index, deegan_packel, public_good};
 use std::alloc::Global;
 
-/// Both indices of a member; none where the game has more than 4,000,000 minimal winning coalitions.
+/// Both indices of a member; none where the game has more than 4,000,000 minimal winning
+/// coalitions.
 ///
 /// # Errors
 ///
@@ -47,8 +48,8 @@ pub fn both_indices(
     )))
 }
 
-/// Both indices of the first member of the game that the bytes hold; none where it has more than 4,000,000 minimal
-/// winning coalitions.
+/// Both indices of the first member of the game that the bytes hold; none where it has more than
+/// 4,000,000 minimal winning coalitions.
 ///
 /// # Errors
 ///

@@ -11,8 +11,8 @@ use mwc_walk::list_all;
 use power_index::Counts;
 use std::alloc::Global;
 
-/// Whether a member is a dummy: no minimal winning coalition contains it. None where the game has more
-/// than 4,000,000 of them.
+/// Whether a member is a dummy: no minimal winning coalition contains it. None where the game has
+/// more than 4,000,000 of them.
 ///
 /// # Errors
 ///
@@ -56,8 +56,8 @@ pub fn coalitions_with(
     Ok(found)
 }
 
-/// All minimal winning coalitions of a game of at most 20 members, by the walk and by trying each: one
-/// list twice. None where there are more than 4,000,000.
+/// All minimal winning coalitions of a game of at most 20 members, by the walk and by trying each:
+/// one list twice. None where there are more than 4,000,000.
 ///
 /// # Errors
 ///

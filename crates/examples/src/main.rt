@@ -1,6 +1,6 @@
-//! Examples: small complete functions over the public calls, each as you would write it in a crate of your own, with the
-//! contract that its callers want. The program prints both indices of each member of the game on standard input, a line
-//! for each.
+//! Examples: small complete functions over the public calls, each as you would write it in a crate
+//! of your own, with the contract that its callers want. The program prints both indices of each
+//! member of the game on standard input, a line for each.
 #![tactic(auto)]
 
 mod all_indices;

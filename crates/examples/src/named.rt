@@ -12,7 +12,8 @@ use council_game::{Game, Memory};
 use game_calls::{coalition_named, critical_members};
 use std::alloc::Global;
 
-/// Whether two members, given by their names, win together; none where the game has no member of a name.
+/// Whether two members, given by their names, win together; none where the game has no member of a
+/// name.
 pub fn win_together(game: &Game, first: &str, second: &str) -> Option<bool>
     ensures won { IfSome result (λ won. (i j c : ℕ)
         × (position (pointwise nat_eq first.now) game.now.names ≡ Some i)
@@ -30,7 +31,8 @@ pub fn win_together(game: &Game, first: &str, second: &str) -> Option<bool>
     Some(game.wins(game.coalition_of(&[first, second])))
 }
 
-/// The critical members of the coalition with these names, each by its place in the file; none where nobody has a name.
+/// The critical members of the coalition with these names, each by its place in the file; none
+/// where nobody has a name.
 ///
 /// # Errors
 ///

@@ -9,7 +9,8 @@ use council_game::{Game, Memory};
 use game_calls::{at_quota, count_by_walk};
 use std::alloc::Global;
 
-/// How many minimal winning coalitions a game of one rule has at each of some quotas, each within the total.
+/// How many minimal winning coalitions a game of one rule has at each of some quotas, each within
+/// the total.
 ///
 /// # Errors
 ///

@@ -10,7 +10,8 @@ use council_report::{ReportFault, ReportLines, write_report};
 use mwc_walk::list_all;
 use std::alloc::Global;
 
-/// The report of a game as bytes; none where the game has more than 4,000,000 minimal winning coalitions.
+/// The report of a game as bytes; none where the game has more than 4,000,000 minimal winning
+/// coalitions.
 ///
 /// # Errors
 ///

@@ -32,8 +32,9 @@ fn send_all(to: RingIn, words: &[Word]) -> Result<Closed, Unfinished>
     to.close()
 }
 
-/// Sends 1 to 65,536 words through a ring by a thread of its own, and gives what arrives: the same words in
-/// the same order. None where the thread could not be started, or the ring not be finished.
+/// Sends 1 to 65,536 words through a ring by a thread of its own, and gives what arrives: the same
+/// words in the same order. None where the thread could not be started, or the ring not be
+/// finished.
 ///
 /// # Errors
 ///

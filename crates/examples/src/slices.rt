@@ -64,8 +64,8 @@ impl PipeIn<Word> for Kept {
     }
 }
 
-/// The words that a worker sends of one slice, whose gate is passed once. None where the slice has more
-/// than 4,000,000 coalitions, or a growth was refused.
+/// The words that a worker sends of one slice, whose gate is passed once. None where the slice has
+/// more than 4,000,000 coalitions, or a growth was refused.
 ///
 /// There are at most 10 bits, and no more than members; `slice` is below 2^bits.
 pub fn words_of_slice<R: Wait>(

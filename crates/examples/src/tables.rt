@@ -19,7 +19,8 @@ fn is_above_others(indices: &[Index], i: usize) -> bool
     true
 }
 
-/// The most powerful member: the one whose index is above that of each other; none where two share the first place.
+/// The most powerful member: the one whose index is above that of each other; none where two share
+/// the first place.
 pub fn most_powerful(indices: &[Index]) -> Option<usize>
     ensures member { IfSome result (λ i. i < length indices.now) }
     ensures above { IfSome result (λ i. (j : ℕ) → j < length indices.now → j ≢ i →

@@ -15,8 +15,8 @@ use std::alloc::Global;
 use std::sync::Wait;
 use std::thread::Threads;
 
-/// The Deegan-Packel index of a member, however many minimal winning coalitions the game has: they are
-/// counted by `workers` threads, and none is kept.
+/// The Deegan-Packel index of a member, however many minimal winning coalitions the game has: they
+/// are counted by `workers` threads, and none is kept.
 ///
 /// # Errors
 ///

@@ -8,8 +8,8 @@ use crate::membership::{has_member, without_member};
 use council_game::{Coalition, Game, Memory};
 use std::alloc::Global;
 
-/// Whether a member, given by its place in the file, is critical in a coalition (Felsenthal and Machover
-/// 1998): it is in, the coalition wins, and loses without it.
+/// Whether a member, given by its place in the file, is critical in a coalition (Felsenthal and
+/// Machover 1998): it is in, the coalition wins, and loses without it.
 pub fn is_critical(game: &Game, coalition: Coalition, member: usize) -> bool
     requires { member < length game.now.names }
     ensures { result ≡ is_critical game.now coalition member }

@@ -1,5 +1,5 @@
-//! Laws: what the definitions say of each other, with nothing to run. You call a law, and what it ensures is then
-//! known to the proof of your function.
+//! Laws: what the definitions say of each other, with nothing to run. You call a law, and what it
+//! ensures is then known to the proof of your function.
 //!
 //! ```text
 //! game_calls::laws::lowest_terms_add_up();
@@ -66,23 +66,24 @@ pub fn quotas_can_be_changed()
         → IsGame (at_quota g q) }
 {}
 
-/// What passes a test among 0, 1, .., n is what passes among those below n, and then n if it passes: one step of
-/// a loop that keeps the members or places that pass.
+/// What passes a test among 0, 1, .., n is what passes among those below n, and then n if it
+/// passes: one step of a loop that keeps the members or places that pass.
 #[tactic(auto, using(council_game::proofs::Shared::Lists::filter_one_more))]
 pub fn filters_take_one_more()
     ensures { (test : ℕ → Bool) (n : ℕ) → filter test (range_with_len 0 (n + 1))
         ≡ filter test (range_with_len 0 n) ++ (if test n then n ∷ [] else []) }
 {}
 
-/// Fractions with bottoms above 0 are ordered as their lowest terms are. So `Index::compare` orders the indices
-/// as they are defined.
+/// Fractions with bottoms above 0 are ordered as their lowest terms are. So `Index::compare` orders
+/// the indices as they are defined.
 #[tactic(auto, using(crate::proofs::Ordered::lowest_terms_ordered))]
 pub fn lowest_terms_keep_order()
     ensures { (p q : ℕ × ℕ) → 0 < p.1 → 0 < q.1 →
         fraction_cmp (lowest_terms p) (lowest_terms q) ≡ fraction_cmp p q }
 {}
 
-/// Fractions with bottoms above 0 have the same lowest terms exactly where they are the same number.
+/// Fractions with bottoms above 0 have the same lowest terms exactly where they are the same
+/// number.
 #[tactic(auto, using(crate::proofs::Ordered::apart))]
 pub fn lowest_terms_tell_fractions_apart()
     ensures { (p q : ℕ × ℕ) → 0 < p.1 → 0 < q.1 →
@@ -96,8 +97,8 @@ pub fn fractions_are_ordered()
         → p.0 * r.1 < r.0 * p.1 }
 {}
 
-/// The indices of a game's members in lowest terms, as the calls give them, add up to 1, of each kind: over
-/// each list of coalitions that are not empty, if there is one in it.
+/// The indices of a game's members in lowest terms, as the calls give them, add up to 1, of each
+/// kind: over each list of coalitions that are not empty, if there is one in it.
 #[tactic(auto, using(crate::proofs::LowestTermsAddUp::sums))]
 pub fn lowest_terms_add_up()
     ensures deegan_packel { (g : GameView) (list : List ℕ) → IsGame g → 0 < length list

@@ -1,5 +1,5 @@
-//! Further calls on games, for callers: members by their places in the file, coalitions by names, critical
-//! members, games from slices or at another quota, and a count by a walk.
+//! Further calls on games, for callers: members by their places in the file, coalitions by names,
+//! critical members, games from slices or at another quota, and a count by a walk.
 //!
 //! ```text
 //! let game = game_from_slices(alloc, &["Ada", "Bo"], &[2, 1], 2)?;

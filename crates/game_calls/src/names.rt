@@ -39,7 +39,8 @@ fn coalition_of_names(game: &Game, names: &[&str]) -> Coalition
     coalition
 }
 
-/// The coalition of the members with these names, in any order; a member that is named twice is in once.
+/// The coalition of the members with these names, in any order; a member that is named twice is in
+/// once.
 ///
 /// # Errors
 ///

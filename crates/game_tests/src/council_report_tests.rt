@@ -300,8 +300,8 @@ impl Write for Narrow {
     }
 }
 
-/// A block is 64 KiB: these writers fail in the first, the second and a later one. What was refused is
-/// not tried again, and nothing is flushed then; a whole report is flushed once.
+/// A block is 64 KiB: these writers fail in the first, the second and a later one. What was refused
+/// is not tried again, and nothing is flushed then; a whole report is flushed once.
 #[test]
 fn tells_what_a_writer_took_of_many_blocks(rt: HostRuntime) {
     let alloc = rt.alloc();

@@ -1,5 +1,5 @@
-//! Counts by sums, by halves, of chambers, in part and by kinds, each once. That games of all kinds are
-//! counted right, `tests/random_games.py` and `tests/tally.sh` show through the program.
+//! Counts by sums, by halves, of chambers, in part and by kinds, each once. That games of all kinds
+//! are counted right, `tests/random_games.py` and `tests/tally.sh` show through the program.
 mod kinds;
 pub(crate) mod refusals;
 

@@ -1,4 +1,5 @@
--- The words of other libraries and of the definitions that two or more files of these proofs take; `tools/imports.py` writes them.
+-- The words of other libraries and of the definitions that two or more files of these proofs take;
+-- `tools/imports.py` writes them.
 pub use Rattle.council_base.proofs.Shared.Lists.{filter-both, get_or-zeros, sum-plus, sum-zero}
 pub use Rattle.council_base.proofs.Shared.Ranges.{sum_by-range-more}
 pub use Rattle.council_game.proofs.Shared.{Making.RanksAre, Making.ranks-are, Weights.weight-without, WinningByPlaces.rule-is}

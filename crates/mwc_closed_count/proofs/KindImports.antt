@@ -1,4 +1,5 @@
--- The words of other libraries and of the definitions that two or more files of these proofs take; `tools/imports.py` writes them.
+-- The words of other libraries and of the definitions that two or more files of these proofs take;
+-- `tools/imports.py` writes them.
 pub use Rattle.std.proofs.Common.{All, Bool, List, [], ap, arith, cond, eqb, eqb-true, false, filter, get_or, inl, inr, leb, length, ltb, map}
 pub use Rattle.std.proofs.Common.{not, refl, subst, suc, sum, sum_by, sym, take, true, zero, pow_pos, ℕ, ◌&&◌, ◌*◌, ◌++◌, ◌+◌, ◌-◌}
 pub use Rattle.std.proofs.Common.{◌/◌, ◌%◌, ◌<◌, ◌==◌, ◌^◌, ◌||◌, ◌↔◌, ◌∙◌, ◌∷◌, ◌≡◌, ◌≤◌, ◌⊎◌}

@@ -1,8 +1,8 @@
 //! Choices of how many members of each kind.
 //!
-//! A choice has a number: each of its members adds the stride of its kind, which is how many choices
-//! there are of the kinds before. So each kind has a digit of the number, which says how many of its
-//! members are chosen.
+//! A choice has a number: each of its members adds the stride of its kind, which is how many
+//! choices there are of the kinds before. So each kind has a digit of the number, which says how
+//! many of its members are chosen.
 ghost use Rattle.council_base.specs.declared.limits.TheConstants.{MEMBERS};
 ghost use Rattle.council_game.specs.Game.{votes_of};
 ghost use Rattle.mwc_closed_count.specs.Inner.Choices.{AreKindsOf, choice_is_minimal, choice_size, choice_weight, choice_wins, kind_at, minimal_size, taken};

@@ -14,9 +14,9 @@
 //! ```
 //!
 //! `subset_counts` counts what members with some weights lead to; this crate says for which games
-//! that is the answer. `count_by_kinds` counts a game whose members are of few kinds, under any rules:
-//! members of one kind have the same weight under every rule, and whether a coalition is minimal
-//! depends only on how many members of each kind it has.
+//! that is the answer. `count_by_kinds` counts a game whose members are of few kinds, under any
+//! rules: members of one kind have the same weight under every rule, and whether a coalition is
+//! minimal depends only on how many members of each kind it has.
 #![tactic(auto)]
 
 mod chamber;

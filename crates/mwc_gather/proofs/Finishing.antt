@@ -21,8 +21,8 @@ noted_after start met after whys w e f = f ∙ ap (λ (m : Option GatherFault). 
 pub memory_ends : (g : Slicing) (most : ℕ) (d : WorkerHandle) → CanEndWith g most d (Some Memory)
 memory_ends g most d = (λ e. cc, λ e. refl, λ e. absurd cc)
 
--- some of the workers have ended, and the rest are still to be joined: what was met follows from their answers, and where nothing was met
--- all of them are parts
+-- some of the workers have ended, and the rest are still to be joined: what was met follows from
+-- their answers, and where nothing was met all of them are parts
 pub record Finishing (g : Slicing) (most : ℕ) (start : Option GatherFault) (handles rest : List WorkerHandle) (met : Option GatherFault) (parts : List Part) : Type 0 where
   pub all_of : AllOf g most rest
   pub within : All (λ (d : WorkerHandle). coalition_count g d.given.items ≤ all_total g) rest

@@ -8,9 +8,10 @@ use Rattle.mwc_gather.specs.Parts.{HasPieces, part_slices}
 use Rattle.mwc_gather.specs.declared.part.Part.{Part}
 use Rattle.mwc_gather.specs.declared.gathered.Gathered.{Gathered}
 
--- what is answered: a part for each worker; in each part the slices ascend, and each piece is the slice of its number;
--- worker w begins with slice w; and all slices in their order are the minimal winning coalitions, of which there are
--- at most `most`. That each slice stands in the parts once is said of all that is gathered, by its type.
+-- what is answered: a part for each worker; in each part the slices ascend, and each piece is the
+-- slice of its number; worker w begins with slice w; and all slices in their order are the minimal
+-- winning coalitions, of which there are at most `most`. That each slice stands in the parts once
+-- is said of all that is gathered, by its type.
 pub record Gathers (v : Votes) (bits workers most : ℕ) (r : Gathered) : Type 0 where
   pub a_part_each : length r.parts.items ≡ workers
   pub slices : r.slices ≡ 2 ^ bits

@@ -9,12 +9,13 @@ use Rattle.mwc_pipe.specs.declared.closed.Unfinished.{Unfinished}
 use Rattle.mwc_gather.specs.declared.sent.Sent.{Sent}
 use Rattle.mwc_gather.specs.declared.sent.Sent.TheVariants as sent
 
--- the words of slice j, where it has fewer than `left` coalitions; else those up to coalition number `left`
+-- the words of slice j, where it has fewer than `left` coalitions; else those up to coalition
+-- number `left`
 unfoldable pub sending : Slicing → ℕ → ℕ → List Word
 sending g j left = if nat_lt (length (g.slice j)) left then slice_words g j else cut_words g j left
 
--- what a pipe accepted in the sending of slice j: the whole slice, or the slice up to the cut; or the pipe is broken, and
--- it is a beginning of that sending
+-- what a pipe accepted in the sending of slice j: the whole slice, or the slice up to the cut; or
+-- the pipe is broken, and it is a beginning of that sending
 abbrev pub Sends : Slicing → ℕ → ℕ → List Word → List Word → Bool → Sent → Type 0
 Sends g j left before after broken (sent.Whole rest) =
     (after ≡ before ++ slice_words g j) × (length (g.slice j) < left) × (rest + length (g.slice j) ≡ left)
@@ -28,7 +29,8 @@ BreaksOnlyIfRefused before after (sent.Whole rest) = after ≡ before
 BreaksOnlyIfRefused before after sent.Cut = after ≡ before
 BreaksOnlyIfRefused before after sent.Refused = ⊤
 
--- what the closed end of a worker tells: a whole or a cut sending of the slices that its tasks gave, and both ends are of its rings
+-- what the closed end of a worker tells: a whole or a cut sending of the slices that its tasks
+-- gave, and both ends are of its rings
 abbrev pub HasWorked : Slicing → ℕ → RingInView → RingOutView → Result ClosedView Unfinished × RingOutView → Type 0
 HasWorked g most out tasks (Ok c, t) =
     (t.ring ≡ tasks.ring) × (c.ring ≡ out.ring) × (IsWholeSending g most t.taken c.accepted ⊎ IsCutSending g most t.taken c.accepted)

@@ -10,7 +10,8 @@ module _ {T : Type 0} where
   put_refused [] = []
   put_refused (x ∷ xs) = (Put x, Full) ∷ []
 
-  -- what a call that puts the first n of a row stands for: n puts accepted, and where it stops short, one more that is answered Full
+  -- what a call that puts the first n of a row stands for: n puts accepted, and where it stops
+  -- short, one more that is answered Full
   abbrev pub puts_of : List T → ℕ → List (Event T)
   puts_of row n = map (λ x. (Put x, Accepted)) (take n row) ++ put_refused (drop n row)
 
@@ -18,8 +19,8 @@ module _ {T : Type 0} where
   abbrev pub take_refused : Bool → List (Event T)
   take_refused short = if short then (Take, Empty) ∷ [] else []
 
-  -- what a call that takes these items stands for: as many takes answered by an item, and where it stops short, one more that is answered
-  -- Empty
+  -- what a call that takes these items stands for: as many takes answered by an item, and where it
+  -- stops short, one more that is answered Empty
   abbrev pub takes_of : List T → Bool → List (Event T)
   takes_of items short = map (λ x. (Take, Item x)) items ++ take_refused short
 
@@ -27,14 +28,16 @@ module _ {T : Type 0} where
   abbrev pub AreAnswered : ℕ → List (Event T) → List (Event T) → Type 0
   AreAnswered capacity past events = history_after capacity past (map (λ event. event.0) events) ≡ past ++ events
 
-  -- a past that the end of a ring that items are put into can have seen: these were accepted, and `gone` of them were taken
+  -- a past that the end of a ring that items are put into can have seen: these were accepted, and
+  -- `gone` of them were taken
   pub record IsSeenByIn (accepted : List T) (gone : ℕ) (past : List (Event T)) : Type 0 where
     pub came : items_in past ≡ accepted
     pub went : length (items_out past) ≡ gone
     pub few : gone ≤ length accepted
     pub unclosed : has_close past ≡ false
 
-  -- a past that the end of a ring that items are taken from can have seen: these came, and these of them were taken
+  -- a past that the end of a ring that items are taken from can have seen: these came, and these of
+  -- them were taken
   pub record IsSeenByOut (given taken : List T) (past : List (Event T)) : Type 0 where
     pub came : items_in past ≡ given
     pub went : items_out past ≡ taken

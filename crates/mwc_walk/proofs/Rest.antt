@@ -1,4 +1,5 @@
--- The numbers below a bound, descending, filtered, and what is left of a slice at a place of the walk.
+-- The numbers below a bound, descending, filtered, and what is left of a slice at a place of the
+-- walk.
 use Rattle.mwc_walk.proofs.Imports.{mul-le, and_left, eq-eqb, cond-true, false_from_ne_true, both_ways, bit_at_cat_low, Votes, IsVotes, has}
 use Rattle.mwc_walk.proofs.Imports.{pow-add, slice_below, reaches, wins_at, NothingBelow, lowest-place, w64, trailing_zeros, eqb-true, refl}
 use Rattle.mwc_walk.proofs.Imports.{without, minimal, minimal_coalitions, minimal_below, needs-each-member, slice, in_slice, ◌-◌, ◌%◌, ap}

@@ -1,4 +1,5 @@
--- What a rule's places weigh at a prefix x of p places, and the lanes of the walk, which stand for the rules there.
+-- What a rule's places weigh at a prefix x of p places, and the lanes of the walk, which stand for
+-- the rules there.
 use Rattle.mwc_walk.proofs.Imports.{weight-le, reaches, wins_at, Lane, length-drop, Bool, true, List, [], ◌∷◌, refl, ℕ, ◌+◌, ◌-◌, ◌*◌, ◌/◌}
 use Rattle.mwc_walk.proofs.Imports.{drop_all, RuleView, leb, sum_by-take-drop, has-none, lane_at, subst, ◌≡◌, weight, wins, rule_at, ◌%◌}
 use Rattle.mwc_walk.proofs.Imports.{ap, get_or, sum, arith, zero, suc, length, sym, ◌∙◌, AllByRecursion, list_all, le-leb, common_steps}

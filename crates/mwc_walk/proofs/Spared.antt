@@ -42,7 +42,8 @@ module _ {v : Votes} {p x rest : ℕ} {es : List ℕ} (tried : Tried v p x es re
   pub tried-all : rest ≡ 0 → NoneSpared v p x es
   tried-all none = λ q below in'. tried.kept q below in' (ap (has v.members q) none ∙ has-none v.members q)
 
-  -- a rule that passes its quota by less than the lightest member weighs spares only who weighs nothing
+  -- a rule that passes its quota by less than the lightest member weighs spares only who weighs
+  -- nothing
   pub tried-weightless : (i : ℕ) (l : Lane) → i < length v.rules → p ≤ v.members → LaneIs v.members (rule_at v.rules i) l
       → get_or es i 0 < get_or l.lightest (p - 1) 0 → Tried v p x es (bit_and rest l.weightless)
   tried-weightless i l below le is less =
@@ -89,7 +90,8 @@ module _ {v : Votes} {a : Cursor} (is : CursorIs v a) where
       omega (arith, comes c prefix won, most, (lane-here is i below).rest a.place is.place.to))
 
   -- ---- who can be spared
-  -- a member whom each rule can spare, by what each coalition below has beyond the quotas, is needed in none of them
+  -- a member whom each rule can spare, by what each coalition below has beyond the quotas, is
+  -- needed in none of them
   pub spared-nothing : (q : ℕ) (es : List ℕ) → q < v.members → has v.members q (a.prefix * 2 ^ (v.members - a.place)) ≡ true
       → CanSpare v es q → AreExcesses v a.place a.prefix es → NothingBelow v a.place a.prefix
   spared-nothing q es below in' spare excess =

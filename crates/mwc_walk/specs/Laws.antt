@@ -5,7 +5,8 @@ use Rattle.council_base.specs.declared.limits.TheConstants.{BITS}
 use Rattle.council_game.specs.Votes.{Votes, minimal_coalitions}
 use Rattle.mwc_walk.specs.Slices.{slice}
 
--- at up to 10 bits, and no more than members, the slices 0, 1, .., joined are the minimal winning coalitions
+-- at up to 10 bits, and no more than members, the slices 0, 1, .., joined are the minimal winning
+-- coalitions
 abbrev pub SlicesMakeTheWhole : Votes → Type 0
 SlicesMakeTheWhole v = (k : ℕ) → k ≤ BITS → k ≤ v.members →
     flat_map (slice v k) (range_with_len 0 (2 ^ k)) ≡ minimal_coalitions v

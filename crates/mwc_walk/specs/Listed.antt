@@ -3,7 +3,8 @@ use Rattle.std.specs.Prelude.{◌≡◌, ℕ, ◌≤◌, List, length}
 use Rattle.council_game.specs.Votes.{minimal_coalitions}
 use Rattle.council_game.specs.Game.{GameView, AreNonemptyCoalitions, votes_of}
 
--- the list is all of them: there is one, there are at most `most`, and each is a coalition of the game that is not empty
+-- the list is all of them: there is one, there are at most `most`, and each is a coalition of the
+-- game that is not empty
 pub record ListsAll (g : GameView) (most : ℕ) (list : List ℕ) : Type 0 where
   pub all : list ≡ minimal_coalitions (votes_of g)
   pub some : 1 ≤ length list

@@ -4,8 +4,8 @@ use Rattle.mwc_walk.specs.declared.seek.Seek.{Seek}
 use Rattle.mwc_walk.specs.declared.seek.Seek.TheVariants.{Found, End, NotYet}
 use Rattle.mwc_walk.specs.WalkView.{WalkView, given}
 
--- a walk is asked for the next coalition within n visits: it is given; or none is left; or there were n visits more, and
--- the same was given and is to come
+-- a walk is asked for the next coalition within n visits: it is given; or none is left; or there
+-- were n visits more, and the same was given and is to come
 abbrev pub Seeks : ℕ → WalkView → Seek → WalkView → Type 0
 Seeks n a (Found c) b = (a.to_come ≡ c ∷ b.to_come) × (given b ≡ given a ++ c ∷ [])
 Seeks n a End b = (a.to_come ≡ []) × (b.to_come ≡ []) × (given b ≡ given a)

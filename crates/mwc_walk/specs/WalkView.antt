@@ -3,7 +3,8 @@ use Rattle.std.specs.Prelude.{ℕ, ◌-◌, List, length, take}
 use Rattle.council_game.specs.Votes.{Votes}
 use Rattle.mwc_walk.specs.Slices.{slice}
 
--- the votes of the game, the bits and the number of the slice, the coalitions that are still to come, and the count of visits
+-- the votes of the game, the bits and the number of the slice, the coalitions that are still to
+-- come, and the count of visits
 pub record WalkView : Type 0 where
   pub votes : Votes
   pub bits : ℕ

@@ -87,7 +87,8 @@ impl Cursor {
 
     /// Steps to the next coalition of the slice, or to its end.
     ///
-    /// Under several rules the first steps do without the prices; `prices` keeps them after they were needed once.
+    /// Under several rules the first steps do without the prices; `prices` keeps them after they
+    /// were needed once.
     pub(crate) fn find(&mut self, game: &Game, prices: &mut Option<PriceTable>) -> Step
         requires is { CursorIs (votes_of game.now) self.old }
         requires prices { IfSome prices.old (ArePrices (votes_of game.now)) }
@@ -108,7 +109,8 @@ impl Cursor {
         self.next(game, prices.as_ref())
     }
 
-    /// Does as `find`, but stops after `visits` more visits. Under one rule it never stops before a coalition or the end.
+    /// Does as `find`, but stops after `visits` more visits. Under one rule it never stops before a
+    /// coalition or the end.
     pub(crate) fn seek(&mut self, game: &Game, prices: &mut Option<PriceTable>, visits: u64) -> Step
         requires is { CursorIs (votes_of game.now) self.old }
         requires prices { IfSome prices.old (ArePrices (votes_of game.now)) }
@@ -135,7 +137,8 @@ impl Cursor {
         self.up_to(game, prices.as_ref(), most)
     }
 
-    /// Finds the prices of the game. Kept out of line: inlined, so large a value would cost stack on every call.
+    /// Finds the prices of the game. Kept out of line: inlined, so large a value would cost stack
+    /// on every call.
     #[cold]
     #[inline(never)]
     fn find_prices(&self, game: &Game, prices: &mut Option<PriceTable>)
@@ -145,8 +148,8 @@ impl Cursor {
         *prices = Some(PriceTable::new(game, &self.lanes));
     }
 
-    /// Returns the number of visits after `more` of them; none if nothing is to stop the walk, because there is one
-    /// rule or because the count cannot hold so many.
+    /// Returns the number of visits after `more` of them; none if nothing is to stop the walk,
+    /// because there is one rule or because the count cannot hold so many.
     fn most_visits(&self, more: u64) -> Option<u64>
         ensures { MatchOption result (self.now.rules ≢ 1 → 2 ^ 64 ≤ self.now.visits + more)
             (λ most. (self.now.rules ≢ 1) × (most ≡ self.now.visits + more)) }
@@ -157,7 +160,8 @@ impl Cursor {
         self.visits.checked_add(more)
     }
 
-    /// Makes at most `steps` steps towards the next coalition of the slice or its end, without the prices.
+    /// Makes at most `steps` steps towards the next coalition of the slice or its end, without the
+    /// prices.
     fn some_steps(&mut self, game: &Game, steps: u64) -> Step
         requires { CursorIs (votes_of game.now) self.old }
         ensures steps { SomeSteps (votes_of game.now) self.old result self.new }
@@ -205,7 +209,8 @@ impl Cursor {
         }
     }
 
-    /// Makes one step, and at most one visit. Inlined into each loop: a call per step would double the time of a walk.
+    /// Makes one step, and at most one visit. Inlined into each loop: a call per step would double
+    /// the time of a walk.
     #[inline(always)]
     fn step(&mut self, game: &Game, prices: Option<&PriceTable>) -> Step
         requires is { CursorIs (votes_of game.now) self.old }
@@ -220,8 +225,8 @@ impl Cursor {
         }
     }
 
-    /// Examines a fresh prefix: passes by it if no coalition below is minimal or some quota cannot be met any more,
-    /// takes in the next member if it does not win yet, and gives it if it wins.
+    /// Examines a fresh prefix: passes by it if no coalition below is minimal or some quota cannot
+    /// be met any more, takes in the next member if it does not win yet, and gives it if it wins.
     #[inline(always)]
     fn enter(&mut self, game: &Game, prices: Option<&PriceTable>) -> Step
         requires is { CursorIs (votes_of game.now) self.old }
@@ -266,8 +271,9 @@ impl Cursor {
         all_win(&self.lanes[..self.rules])
     }
 
-    /// Whether the prefix is passed by, because no coalition below it is minimal: it has a member that each rule can
-    /// spare, or the prices say so. A winning prefix that is not passed by is minimal.
+    /// Whether the prefix is passed by, because no coalition below it is minimal: it has a member
+    /// that each rule can spare, or the prices say so. A winning prefix that is not passed by is
+    /// minimal.
     #[inline(always)]
     fn passes_by(&self, game: &Game, prices: Option<&PriceTable>) -> bool
         requires is { CursorIs (votes_of game.now) self.now }
@@ -289,9 +295,9 @@ impl Cursor {
         }
     }
 
-    /// Whether the prefix has a member that each rule can spare, here and so in each coalition below. Sought only at
-    /// the fixed places and after a member was taken in. With one rule not after that either: the last member is the
-    /// lightest, and was needed.
+    /// Whether the prefix has a member that each rule can spare, here and so in each coalition
+    /// below. Sought only at the fixed places and after a member was taken in. With one rule not
+    /// after that either: the last member is the lightest, and was needed.
     #[inline(always)]
     fn spares_one(&self, game: &Game) -> bool
         requires { CursorIs (votes_of game.now) self.now }
@@ -309,8 +315,9 @@ impl Cursor {
         self.has_spared(game, &self.excess(game))
     }
 
-    /// Returns by how much the prefix passes each rule's quota; 0 if it does not. All four at once: a loop
-    /// over the rules would write the array number by number, and a copy that reads it at once waits for that.
+    /// Returns by how much the prefix passes each rule's quota; 0 if it does not. All four at once:
+    /// a loop over the rules would write the array number by number, and a copy that reads it at
+    /// once waits for that.
     #[inline(always)]
     fn excess(&self, game: &Game) -> [u64; limits::RULES]
         requires { CursorIs (votes_of game.now) self.now }
@@ -324,8 +331,8 @@ impl Cursor {
         ]
     }
 
-    /// Whether the prices show that no coalition below is minimal: some rule needs more than can still come, or
-    /// what must come lets each rule pass its quota by enough to spare a member.
+    /// Whether the prices show that no coalition below is minimal: some rule needs more than can
+    /// still come, or what must come lets each rule pass its quota by enough to spare a member.
     #[inline(never)]
     fn prunes(&self, game: &Game, prices: &PriceTable) -> bool
         requires is { CursorIs (votes_of game.now) self.now }
@@ -344,8 +351,8 @@ impl Cursor {
         self.has_spared(game, &excess)
     }
 
-    /// Returns what each winning coalition below gets under a rule from the places to come, at least: what the
-    /// rule lacks, and what comes with the needs of the other rules.
+    /// Returns what each winning coalition below gets under a rule from the places to come, at
+    /// least: what the rule lacks, and what comes with the needs of the other rules.
     fn need(&self, game: &Game, prices: &PriceTable, rule: usize) -> u64
         requires is { CursorIs (votes_of game.now) self.now }
         requires prices { ArePrices (votes_of game.now) prices.now }
@@ -379,7 +386,8 @@ impl Cursor {
         prices.by[rule][other].from[self.place].of(self.lanes[other].lacks())
     }
 
-    /// Whether the prefix has a member that each rule can spare if it passes its quota by its `excess`.
+    /// Whether the prefix has a member that each rule can spare if it passes its quota by its
+    /// `excess`.
     #[inline(always)]
     fn has_spared(&self, game: &Game, excess: &[u64; limits::RULES]) -> bool
         requires { CursorIs (votes_of game.now) self.now }
@@ -392,7 +400,8 @@ impl Cursor {
         few != 0 && self.spares_any(game, excess, few)
     }
 
-    /// Whether each rule can spare one of a few members. Kept out of line, since there are seldom any.
+    /// Whether each rule can spare one of a few members. Kept out of line, since there are seldom
+    /// any.
     #[inline(never)]
     fn spares_any(&self, game: &Game, excess: &[u64; limits::RULES], few: u64) -> bool
         requires is { CursorIs (votes_of game.now) self.now }
@@ -426,8 +435,8 @@ impl Cursor {
         self.members - 1 - rest.trailing_zeros() as usize
     }
 
-    /// Returns those members of the prefix that each rule may spare: a rule that passes its quota by less than the
-    /// lightest member weighs can spare only members without weight.
+    /// Returns those members of the prefix that each rule may spare: a rule that passes its quota
+    /// by less than the lightest member weighs can spare only members without weight.
     #[inline(always)]
     fn may_be_spared(&self, game: &Game, excess: &[u64; limits::RULES]) -> u64
         requires { CursorIs (votes_of game.now) self.now }

@@ -18,7 +18,8 @@ pub(crate) struct Lane {
     pub(crate) sum: u64,
     /// The rank mask of the members without weight.
     pub(crate) weightless: u64,
-    /// For each place the least weight but 0 up to it; the greatest number if none there has weight.
+    /// For each place the least weight but 0 up to it; the greatest number if none there has
+    /// weight.
     pub(crate) lightest: [u64; limits::MEMBERS],
     /// The weights, in rank order.
     pub(crate) weights: [u64; limits::MEMBERS],
@@ -78,7 +79,8 @@ impl Lane {
     }
 }
 
-/// Returns the lane of each rule, with the members of a coalition in; copies of the first after them.
+/// Returns the lane of each rule, with the members of a coalition in; copies of the first after
+/// them.
 pub(crate) fn lanes_of(game: &Game, fixed: Coalition) -> [Lane; limits::RULES]
     ensures long { length result ≡ RULES }
     ensures lanes { LanesStand (votes_of game.now) result }

@@ -16,8 +16,8 @@ pub fn slice_count(bits: u8) -> u16
     1 << bits
 }
 
-/// Returns the first `most` coalitions of slice `j` at `bits` bits, in listing order, or all of them
-/// if there are no more.
+/// Returns the first `most` coalitions of slice `j` at `bits` bits, in listing order, or all of
+/// them if there are no more.
 ///
 /// There are at most 10 bits, and no more than members; `j` is below 2^bits.
 ///
@@ -40,7 +40,8 @@ pub fn list_slice(
     list_next(alloc, &mut walk, most)
 }
 
-/// Returns the next `most` coalitions of a walk, or all that are still to come if there are no more.
+/// Returns the next `most` coalitions of a walk, or all that are still to come if there are no
+/// more.
 pub(crate) fn list_next(
     alloc: Global,
     walk: &mut Walk<'_>,

@@ -45,12 +45,12 @@ impl<'a> Model for Walk<'a> {
 impl<'a> Walk<'a> {
     /// Returns the walk over slice `j` of a game at `bits` bits, with the whole slice to come.
     ///
-    /// The slice has the minimal winning coalitions whose first `bits` places are those of the number
-    /// 2^bits - 1 - j. There are at most 10 bits, and no more than members; `j` is below 2^bits. The
-    /// check of each fixed place is a visit.
+    /// The slice has the minimal winning coalitions whose first `bits` places are those of the
+    /// number 2^bits - 1 - j. There are at most 10 bits, and no more than members; `j` is below
+    /// 2^bits. The check of each fixed place is a visit.
     ///
-    /// Listing order goes by rank place and not by weight: a coalition that comes first has members of
-    /// lower rank places, and may weigh less than one that comes later.
+    /// Listing order goes by rank place and not by weight: a coalition that comes first has members
+    /// of lower rank places, and may weigh less than one that comes later.
     pub fn new(game: &'a Game, bits: u8, j: u16) -> Walk<'a>
         requires few { bits ≤ BITS }
         requires bits { bits ≤ length game.now.names }
@@ -92,10 +92,12 @@ impl<'a> Walk<'a> {
         }
     }
 
-    /// Seeks the next coalition of the slice as `next` does, but makes at most `visits` visits, 1 or more.
+    /// Seeks the next coalition of the slice as `next` does, but makes at most `visits` visits, 1
+    /// or more.
     ///
-    /// After these it answers `NotYet`, with nothing else changed, and goes on when you call it again. It never answers
-    /// `NotYet` under one rule, where the next coalition is near, or if the count of visits could not hold that many more.
+    /// After these it answers `NotYet`, with nothing else changed, and goes on when you call it
+    /// again. It never answers `NotYet` under one rule, where the next coalition is near, or if the
+    /// count of visits could not hold that many more.
     #[tactic(auto, unfolding(crate::specs::Seeks::seeks_left))]
     pub fn seek(&mut self, visits: u64) -> Seek
         requires { 0 < visits }
@@ -118,12 +120,13 @@ impl<'a> Walk<'a> {
 
     /// Returns how many visits there were.
     ///
-    /// Each fixed place is visited once, when it is checked, and a later place each time that the walk
-    /// comes to it from above to decide whether its member is in; the decision to leave the member out
-    /// after all belongs to that visit. The count stops at the greatest number that it can hold.
+    /// Each fixed place is visited once, when it is checked, and a later place each time that the
+    /// walk comes to it from above to decide whether its member is in; the decision to leave the
+    /// member out after all belongs to that visit. The count stops at the greatest number that it
+    /// can hold.
     ///
-    /// It is never below the number of coalitions given. With one rule it is at most `bits` plus, for
-    /// each coalition given, the number of places that are not fixed.
+    /// It is never below the number of coalitions given. With one rule it is at most `bits` plus,
+    /// for each coalition given, the number of places that are not fixed.
     pub fn visits(&self) -> u64
         ensures count { result ≡ self.now.visits }
         ensures rest { self.now.to_come ≡

@@ -1,4 +1,5 @@
--- The words of other libraries and of the definitions that two or more files of these proofs take; `tools/imports.py` writes them.
+-- The words of other libraries and of the definitions that two or more files of these proofs take;
+-- `tools/imports.py` writes them.
 pub use Rattle.council_base.proofs.Shared.{Digits.lowest-place, Lists.sum-swap}
 pub use Rattle.council_base.specs.SizeCounts.{AreAdded}
 pub use Rattle.council_game.proofs.Shared.{Games.votes-are, Making.ranks-are}

@@ -198,8 +198,9 @@ fn worked() -> [(&'static [u8], Options, &'static [u8]); 8] {
     ]
 }
 
-/// A writer that looks whether the bytes that it takes are those that it awaits, and takes no memory:
-/// all of each write or, with a number to begin with, a part whose length is drawn anew each time.
+/// A writer that looks whether the bytes that it takes are those that it awaits, and takes no
+/// memory: all of each write or, with a number to begin with, a part whose length is drawn anew
+/// each time.
 #[derive(Drop)]
 struct Awaiting<'a> {
     awaited: &'a [u8],
@@ -523,7 +524,8 @@ fn each_slice_passes_once(rt: HostRuntime) {
     }
 }
 
-/// A gate that holds each of two workers until the other has come, for a hundred million turns at most.
+/// A gate that holds each of two workers until the other has come, for a hundred million turns at
+/// most.
 #[derive(Drop)]
 struct Meeting {
     here: [AtomicU64; 2],

@@ -1,4 +1,5 @@
--- The words of other libraries and of the definitions that two or more files of these proofs take; `tools/imports.py` writes them.
+-- The words of other libraries and of the definitions that two or more files of these proofs take;
+-- `tools/imports.py` writes them.
 pub use Rattle.council_base.proofs.Shared.Lists.{get_or-zeros, sum-zero}
 pub use Rattle.std.proofs.Common.{replicate, set, suc, sum, sum_by, take, true, zero, ℕ, ◌%◌, ◌*◌, ◌++◌, ◌+◌, ◌-◌, ◌/◌, ◌<◌, ◌^◌, ◌∙◌, ◌∷◌}
 pub use Rattle.std.proofs.Common.{All, Bool, List, [], ap, arith, cond, drop, eqb, false, get_or, get_or-set_other, get_or-set_same, leb}

@@ -39,7 +39,8 @@ pub put-more : (s a vs : List ℕ) (r : ℕ) → r < length vs → 0 < r
     → ((a ++ joined_numbers s (take r vs)) ++ s) ++ decimal (get_or vs r 0) ≡ a ++ joined_numbers s (take (r + 1) vs)
 put-more s a vs r below some = grind (arith, append_assoc, numbers-more)
 
--- the first numbers and a further one are no longer than all of them, with the separator and without
+-- the first numbers and a further one are no longer than all of them, with the separator and
+-- without
 pub more-within : (s vs : List ℕ) (r : ℕ) → r < length vs → 0 < r
     → length (joined_numbers s (take r vs)) + length s + length (decimal (get_or vs r 0)) ≤ length (joined_numbers s vs)
 more-within s [] r below some = absurd (omega arith)

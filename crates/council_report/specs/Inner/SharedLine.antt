@@ -49,8 +49,8 @@ pub record IsSubtotal (g : GameView) (places : List ℕ) (subtotal : Subtotal) :
   pub long : length subtotal.weights ≡ RULES
   pub weights : (r : ℕ) → r < RULES → slice_index subtotal.weights r ≡ weight_of_places g r places
 
--- The line of its coalition up to the place where it ends: the names of the members of the places before, and a subtotal
--- for each of these places.
+-- The line of its coalition up to the place where it ends: the names of the members of the places
+-- before, and a subtotal for each of these places.
 pub record IsLine (g : GameView) (line : SharedLine) : Type 0 where
   pub game : IsGame g
   pub few : length g.names ≤ MEMBERS

@@ -11,7 +11,8 @@ pub record KeepsReady (before : Progress) (contents : Option (List ℕ)) (block 
   pub tells : Advances before (progress_of contents block) text
   pub ready : IsReady block
 
--- What a writer and a block hold before and after a call that tells a text: it lasts, or writing stopped in the text.
+-- What a writer and a block hold before and after a call that tells a text: it lasts, or writing
+-- stopped in the text.
 abbrev pub WritesText : List ℕ → Option (List ℕ) → Block → Option (List ℕ) → Block
     → Result (Unit {0}) WriteFault → Type 0
 WritesText text held old now new (Ok _) = KeepsReady (progress_of held old) now new text

@@ -2,8 +2,8 @@
 use super::*;
 use crate::helpers::KINDS;
 
-/// Gives bytes, at most `at_once` at once. One read may fail: it is the only one, and those after it
-/// would go on. The reader counts the reads, and those after the failure or the end.
+/// Gives bytes, at most `at_once` at once. One read may fail: it is the only one, and those after
+/// it would go on. The reader counts the reads, and those after the failure or the end.
 #[derive(Drop)]
 struct Asked<'a> {
     left: &'a [u8],
@@ -79,8 +79,8 @@ fn a_failed_read_is_not_tried_again(rt: HostRuntime) {
     }
 }
 
-/// At most one read for each 4,096 bytes or part of them, and one that finds the end; of single bytes
-/// one for each byte and one that finds the end. None after the end.
+/// At most one read for each 4,096 bytes or part of them, and one that finds the end; of single
+/// bytes one for each byte and one that finds the end. None after the end.
 #[test]
 fn reads_as_seldom_as_it_can(rt: HostRuntime) {
     let alloc = rt.alloc();

@@ -1,5 +1,5 @@
-//! The calls that take memory. `tests/call_allocations.sh` refuses the allocations between the line `call` and
-//! the line of the answer, one after the other.
+//! The calls that take memory. `tests/call_allocations.sh` refuses the allocations between the line
+//! `call` and the line of the answer, one after the other.
 use super::*;
 use crate::helpers::print_line;
 use council_game::{push_decimal, push_joined};

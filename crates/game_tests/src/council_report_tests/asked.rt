@@ -2,9 +2,10 @@
 use super::*;
 use crate::helpers::KINDS;
 
-/// A writer that takes all that it is given, at most `step` bytes a call. Its first write may fail, or its
-/// first flush, and those after it would succeed. It counts the writes, those of no byte, those of less than
-/// 60 KiB which another follows, the flushes, and the calls after the first failure or flush.
+/// A writer that takes all that it is given, at most `step` bytes a call. Its first write may fail,
+/// or its first flush, and those after it would succeed. It counts the writes, those of no byte,
+/// those of less than 60 KiB which another follows, the flushes, and the calls after the first
+/// failure or flush.
 #[derive(Drop)]
 pub(super) struct Asked {
     step: usize,
@@ -83,7 +84,8 @@ impl Write for Asked {
     }
 }
 
-/// A report goes out in blocks of at least 60 KiB and a last one, none of them empty, and is flushed once.
+/// A report goes out in blocks of at least 60 KiB and a last one, none of them empty, and is
+/// flushed once.
 #[test]
 fn writes_in_blocks_and_flushes_once(rt: HostRuntime) {
     let alloc = rt.alloc();

@@ -1,6 +1,6 @@
 //! The calls that take memory, by sums, by halves, by chambers and in part, and their counts, which
-//! are those of all subsets. `tests/call_allocations.sh` refuses the allocations between the line `call`
-//! and the line of the answer.
+//! are those of all subsets. `tests/call_allocations.sh` refuses the allocations between the line
+//! `call` and the line of the answer.
 ghost use Rattle.power_index.specs.Tables.{AreCountsOfGame};
 
 use crate::helpers::{assert_same, game_of_rules, print_line};

@@ -23,7 +23,8 @@ enum Largest {
     Anywhere,
 }
 
-/// The shares of a register's holders: of four in a row the last has twice what the first has, or more.
+/// The shares of a register's holders: of four in a row the last has twice what the first has, or
+/// more.
 fn shares_of(register: &Register) -> [u64; 40] {
     let mut shares = [0; 40];
     let holders = register.holders.clamp(1, 40);

@@ -1,5 +1,6 @@
 //! The counts and the indices, which take no memory, and all indices in a row, which take some.
-//! `tests/call_allocations.sh` refuses allocations between the line `call` and the line of the answer.
+//! `tests/call_allocations.sh` refuses allocations between the line `call` and the line of the
+//! answer.
 use super::*;
 use crate::helpers::print_line;
 use power_index::all_indices;

@@ -18,7 +18,8 @@ use Rattle.mwc_gather.specs.declared.part.Part.{Part}
 abbrev pub all_total : Slicing → ℕ
 all_total g = coalition_count g (range_with_len 0 g.slices)
 
--- the parts of all workers: all slices are dealt to them, each has the coalitions of its slices, and worker w begins with slice w
+-- the parts of all workers: all slices are dealt to them, each has the coalitions of its slices,
+-- and worker w begins with slice w
 pub record IsComplete (g : Slicing) (workers : ℕ) (parts : List Part) : Type 0 where
   pub a_part_each : length parts ≡ workers
   pub assigned : AreAssigned g.slices (part_slices parts)
@@ -30,7 +31,8 @@ module _ {G : Type 0} where
   abbrev pub slices_of : Job G → Slicing
   slices_of job = slicing job.guarded job.bits
 
-  -- all is gathered; or there is a fault, which is TooMany only where there is more than was asked for
+  -- all is gathered; or there is a fault, which is TooMany only where there is more than was asked
+  -- for
   abbrev pub Answers : Job G → ℕ → Result Gathered GatherFault → Type 0
   Answers job workers r = IfOk r (Gathers (votes_of job.guarded) job.bits workers job.most)
       × (r ≡ Err TooMany → job.most < length (minimal_coalitions (votes_of job.guarded)))

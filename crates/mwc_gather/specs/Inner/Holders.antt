@@ -15,7 +15,8 @@ slices_held_by holders w = slices_from w 0 holders
 abbrev pub slices_by_worker : List ℕ → ℕ → List (List ℕ)
 slices_by_worker holders workers = map (slices_held_by holders) (range_with_len 0 workers)
 
--- each of the slices 0 to n - 1 has one holder, and each share has the slices of its worker, in ascending order
+-- each of the slices 0 to n - 1 has one holder, and each share has the slices of its worker, in
+-- ascending order
 pub record AreAssigned (n : ℕ) (part_slices : List (List ℕ)) : Type 0 where
   pub holders : List ℕ
   pub each_held : length holders ≡ n

@@ -35,7 +35,8 @@ is_cut _ = false
 abbrev pub has_cut : List Word → Bool
 has_cut words = list_any is_cut words
 
--- what a draft keeps of these words: whether there was a cut, and where nothing was lost, the coalitions and where each slice ends
+-- what a draft keeps of these words: whether there was a cut, and where nothing was lost, the
+-- coalitions and where each slice ends
 pub record IsBuilderOf (words : List Word) (builder : PartBuilder) : Type 0 where
   pub cut_is : builder.cut ≡ has_cut words
   pub got_are : builder.out_of_memory ≡ false → builder.got.items ≡ ones words
@@ -57,7 +58,8 @@ pub record IsPartOfBuilder (builder : PartBuilder) (given : List ℕ) (p : Part)
   pub ends : p.ends.items ≡ builder.ends.items
   pub got : p.got.items ≡ builder.got.items
 
--- one of the vectors has no room for n more, or the coalitions are then too many to be counted by 32 bits
+-- one of the vectors has no room for n more, or the coalitions are then too many to be counted by
+-- 32 bits
 abbrev pub LacksRoom : PartBuilder → ℕ → Type 0
 LacksRoom builder n =
     (vec_capacity builder.got < vec_len builder.got + n) ⊎ (vec_capacity builder.ends < vec_len builder.ends + n) ⊎ (2 ^ 32 ≤ vec_len builder.got + n)

@@ -5,8 +5,9 @@ use Rattle.std.specs.List.{list_any}
 use Rattle.mwc_gather.specs.Table.{IsFirstFree}
 use Rattle.mwc_gather.specs.Inner.Holders.{slices_by_worker}
 
--- what proofs see of a desk: the slices that its worker was given, whether it has finished them all, whether it was told that there are
--- no more, whether something was lost, and whether it was cut
+-- what proofs see of a desk: the slices that its worker was given, whether it has finished them
+-- all, whether it was told that there are no more, whether something was lost, and whether it was
+-- cut
 pub record WorkerView : Type 0 where
   pub given : List ℕ
   pub idle : Bool
@@ -26,9 +27,9 @@ HasNotFailed s = (s.out_of_memory ≡ false) × (s.cut ≡ false)
 abbrev pub given_slices : List WorkerView → List (List ℕ)
 given_slices handles = map (λ (s : WorkerView). s.given) handles
 
--- the slices 0 to n - 1 are dealt in order, until they are all given or the deal is stopped; it is stopped exactly where a
--- start failed early,
--- something was lost, or a cut was told; and where a start failed nothing is given
+-- the slices 0 to n - 1 are dealt in order, until they are all given or the deal is stopped; it is
+-- stopped exactly where a start failed early, something was lost, or a cut was told; and where a
+-- start failed nothing is given
 pub record AssignsInOrder (n : ℕ) (early : Bool) (marks : List (Option ℕ)) (stopped : Bool)
     (handles : List WorkerView) : Type 0 where
   pub holders : List ℕ
@@ -48,7 +49,8 @@ pub record AssignsInTurn (n k : ℕ) (early : Bool) (marks : List (Option ℕ)) 
   pub begins : stopped ≡ false → (w : ℕ) → w < k → w < n →
       (w < length in_order.holders) × (slice_index in_order.holders w ≡ w)
 
--- nothing is given: the worker has not finished its slices, or it is told that there are no more, since all is given or the deal is stopped
+-- nothing is given: the worker has not finished its slices, or it is told that there are no more,
+-- since all is given or the deal is stopped
 pub record GivesNothing (done : Bool) (marks : List (Option ℕ)) (s : WorkerView)
     (after : List (Option ℕ)) (stopped : Bool) (t : WorkerView) : Type 0 where
   pub marks_stay : after ≡ marks
@@ -57,7 +59,8 @@ pub record GivesNothing (done : Bool) (marks : List (Option ℕ)) (s : WorkerVie
   pub dismissed_if : t.dismissed ≡ true → (s.dismissed ≡ true) ⊎ (All IsSome marks ⊎ (stopped ≡ true))
   pub why : t.idle ≡ true → t.dismissed ≡ true
 
--- the lowest slice without a holder is given to worker w, which has finished its slices, in a deal that is not stopped
+-- the lowest slice without a holder is given to worker w, which has finished its slices, in a deal
+-- that is not stopped
 pub record GivesOne (done : Bool) (marks : List (Option ℕ)) (stopped : Bool) (s : WorkerView) (w : ℕ)
     (after : List (Option ℕ)) (t : WorkerView) : Type 0 where
   pub slice : ℕ
@@ -68,8 +71,8 @@ pub record GivesOne (done : Bool) (marks : List (Option ℕ)) (stopped : Bool) (
   pub given : t.given ≡ s.given ++ slice ∷ []
   pub dismissed_not : t.dismissed ≡ false
 
--- one turn of worker w, in which it has, or has not, said that a slice is done: a loss or a cut that is met in it stops the
--- deal before anything is given
+-- one turn of worker w, in which it has, or has not, said that a slice is done: a loss or a cut
+-- that is met in it stops the deal before anything is given
 pub record TakesTurn (done : Bool) (marks : List (Option ℕ)) (stopped : Bool) (s : WorkerView) (w : ℕ)
     (after : List (Option ℕ)) (stops : Bool) (t : WorkerView) : Type 0 where
   pub memory_stays : t.out_of_memory ≡ false → s.out_of_memory ≡ false

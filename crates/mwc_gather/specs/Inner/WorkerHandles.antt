@@ -44,19 +44,22 @@ pub record IsPartOfWorker (g : Slicing) (d : WorkerHandle) (p : Part) : Type 0 w
   pub well : HasNotFailed (view_of d)
   pub dismissed : d.dismissed ≡ true
 
--- what the end of a desk's worker may be answered, of which None is a part: whose worker was well and told, or a fault other than
--- Start; where something was lost it is Memory, and it is TooMany only where the slices given have more coalitions than were asked for
+-- what the end of a desk's worker may be answered, of which None is a part: whose worker was well
+-- and told, or a fault other than Start; where something was lost it is Memory, and it is TooMany
+-- only where the slices given have more coalitions than were asked for
 abbrev pub CanEndWith : Slicing → ℕ → WorkerHandle → Option GatherFault → Type 0
 CanEndWith g most d None = HasNotFailed (view_of d) × (d.dismissed ≡ true)
 CanEndWith g most d (Some why) = (why ≢ Start) × (d.builder.out_of_memory ≡ true → why ≡ Memory)
     × (why ≡ TooMany → most < coalition_count g d.given.items)
 
--- where `workers` workers were to be started, `started` were: all, or fewer, with a fault that kept the next from its start
+-- where `workers` workers were to be started, `started` were: all, or fewer, with a fault that kept
+-- the next from its start
 abbrev pub HasStarted : ℕ → ℕ → Option GatherFault → Type 0
 HasStarted workers started None = started ≡ workers
 HasStarted workers started (Some why) = (started < workers) × IsEarly why
 
--- the slices of the game are dealt to the desks; nothing is, where the deal was stopped early, from its beginning
+-- the slices of the game are dealt to the desks; nothing is, where the deal was stopped early, from
+-- its beginning
 pub record AssignsTo (g : Slicing) (most : ℕ) (early : Bool) (scheduler : Scheduler) (handles : List WorkerHandle) : Type 0 where
   pub all_of : AllOf g most handles
   pub scheduling : AssignsInTurn g.slices (length handles) early scheduler.marks scheduler.stopped (views_of handles)

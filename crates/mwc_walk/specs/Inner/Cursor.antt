@@ -19,15 +19,18 @@ rest_of_slice v c = slice_below v c.bits c.number (bound v c)
 abbrev pub steps_left : Votes → Cursor → ℕ
 steps_left v c = 128 * bound v c + (if c.fresh then v.members - c.place else 64 + c.place)
 
--- the visits that a fresh prefix came by: one where its last member was taken in, those of the fixed places at their end
+-- the visits that a fresh prefix came by: one where its last member was taken in, those of the
+-- fixed places at their end
 abbrev pub new_visit : Cursor → ℕ
 new_visit c = if c.fresh then (if ltb c.bits c.place then c.prefix % 2 else c.bits) else 0
 
--- the visits on the way down to a fresh prefix that can still meet each quota: a coalition is still to be given for them
+-- the visits on the way down to a fresh prefix that can still meet each quota: a coalition is still
+-- to be given for them
 abbrev pub open_visits : Votes → Cursor → ℕ
 open_visits v c = if c.fresh then (if reaches v.rules c.place c.prefix then c.place - c.bits else 0) else 0
 
--- x is the number of the first p places, at a slice, and what was passed on the way to them did not win yet
+-- x is the number of the first p places, at a slice, and what was passed on the way to them did not
+-- win yet
 pub record IsPlace (v : Votes) (bits number p x : ℕ) : Type 0 where
   pub from : bits ≤ p
   pub to : p ≤ v.members
@@ -36,7 +39,8 @@ pub record IsPlace (v : Votes) (bits number p x : ℕ) : Type 0 where
   pub short : x < 2 ^ p
   pub passed : bits < p → wins_at v.rules (p - 1) (x / 2) ≡ false
 
--- the bounds on the visits to a slice, of which some are new and some still await their coalition, with these coalitions to come
+-- the bounds on the visits to a slice, of which some are new and some still await their coalition,
+-- with these coalitions to come
 pub record CountsVisits (v : Votes) (bits number visits new unmet : ℕ) (rest : List ℕ)
     : Type 0 where
   pub least : length (slice v bits number) + new ≤ visits + length rest

@@ -11,7 +11,8 @@ price_at ps p = slice_index_or ps.from p (record { own = 0; other = 0 })
 abbrev pub prices_at : List Prices → ℕ → Prices
 prices_at row t = slice_index_or row t (record { from = [] })
 
--- members who weigh f by the other rule and g by the own keep to the price; without a price they weigh nothing by the other
+-- members who weigh f by the other rule and g by the own keep to the price; without a price they
+-- weigh nothing by the other
 pub record IsPrice (price : Price) (f g : ℕ) : Type 0 where
   pub kept : price.own * f ≤ price.other * g
   pub none : price.other ≡ 0 → f ≡ 0

@@ -8,7 +8,8 @@ abbrev pub ExcessIs : Votes → ℕ → ℕ → List ℕ → Type 0
 ExcessIs v p x es = (i : ℕ) → i < length v.rules →
     slice_index es i ≡ weight (take p (rule_at v.rules i).weights) x - (rule_at v.rules i).quota
 
--- by rule i, each winning coalition that begins with the prefix weighs at least `need` from place p on
+-- by rule i, each winning coalition that begins with the prefix weighs at least `need` from place p
+-- on
 abbrev pub IsNeed : Votes → ℕ → ℕ → ℕ → ℕ → Type 0
 IsNeed v p x i need = (c : ℕ) → c / 2 ^ (v.members - p) ≡ x → wins v.rules c ≡ true → need ≤ weight (drop p (rule_at v.rules i).weights) c
 

@@ -1,7 +1,8 @@
 //! How often a reader and a writer are asked, by a run and by a tally.
 use super::*;
 
-/// A reader of bytes, at most 100 at once. One read may fail, the only one. It counts the reads after it.
+/// A reader of bytes, at most 100 at once. One read may fail, the only one. It counts the reads
+/// after it.
 #[derive(Drop)]
 struct Reader<'a> {
     left: &'a [u8],
@@ -52,8 +53,8 @@ enum Fails {
     Flush,
 }
 
-/// A writer of which one call may fail, the only one. It counts the writes, those of no byte, the flushes,
-/// and the calls after the failure.
+/// A writer of which one call may fail, the only one. It counts the writes, those of no byte, the
+/// flushes, and the calls after the failure.
 #[derive(Drop)]
 struct Writer {
     taken: Vec<u8>,
@@ -144,7 +145,8 @@ fn answer<T: Threads + Wait + Sync>(
 /// A game of 4,845 minimal winning coalitions, whose lines are more than a block of 64 KiB.
 const TWENTY: &[u8] = b"[4; 1, 1, 1, 1, 1, 1, 1, 1, 1, 1, 1, 1, 1, 1, 1, 1, 1, 1, 1, 1]";
 
-/// A whole report is flushed once. It goes out in blocks of 60 KiB and more, and a last one that is not empty.
+/// A whole report is flushed once. It goes out in blocks of 60 KiB and more, and a last one that is
+/// not empty.
 #[test]
 fn a_long_report_goes_out_in_blocks(rt: HostRuntime) {
     let alloc = rt.alloc();
@@ -175,7 +177,8 @@ fn a_long_report_goes_out_in_blocks(rt: HostRuntime) {
     );
 }
 
-/// After a write or a flush that failed, when `taken` bytes of the whole were taken, the writer is not called again.
+/// After a write or a flush that failed, when `taken` bytes of the whole were taken, the writer is
+/// not called again.
 fn fails_once<R: Abort + Threads + Wait + Sync>(
     rt: &R,
     alloc: Global,
@@ -238,7 +241,8 @@ fn a_failed_writer_is_not_asked_again(rt: HostRuntime) {
     }
 }
 
-/// A tally writes the same report, whatever the greatest number is, at once, and is no more patient.
+/// A tally writes the same report, whatever the greatest number is, at once, and is no more
+/// patient.
 #[test]
 fn a_tally_asks_its_writer_once(rt: HostRuntime) {
     let alloc = rt.alloc();
@@ -269,7 +273,8 @@ fn a_tally_asks_its_writer_once(rt: HostRuntime) {
     }
 }
 
-/// A reader that fails once, and would then give the rest, is not asked again, and nobody calls the writer.
+/// A reader that fails once, and would then give the rest, is not asked again, and nobody calls the
+/// writer.
 #[test]
 fn a_failed_reader_is_not_asked_again(rt: HostRuntime) {
     let alloc = rt.alloc();

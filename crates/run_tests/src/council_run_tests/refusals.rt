@@ -1,5 +1,5 @@
-//! Whole runs. `tests/call_allocations.sh` refuses the allocations between the line `call` and the line of the
-//! answer, one after the other.
+//! Whole runs. `tests/call_allocations.sh` refuses the allocations between the line `call` and the
+//! line of the answer, one after the other.
 use super::*;
 use crate::helpers::print_line;
 use std::io::Print;
@@ -92,8 +92,8 @@ fn runs_on_toml(rt: HostRuntime) {
     runs(&rt, rt.alloc(), TWO_RULES, TWO_RULES_REPORT, false);
 }
 
-/// Two of three members must sign, and have two thirds of the shares, most of which the last one has:
-/// the members are walked over in the opposite order.
+/// Two of three members must sign, and have two thirds of the shares, most of which the last one
+/// has: the members are walked over in the opposite order.
 const TURNED_RULES: &[u8] = b"quotas = [2, 4]\n\
     member = [{name = \"A\", weights = [1, 1]},\
     {name = \"B\", weights = [1, 2]},\

@@ -1,7 +1,8 @@
 //! The threads of a tally that sums do not count.
 use super::*;
 
-/// A game of three rules over one member more than a slice fixes at least: each member has one vote in each.
+/// A game of three rules over one member more than a slice fixes at least: each member has one vote
+/// in each.
 const THREE: &[u8] = b"quotas = [4, 4, 4]\n\
 [[member]]\nname = \"A\"\nweights = [1, 1, 1]\n[[member]]\nname = \"B\"\nweights = [1, 1, 1]\n\
 [[member]]\nname = \"C\"\nweights = [1, 1, 1]\n[[member]]\nname = \"D\"\nweights = [1, 1, 1]\n\
@@ -9,8 +10,8 @@ const THREE: &[u8] = b"quotas = [4, 4, 4]\n\
 [[member]]\nname = \"G\"\nweights = [1, 1, 1]\n[[member]]\nname = \"H\"\nweights = [1, 1, 1]\n\
 [[member]]\nname = \"I\"\nweights = [1, 1, 1]\n";
 
-/// Holds each worker at its first slice until all 16 are there, for a hundred million turns at most,
-/// and counts the slices and the coalitions.
+/// Holds each worker at its first slice until all 16 are there, for a hundred million turns at
+/// most, and counts the slices and the coalitions.
 #[derive(Drop)]
 struct Meeting {
     came: AtomicU64,
@@ -49,8 +50,8 @@ impl Gate for Meeting {
     }
 }
 
-/// A tally has as many threads as the options say, here 16, and 256 slices though the options say 1:
-/// each slice is passed once, and all coalitions are found in them.
+/// A tally has as many threads as the options say, here 16, and 256 slices though the options say
+/// 1: each slice is passed once, and all coalitions are found in them.
 #[test]
 fn a_tally_has_its_threads_and_slices(rt: HostRuntime) {
     let mut reader = THREE;

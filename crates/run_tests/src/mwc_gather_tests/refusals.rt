@@ -1,5 +1,5 @@
-//! The calls that take memory, and one that takes none. `tests/call_allocations.sh` refuses the allocations
-//! between the line `call` and the line of the answer.
+//! The calls that take memory, and one that takes none. `tests/call_allocations.sh` refuses the
+//! allocations between the line `call` and the line of the answer.
 use super::*;
 use crate::helpers::{print_line, print_memory};
 use std::alloc::AllocError;
