@@ -11,7 +11,7 @@ use std::io::Write;
 ///
 /// `is_write` ties the writer and the bytes before one write to its answer, and to the writer as it
 /// is then; `is_flush` the same of a flush. Whoever knows no more of a sink than this trait can
-/// show each by one call alone: not by none, and not by two.
+/// show each only by one call: not by none, and not by two.
 pub trait Sink {
     ghost held: { Self → Option (List ℕ) };
 

@@ -10,8 +10,8 @@ use std::io::Read;
 /// A reader, as one sees it that hands its reads on. Each reader is one.
 ///
 /// `is_read` ties the reader and the buffer before one read to its answer, and to the two as they
-/// are then. Whoever knows no more of a source than this trait can show it by one read alone: not
-/// by none, and not by two.
+/// are then. Whoever knows no more of a source than this trait can show it only by one read: not by
+/// none, and not by two.
 pub trait Source {
     ghost left: { Self → Option (List ℕ) };
 

@@ -32,7 +32,7 @@ fn wanted_behind(alloc: Global, front: &str) -> Result<Option<&'static str>, Mem
 }
 
 /// How many bytes of a text a bracket text can begin with, found by steps of 2^16 halved down to 1:
-/// where a length fits, each shorter one does.
+/// if a length fits, each shorter one does.
 fn longest_front(alloc: Global, text: &str) -> Result<usize, Memory> {
     let mut len = 0usize;
     for halvings in 0..17u32 {

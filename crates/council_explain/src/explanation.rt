@@ -18,7 +18,7 @@ pub struct Explanation<'a> {
     pub table: &'a Table,
     /// The lines, each begun with two blanks and ended with LF.
     pub lines: String,
-    /// Whether a growth was refused, so that some of them are not there.
+    /// Whether a growth was refused. Then some of them are missing.
     pub failed: bool,
 }
 

@@ -10,7 +10,7 @@ use std::io;
 use std::io::Read;
 
 /// A reader that gives what another gives, and keeps it, where it is to. Each read is handed on
-/// once, as it is, and its bytes are those of the reader inside.
+/// once, unchanged, and its bytes are those of the reader inside.
 #[derive(Drop)]
 pub struct Kept<'a, I> {
     reader: &'a mut I,
@@ -51,7 +51,7 @@ impl<'a, I: Source> Read for Kept<'a, I> {
     {
         let count = self.reader.read_once(buffer)?;
         if let Some(bytes) = &mut self.bytes
-            // memory: where there is no room nothing is kept, and the run goes on
+            // memory: if there is no room nothing is kept, and the run goes on
             && bytes.extend_from_slice(&buffer[..count]).is_err()
         {
             self.bytes = None;

@@ -1,6 +1,5 @@
 //! Why a game file was refused, and where: some lines of text for a person to read. No contract
-//! speaks of their words, which are tested. And a reader that keeps what it reads, so that it can
-//! be explained.
+//! speaks of their words, which are tested. And a reader that keeps what it reads.
 //!
 //! ```text
 //! let mut reader = Kept::new(alloc, &mut file, true);

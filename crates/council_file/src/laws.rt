@@ -5,7 +5,7 @@ ghost use Rattle.council_file.specs.Laws.{NotationReadsBack};
 ghost use Rattle.council_file.specs.Reads.{Gave};
 ghost use Rattle.std.specs.Prelude.{◌≡◌, ℕ, List, Option, Some};
 
-/// Who reads the notation of a rule of a game gets a game of that rule alone, whose members are
+/// Who reads the notation of a rule of a game gets a game of only that rule, whose members are
 /// named 1, 2, .. and which has no title.
 #[tactic(auto, using(crate::proofs::ReadsBack::reads_back))]
 pub fn notation_reads_back()

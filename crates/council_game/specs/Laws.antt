@@ -29,7 +29,7 @@ ProperSubsetsLose v =
     → minimal v c ≡ true → IsProperSubset v.members a c → wins v.rules a ≡ false
 
 -- the list of minimal coalitions is not empty, no longer than the game has coalitions, strictly
--- descending, and has coalitions of the game alone, none of them empty
+-- descending, and has only coalitions of the game, none of them empty
 pub record IsListing (v : Votes) : Type 0 where
   pub some : 0 < length (minimal_coalitions v)
   pub few : length (minimal_coalitions v) ≤ 2 ^ v.members

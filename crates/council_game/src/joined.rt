@@ -26,8 +26,7 @@ pub fn push_decimal(out: &mut Vec<u8>, number: u64) -> Result<(), AllocError>
 ///
 /// # Errors
 ///
-/// `AllocError` where a growth was refused; a part of the text may then stand behind what was
-/// there.
+/// `AllocError` where a growth was refused; a part of the text may then follow what was there.
 pub fn push_joined<F: Fn(usize) -> u64>(
     out: &mut Vec<u8>,
     separator: &[u8],

@@ -12,8 +12,8 @@ pub trait Wipe {
     fn wipe(&self);
 }
 
-/// A writer that has a line wiped before it writes. Each write and each flush is handed on once, as
-/// it is, and its bytes are those of the writer inside.
+/// A writer that has a line wiped before it writes. Each write and each flush is handed on once,
+/// unchanged, and its bytes are those of the writer inside.
 #[derive(Drop)]
 pub struct Wiping<L, W> {
     pub line: L,

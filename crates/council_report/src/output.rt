@@ -110,7 +110,7 @@ impl Block {
         }
     }
 
-    /// Makes ready for a line: where the next might not fit, all bytes go to the writer.
+    /// Makes ready for a line: if the next might not fit, all bytes go to the writer.
     pub(crate) fn settle<W: Write>(&mut self, writer: &mut W) -> Result<(), WriteFault>
         requires { CanCount self.old [] }
         ensures { MakesRoom (W.contents writer.old) self.old (W.contents writer.new) self.new result }

@@ -190,9 +190,8 @@ pub fn write_report_of<W: Write>(
     write_over(alloc, game, pieces, counts, shown, writer)
 }
 
-/// Writes the report of a game, with no line for a coalition, from the counts of its minimal
-/// winning coalitions alone, however many these are, and flushes once. The answer is the number of
-/// bytes.
+/// Writes the report of a game, with no line for a coalition, only from the counts of its minimal
+/// winning coalitions, however many these are, and flushes once. The answer is the number of bytes.
 ///
 /// No byte goes out before all memory is there.
 ///

@@ -45,6 +45,6 @@ abbrev pub Finds : Option ℕ → ReportLines → GameView → Result Found RunF
 Finds limit lines g (Ok found) = IsWithin limit g × IsFound g lines found
 Finds limit lines g (Err fault) = IsNotFound limit g fault.cause × (fault.written ≡ 0)
 
--- Workers that count stop only for want of memory, or if one of them could not be started.
+-- Workers that count stop only if memory runs out, or if one of them could not be started.
 abbrev pub IsWorkersFault : RunFault → Type 0
 IsWorkersFault fault = ((fault.cause ≡ cause.Memory) ⊎ (fault.cause ≡ cause.Gather gather.Start)) × (fault.written ≡ 0)

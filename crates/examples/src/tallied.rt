@@ -33,7 +33,7 @@ pub fn tallied_index<R: Threads + Wait + Sync>(
     ensures { IfOk result (λ index. index ≡
         lowest_terms (deegan_packel game.now (minimal_coalitions (votes_of game.now)) member)) }
 {
-    // as many places as may be are fixed in each slice, so that there is work for all threads
+    // as many places as possible are fixed in each slice: then there is work for all threads
     let bits = limits::BITS.min(game.members() as u8);
     minimal_coalitions_can_be_counted();
     let counts = tally(rt, alloc, game, bits, workers, &NoGate)?;

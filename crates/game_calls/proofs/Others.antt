@@ -1,4 +1,4 @@
--- One member more or less leaves the others as they were.
+-- One member more or less does not change the others.
 use Rattle.std.proofs.Common.{◌≡◌, ◌≢◌, ◌∙◌, ℕ, ◌+◌, ◌<◌, Bool, true, false, ◌||◌, List, [], ◌∷◌, ◌++◌, length, get_or, take, filter, sym}
 use Rattle.std.proofs.Common.{ap, arith, Option, Some, None, eq-eqb, append-nil}
 use Rattle.std.proofs.{Math.Bool.or-false, lemmas.Grind.common_steps, lemmas.List.Folds.list_any_more}

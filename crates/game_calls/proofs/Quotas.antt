@@ -38,7 +38,7 @@ another_quota g game q some met =
           (All-nil (λ (r : RuleView). length r.weights ≡ length g.names));
     }
 
--- so that no fault but want of memory is answered
+-- the only fault that is answered is out of memory
 pub only-memory : (g : GameView) (q : ℕ) (fault : GameFault) → IsGame g → 1 ≤ q → q ≤ total (rule_at g.rules 0)
     → Answers (Err fault) (made_game g.title g.names (record { quota = q; weights = (rule_at g.rules 0).weights } ∷ [])) → fault ≡ Memory
 only-memory g q fault game some met gives = grind (arith, common_steps, another_quota)

@@ -59,7 +59,7 @@ fn weights_of(alloc: Global, game: &Game) -> Result<Vec<u64>, AllocError>
     Ok(weights)
 }
 
-/// The game of the same title and members, and of the first rule alone, at another quota: 1 to the
+/// The game of the same title and members, and of only the first rule, at another quota: 1 to the
 /// total of its weights.
 ///
 /// # Errors

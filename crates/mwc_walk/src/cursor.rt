@@ -123,7 +123,7 @@ impl Cursor {
     {
         let Some(most) = self.most_visits(visits) else {
             let step = self.find(game, prices);
-            // for the prover alone: that the count fits its type
+            // For the prover: the count fits its type
             let _visits = self.visits;
             return step;
         };

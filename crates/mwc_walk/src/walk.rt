@@ -121,7 +121,7 @@ impl<'a> Walk<'a> {
     /// Returns how many visits there were.
     ///
     /// Each fixed place is visited once, when it is checked, and a later place each time that the
-    /// walk comes to it from above to decide whether its member is in; the decision to leave the
+    /// walk reaches it from above to decide whether its member is in; the decision to leave the
     /// member out after all belongs to that visit. The count stops at the greatest number that it
     /// can hold.
     ///

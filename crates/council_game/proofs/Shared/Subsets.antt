@@ -22,7 +22,7 @@ digits-less n a c sub i below =
     let place : n - 1 - (n - 1 - i) ≡ i = omega arith in
     grind (arith, nat_tests, bit_at-lt a i, bit_at-lt c i)
 
--- a minimal coalition without a place loses, so that a subset that wins has each place of it
+-- a minimal coalition without a place loses: a subset that wins has each place of it
 pub subsets-lose : (v : Votes) → IsVotes v → ProperSubsetsLose v
 unfolding has without
 subsets-lose v game a c la lc min sub =

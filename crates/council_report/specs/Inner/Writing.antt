@@ -1,4 +1,4 @@
--- A text that is told through a block, line by line.
+-- A text that is written through a block, line by line.
 use Rattle.std.specs.Prelude.{◌≡◌, ℕ, List, [], false, Option, Result, Ok, Err, OnOk, IfErr}
 use Rattle.council_report.specs.Inner.Written.{Progress, progress_of, Advances, HasStopped, StopsIn}
 use Rattle.council_report.specs.Inner.Ready.{HasRoom, IsReady}

@@ -15,7 +15,7 @@ from ..reports import Report, round_half_up
 from .command import Words, add_report, read_comments, read_report, warn_of_low_quotas
 from .drawing import INDICES, SHARES, measure, name_share, wrap, write_picture, write_quota, write_text
 
-# the bars of a member are 13 apart, so that a number of 9 has room above and below
+# the bars of a member are 13 apart: a number of 9 has room above and below
 BAR, PITCH, GAP, LONGEST, SMALL = 8, 13, 9, 460, 9
 
 

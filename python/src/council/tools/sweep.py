@@ -74,7 +74,7 @@ class Progress:
 def write_rows(reports: Iterable[tuple[int, Report]], progress: Progress, take: Callable[[Any], None]) -> None:
     """Writes the table row by row, as the reports come. `take` gets each of them."""
     print("quota", "name", "deegan_packel", "public_good", "deegan_packel_exact", "public_good_exact", sep="\t")
-    # a file gets each name as it is, and a terminal none that moves it
+    # a file gets each name unchanged, and a terminal none that moves it
     write_name = make_printable if sys.stdout.isatty() else str
     try:
         for quota, report in reports:
