@@ -21,7 +21,7 @@ handles_within {g} handles h =
     (all_of_map (λ (s : List ℕ). coalition_count g s ≤ all_total g) (λ (s : WorkerView). s.given) (views_of handles)
     (each_within g (views_of handles) h.scheduling))
 
--- what is true of desks and of their parts
+-- what is true of handles and of their parts
 record HaveParts (g : Slicing) (handles : List WorkerHandle) (parts : List Part) : Type 0 where
   slices_are : part_slices parts ≡ given_slices (views_of handles)
   well : All HasNotFailed (views_of handles)

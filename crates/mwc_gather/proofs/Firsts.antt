@@ -1,4 +1,4 @@
--- The first deals, and what the end of the deal tells.
+-- The first slices, and what holds at the end.
 use Rattle.mwc_gather.proofs.Imports.{ne_eqb, length-append, sum_by, or-false, false≢true, range_with_len, IsStrictlyIncreasing, All-head}
 use Rattle.mwc_gather.proofs.Imports.{All-tail, All-weaker, slices_from, slices_held_by, AreAssigned, Slicing, coalition_count, times_in, WorkerView}
 use Rattle.mwc_gather.proofs.Imports.{◌≡◌, ◌⊎◌, ℕ, zero, suc, ◌+◌, ◌<◌, ◌≤◌, Bool, false, ◌||◌, cond, List, [], ◌∷◌, ◌++◌, Option, None}
@@ -15,7 +15,7 @@ no_part_slices [] from a = refl
 no_part_slices (s ∷ handles) from a =
     let h = All-head IsFresh s handles a in grind (arith, no_part_slices handles (from + 1) (All-tail IsFresh s handles a))
 
--- before the first deal
+-- before the first slice
 pub begin : (n : ℕ) (early : Bool) (handles : List WorkerView) → All IsFresh handles → AssignsOneEach n 0 early (replicate n None) early handles
 begin n early handles a = record {
   in_turn = record {
@@ -42,7 +42,7 @@ reached : (k n m : ℕ) → k < n → ((w : ℕ) → w < k → w < n → w < m) 
 reached zero n m l h = omega arith
 reached (suc k) n m l h = let q = h k (omega arith) (omega arith) in omega arith
 
--- the first deal to worker k
+-- the first turn of worker k
 pub first_turn : {n : ℕ} {early stopped stops : Bool} {marks after : List (Option ℕ)} (handles : List WorkerView) (k : ℕ) (s t : WorkerView)
     → k < length handles → s ≡ get_or handles k s → IsFresh s
     → AssignsOneEach n k early marks stopped handles → TakesTurn false marks stopped s k after stops t
@@ -81,7 +81,7 @@ first_turn {n} {early} {stopped} {stops} handles k s t l e fresh f r =
           }
     ]
 
--- who told what at the end
+-- what holds of each worker at the end
 pub assigned_once : {n : ℕ} {part_slices : List (List ℕ)} (j : ℕ) → AreAssigned n part_slices → sum_by (times_in j) part_slices ≡ cond (ltb j n) 1 0
 assigned_once {n} {part_slices} j d = grind (arith, each_held_once)
 

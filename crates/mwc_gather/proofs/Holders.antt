@@ -1,4 +1,4 @@
--- Turns of desks.
+-- Turns of handles.
 use Rattle.mwc_gather.proofs.Imports.{subst, arith, sym, length-map, All-head, All-tail, Slicing, WorkerView, IsFresh, WorkerHandle, Scheduler, AllOf, set}
 use Rattle.mwc_gather.proofs.Imports.{◌≡◌, ℕ, ◌+◌, ◌<◌, Bool, false, ◌||◌, [], ◌∷◌, List, Option, None, All, length, common_steps, get_or}
 use Rattle.mwc_gather.proofs.Imports.{view_of, views_of, AssignsTo, AssignsFirst, refl, take, true, nat_tests, All-push, zero, suc, replicate}
@@ -27,7 +27,7 @@ pub turn_after : {done : Bool} {marks after : List (Option ℕ)} {stopped stops 
     → TakesTurn done marks stopped s w after stops t
 turn_after {done} {marks} {after} {stopped} {stops} s read t w given dismissed idle out_of_memory cut r = grind (arith, common_steps, or-false)
 
--- a turn of desk i
+-- a turn of handle i
 pub turn_of : {g : Slicing} {most : ℕ} {done early : Bool} {scheduler after : Scheduler} (handles : List WorkerHandle) (i : ℕ) (x t : WorkerHandle) → i < length handles
     → AssignsTo g most early scheduler handles → t.worker.promise ≡ (get_or handles i x).worker.promise
     → TakesTurn done scheduler.marks scheduler.stopped (view_of (get_or handles i x)) i after.marks after.stopped (view_of t)
@@ -44,7 +44,7 @@ turn_of {g} {most} {done} {early} {scheduler} {after} handles i x t l h p r =
       scheduling = subst (λ (k : ℕ). P k (views_of (set handles i t))) (sym (length-set handles i t)) here;
     }
 
--- the first deal to desk k
+-- the first turn of handle k
 pub first_of_place : {g : Slicing} {most : ℕ} {early : Bool} {scheduler after : Scheduler} (handles : List WorkerHandle) (k : ℕ) (x t : WorkerHandle)
     → k < length handles → AssignsFirst g most early scheduler k handles → t.worker.promise ≡ (get_or handles k x).worker.promise
     → TakesTurn false scheduler.marks scheduler.stopped (view_of (get_or handles k x)) k after.marks after.stopped (view_of t)
@@ -72,7 +72,7 @@ assigns_start {g} {most} scheduler handles a f e = record {
   to_come = λ k d low high. fresh_at handles f k d high;
 }
 
--- the first desks have ended, and so has desk i
+-- the first handles have ended, and so has handle i
 pub ended_more : (handles : List WorkerHandle) (i : ℕ) (t : WorkerHandle) (running : Bool) → i < length handles
     → (running ≡ false → All (λ d. d.ended ≡ true) (take i handles)) → (running || not t.ended) ≡ false
     → All (λ d. d.ended ≡ true) (take (i + 1) (set handles i t))

@@ -15,7 +15,7 @@ worked_ok : (g : Slicing) (most : ℕ) (out : RingInView) (tasks : RingOutView) 
 worked_ok g most out tasks (Ok c, t) closed w e = grind (arith)
 worked_ok g most out tasks (Err x, t) closed w e = cc
 
--- a draft of all words of a desk's worker
+-- a builder of all words of a worker
 pub record HasEnded (d : WorkerHandle) (builder : PartBuilder) : Type 0 where
   pub whole : HasAllWords (handle_slicing d) d.worker.promise.most d.given.items d.dismissed builder
   pub out_of_memory : builder.out_of_memory ≡ false → d.builder.out_of_memory ≡ false
@@ -35,7 +35,7 @@ module _ {d : WorkerHandle} {builder : PartBuilder} (h : HasEnded d builder) whe
   pub whole_ends : fault_in_builder builder ≡ None → HasEnds d.given.items builder.ends.items (length builder.got.items)
   whole_ends e = has_ends (whole_reads h.whole e)
 
-  -- the answer of its draft: a part, or why there is none
+  -- the answer of its builder: a part, or why there is none
   pub part_answered : (r : Result Part GatherFault) → IfOk r (IsPartOfBuilder builder d.given.items)
       → IfOk r (λ p. (g : Slicing) (most : ℕ) → IsOf g most d → IsPartOfWorker g d p)
   part_answered (Ok p) is = λ g most own.

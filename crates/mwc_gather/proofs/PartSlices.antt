@@ -76,18 +76,18 @@ sum_up_to f k hs a (suc m) l =
     let next = rw add-one at (sum_by-range-more f m) in
     grind (arith, sum_by_push, sum_by-set, length-map-range_with_len)
 
--- any sum over the shares is the sum over the slices
+-- any sum over the slices of all parts is the sum over the slices
 pub part_slices_sum : (f : ℕ → ℕ) (k : ℕ) (hs : List ℕ) → All (λ h. h < k) hs
     → sum_by (sum_by f) (slices_by_worker hs k) ≡ sum_by f (range_with_len 0 (length hs))
 part_slices_sum f k hs a = rw (take_all (length hs) hs (omega arith)) at (sum_up_to f k hs a (length hs) (omega arith))
 
--- each number below n stands once in the row up to n
+-- the row up to n has each number below n once
 range_once : (i n : ℕ) → times_in i (range_with_len 0 n) ≡ cond (ltb i n) 1 0
 range_once i zero = grind (arith, nat_tests)
 range_once i (suc n) =
     let rest = range_once i n in
     let next = rw add-one at (sum_by-range-more (λ x. cond (eqb x i) 1 0) n) in grind (arith, nat_tests)
 
--- each slice stands once in the shares, and no other number does
+-- the parts have each slice once, and no other number
 pub each_held_once : (i k : ℕ) (hs : List ℕ) → All (λ h. h < k) hs → sum_by (times_in i) (slices_by_worker hs k) ≡ cond (ltb i (length hs)) 1 0
 each_held_once i k hs a = part_slices_sum (λ x. cond (eqb x i) 1 0) k hs a ∙ range_once i (length hs)

@@ -1,4 +1,4 @@
--- What the words of whole slices tell.
+-- What the words of whole slices say.
 use Rattle.mwc_gather.proofs.Imports.{flat_map, get_or, ap, arith, ◌∙◌, append_assoc, append-nil, length-append, common_steps, sum_by-cons}
 use Rattle.mwc_gather.proofs.Imports.{◌≡◌, ℕ, zero, suc, ◌+◌, ◌-◌, ◌<◌, ◌≤◌, Bool, List, [], ◌∷◌, ◌++◌, length, map, take, drop, refl}
 use Rattle.mwc_gather.proofs.Imports.{IsSentWhole, ends_from, Slicing, wording, coalition_count, Word, Open, One, Done, End, HasEnds}
@@ -17,12 +17,12 @@ done_counts-slice : (n j : ℕ) (l : List ℕ) (rest : List Word)
 done_counts-slice n j [] rest = let e : n ≡ n + 0 = omega arith in ap (λ (m : ℕ). m ∷ done_counts m rest) e
 done_counts-slice n j (c ∷ l) rest = grind (arith, done_counts-slice (n + 1) j l rest)
 
--- the coalitions that a wording tells are its slices joined
+-- the coalitions of a wording are its slices joined
 pub ones-wording : (g : Slicing) (s : List ℕ) → ones (wording g s) ≡ flat_map g.slice s
 ones-wording g [] = refl
 ones-wording g (j ∷ s) = ones-slice j (g.slice j) (wording g s) ∙ ap (λ (w : List ℕ). g.slice j ++ w) (ones-wording g s)
 
--- and its Done words stand where the slices end
+-- and its Done words are where the slices end
 pub done_counts-wording : (g : Slicing) (n : ℕ) (s : List ℕ) → done_counts n (wording g s) ≡ ends_from g n s
 done_counts-wording g n [] = refl
 done_counts-wording g n (j ∷ s) = grind (arith, done_counts-wording g (n + length (g.slice j)) s, done_counts-slice)
@@ -37,7 +37,7 @@ length-ends g n (j ∷ s) = ap (λ (k : ℕ). suc k) (length-ends g (n + length 
 middle : (pre l rest : List ℕ) (n m : ℕ) → length pre ≡ n → n + length l ≡ m → take (m - n) (drop n (pre ++ (l ++ rest))) ≡ l
 middle pre l rest n m e f = grind (arith, common_steps)
 
--- what stands between two ends is the slice
+-- what is between two ends is the slice
 piece_from : (g : Slicing) (pre : List ℕ) (n : ℕ) (s : List ℕ) (m : ℕ) → length pre ≡ n → m < length s
     → take (get_or (ends_from g n s) m 0 - get_or (n ∷ ends_from g n s) m 0)
     (drop (get_or (n ∷ ends_from g n s) m 0) (pre ++ flat_map g.slice s)) ≡ g.slice (get_or s m 0)

@@ -1,4 +1,4 @@
--- Drafts that hear more words, and lose nothing while there is room.
+-- Builders that add more words, and fail only without room.
 use Rattle.mwc_gather.proofs.Imports.{◌≡◌, ℕ, ◌<◌, Bool, true, false, List, ◌++◌, append_assoc, subst, arith, inl, inr, Word, AddsWords}
 use Rattle.mwc_gather.proofs.Imports.{IsBuilderOf, Grows, FailsOnlyWithoutRoom, PartBuilder}
 use Rattle.mwc_gather.specs.Inner.PartBuilders.{LacksRoom}
@@ -14,7 +14,7 @@ pub runs_out_by : (old mid new : PartBuilder) (i n : ℕ) (b : Bool) → mid.out
 runs_out_by old mid new i n true e l a f s = λ x z. f x e
 runs_out_by old mid new i n false e l a f s = λ x z. lacks_more old mid i n l a (s e z)
 
--- what is heard in two rows is heard in one
+-- what is added in two rows is added in one
 pub adds_more : {old mid new : PartBuilder} {done row : List Word} → AddsWords old done mid → AddsWords mid row new → AddsWords old (done ++ row) new
 adds_more {old} {mid} {new} {done} {row} a b = (
   λ words keeps. subst (λ (w : List Word). IsBuilderOf w new) (append_assoc words done row) (b.0 (words ++ done) (a.0 words keeps)),

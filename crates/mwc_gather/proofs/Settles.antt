@@ -12,7 +12,7 @@ pub settles : (g : Slicing) (most : ℕ) (taken left : List Word) (given : List 
 settles g most taken left given dismissed words a e (inl w) = grind (arith, all_taken)
 settles g most taken left given dismissed words a e (inr w) = grind (arith, nat_tests, cut_taken)
 
--- a whole sending tells of no cut
+-- a whole sending has no cut
 uncut_ones : (l : List ℕ) (j : ℕ) → has_cut (map One l ++ Done j ∷ []) ≡ false
 uncut_ones [] j = refl
 uncut_ones (c ∷ l) j = uncut_ones l j
@@ -25,7 +25,7 @@ sent_uncut : {g : Slicing} {most : ℕ} {given : List ℕ} {dismissed : Bool} {w
     → has_cut words ≡ false
 sent_uncut {g} {most} {given} a = grind (arith, list_any-append, uncut)
 
--- by whether a word told of a cut
+-- by whether a word said that it was cut
 all_sent : {g : Slicing} {most : ℕ} {given : List ℕ} {dismissed : Bool} {words : List Word} → AreSettled g most given dismissed words
     → has_cut words ≡ false → IsSentWhole g most given dismissed words
 all_sent (inl a) e = a
@@ -36,7 +36,7 @@ cut_is_many : {g : Slicing} {most : ℕ} {given : List ℕ} {dismissed : Bool} {
 cut_is_many (inl a) e = absurd (false≢true (sym (sent_uncut a) ∙ e))
 cut_is_many (inr c) e = c.many
 
--- by what keeps a draft from being a part
+-- by what keeps a builder from being a part
 pub kept_by : (out_of_memory cut : Bool) → (if out_of_memory then Some Memory else (if cut then Some TooMany else None)) ≡ None
     → (out_of_memory ≡ false) × (cut ≡ false)
 kept_by true cut e = cc
@@ -49,7 +49,7 @@ memory_or_cut true cut why e = inl (refl, cc)
 memory_or_cut false true why e = inr (refl, refl, cc)
 memory_or_cut false false why e = cc
 
--- what a draft of all words is, where nothing keeps it from being a part
+-- what a builder of all words is, where nothing keeps it from being a part
 pub whole_sent : {g : Slicing} {most : ℕ} {given : List ℕ} {dismissed : Bool} {builder : PartBuilder} (h : HasAllWords g most given dismissed builder)
     → fault_in_builder builder ≡ None → IsSentWhole g most given dismissed h.words
 whole_sent {builder = builder} h e = all_sent h.settled (sym h.keeps.cut_is ∙ (kept_by builder.out_of_memory builder.cut e).1)
@@ -60,7 +60,7 @@ whole_reads {builder = builder} h e =
     let out_of_memory = (kept_by builder.out_of_memory builder.cut e).0 in
     reads builder.got.items builder.ends.items (whole_sent h e) (h.keeps.got_are out_of_memory) (h.keeps.ends_are out_of_memory)
 
--- and what it tells where there was a cut
+-- and what it answers if there was a cut
 pub whole_many : {g : Slicing} {most : ℕ} {given : List ℕ} {dismissed : Bool} {builder : PartBuilder} → HasAllWords g most given dismissed builder
     → builder.cut ≡ true → most < coalition_count g given
 whole_many h e = cut_is_many h.settled (sym h.keeps.cut_is ∙ e)

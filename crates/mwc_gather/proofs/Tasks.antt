@@ -11,7 +11,7 @@ not_last n j (One c) e l h = cc
 not_last n j (Done c) e l h = cc
 not_last n j (End c) e l h = cc
 
--- who took the word that ends the work took all slices that were given, and was told
+-- who took the word that ends the work took all slices that were given, and was dismissed
 pub all_taken : (n : ℕ) (s given : List ℕ) (last : Word) (left : List Word) (dismissed : Bool) → All (λ j. j < n) given → IsLast n last
     → (open_words s ++ last ∷ []) ++ left ≡ open_words given ++ end_words dismissed → (s ≡ given) × (dismissed ≡ true)
 all_taken n [] [] last left true a h e = (refl, refl)

@@ -7,7 +7,7 @@ use Rattle.mwc_gather.proofs.Slices.{starts_sending, whole_starts}
 use Rattle.mwc_gather.proofs.FirstWords.{none_sent, first_added, first_all, some_starts}
 
 -- of slice j, which has these coalitions, of which `wanted` are wanted, some are given and `left`
--- may still be; their words went into the pipe but for the parcel
+-- may still be; their words went into the pipe but for the buffer
 pub record UnderWay (all : List ℕ) (j wanted left : ℕ) (before : List Word) (to_come : List ℕ) (out row : List Word) : Type 0 where
   pub given : List ℕ
   pub split : all ≡ given ++ to_come

@@ -22,17 +22,17 @@ has_pieces g p part m l = grind (arith, piece_is)
 pub all_pieces : (g : Slicing) (parts : List Part) → All (IsPart g) parts → All (HasPieces g.slice) parts
 all_pieces g parts a = All-weaker (IsPart g) (HasPieces g.slice) (has_pieces g) parts a
 
--- how often a slice stands in all parts
+-- how often all parts have a slice
 count_is : (j : ℕ) (parts : List Part)
     → count_by (λ i. eqb i j) (flat_map (λ (p : Part). p.slices.items) parts) ≡ sum_by (times_in j) (part_slices parts)
 count_is j [] = refl
 count_is j (p ∷ parts) = grind (arith, nat_tests, common_steps, count_is j parts, sum_by-append, sum_by-cons)
 
--- where all slices are dealt, each stands in the parts once
+-- where all slices are given, the parts have each once
 pub assigned_each_once : {n : ℕ} (parts : List Part) → AreAssigned n (part_slices parts) → HasEachSliceOnce n parts
 assigned_each_once parts d j = count_is j parts ∙ assigned_once j d
 
--- each slice stands in a part
+-- each slice is in a part
 pub each_once : (n : ℕ) (parts : List Part) → HasEachSliceOnce n parts → (j : ℕ) → j < n → sum_by (times_in j) (part_slices parts) ≡ 1
 each_once n parts h j l = sym (count_is j parts) ∙ h j ∙ ap (λ (b : Bool). cond {A = ℕ} b 1 0) (lt-ltb j n l)
 
@@ -41,7 +41,7 @@ pub pieces_more : {X : Type 0} (f : X → List ℕ) (slice : ℕ → List ℕ) (
     → map f row ≡ map slice (range_with_len 0 n) → f x ≡ slice n → map f (row ++ x ∷ []) ≡ map slice (range_with_len 0 (n + 1))
 pieces_more f slice n row x e h = rw (map-append f row (x ∷ []), e, h) (sym (map-range_with_len_more slice 0 n n (omega arith)))
 
--- rows that stand for the same pieces, joined
+-- rows of the same pieces, joined
 pub same_joined : {X Y : Type 0} (f : X → List ℕ) (g : Y → List ℕ) (xs : List X) (ys : List Y) → map f xs ≡ map g ys
     → flat_map f xs ≡ flat_map g ys
 same_joined f g xs ys e = sym (flat_map-map (λ (l : List ℕ). l) f xs) ∙ ap (flat_map (λ (l : List ℕ). l)) e

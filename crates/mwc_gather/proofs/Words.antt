@@ -2,7 +2,7 @@
 use Rattle.mwc_gather.proofs.Imports.{is_end, ◌≡◌, ℕ, ◌+◌, ◌≤◌, Bool, true, false, ◌||◌, cond, List, [], ◌∷◌, ◌++◌, common_steps, arith}
 use Rattle.mwc_gather.proofs.Imports.{sum_by-cons, false≢true, Word, Open, One, Done, list_any, is_done, count_by, sum_by-append, End}
 
--- the words that tell that a slice is whole
+-- the words that say that a slice is whole
 done_more : (before row : List Word) → count_by is_done (before ++ row) ≡ count_by is_done before + count_by is_done row
 done_more before row = sum_by-append (λ (w : Word). cond (is_done w) 1 0) before row
 

@@ -1,4 +1,4 @@
--- Parts and what stands in them.
+-- Parts and what they have.
 use Rattle.std.specs.Prelude.{◌≡◌, ℕ, ◌<◌, ◌==◌, nat_lt, List, ◌∷◌, length, map, count_by, slice_index, slice_range, if◌then◌else◌}
 use Rattle.std.specs.List.{flat_map}
 use Rattle.mwc_gather.specs.declared.part.Part.{Part}
@@ -15,6 +15,6 @@ HasPieces slice p = (m : ℕ) → m < length p.slices.items → piece p m ≡ sl
 abbrev pub part_slices : List Part → List (List ℕ)
 part_slices parts = map (λ (p : Part). p.slices.items) parts
 
--- each of the slices 0 to n - 1 stands in the parts once, and no other number does
+-- the parts have each of the slices 0 to n - 1 once, and no other number
 abbrev pub HasEachSliceOnce : ℕ → List Part → Type 0
 HasEachSliceOnce n parts = (j : ℕ) → count_by (λ i. i == j) (flat_map (λ (p : Part). p.slices.items) parts) ≡ (if nat_lt j n then 1 else 0)

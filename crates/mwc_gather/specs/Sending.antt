@@ -23,7 +23,7 @@ Sends g j left before after broken sent.Cut = (after ≡ before ++ cut_words g j
 Sends g j left before after broken sent.Refused =
     (broken ≡ true) × ((words : List Word) × (after ≡ before ++ words) × IsPrefix words (sending g j left))
 
--- a sending that was not refused leaves the pipe as broken as it was, or as whole
+-- a sending that was not refused leaves the pipe as broken as before, or as whole
 abbrev pub BreaksOnlyIfRefused : Bool → Bool → Sent → Type 0
 BreaksOnlyIfRefused before after (sent.Whole rest) = after ≡ before
 BreaksOnlyIfRefused before after sent.Cut = after ≡ before

@@ -1,4 +1,4 @@
-//! What a desk is made of before its worker is started.
+//! The rings of one worker, and room for its part.
 ghost use Rattle.std.specs.Prelude.{◌≡◌, [], false, IfErr};
 ghost use Rattle.mwc_gather.specs.Inner.PartBuilders.{IsBuilderOf};
 ghost use Rattle.mwc_gather.specs.Inner.Fault.{IsEarly};
@@ -10,10 +10,10 @@ use crate::word_buffer::WORDS;
 use mwc_pipe::{RingIn, RingOut, ring};
 use std::alloc::Global;
 
-/// How many tasks a worker may be behind the gatherer.
+/// How many tasks may wait for a worker.
 const TASKS: usize = 2;
 
-/// What the constant is, as a number.
+/// For the prover: the number of the constant, which clauses name.
 fn is_this_number()
     ensures { TASKS ≡ 2 }
 {}
@@ -23,15 +23,15 @@ fn is_this_number()
 pub(crate) struct Channels {
     /// The end that the worker's words go into.
     pub out: RingIn,
-    /// The end that they come from.
+    /// The end that the worker's words come from.
     pub words: RingOut,
     /// The end that its tasks are put into.
     pub tasks: RingIn,
-    /// The end that they come from.
+    /// The end that its tasks come from.
     pub list: RingOut,
     /// Room for the slices that it is given.
     pub given: Vec<u16>,
-    /// Room for their ends.
+    /// Room for its part.
     pub builder: PartBuilder,
     ghost rings: { (words.ring ≡ out.ring) × (list.ring ≡ tasks.ring) },
     ghost no_words: { (out.accepted ≡ []) × (words.taken ≡ []) },
@@ -41,7 +41,7 @@ pub(crate) struct Channels {
 }
 
 impl Channels {
-    /// That of a worker that may be given `slices` slices.
+    /// Makes the channels of a worker that may be given `slices` slices.
     #[tactic(auto, using(std::proofs::lemmas::Grind::common_steps))]
     pub fn new(alloc: Global, slices: u16) -> Result<Channels, GatherFault>
         ensures { IfErr result IsEarly }

@@ -6,7 +6,9 @@ ghost use Rattle.mwc_gather.specs.declared.fault.GatherFault.TheVariants.{Memory
 use std::alloc::AllocError;
 use thiserror::Error;
 
-/// Why nothing was gathered: of several causes the first of `Start`, `Memory`, `Ring`, `TooMany`.
+/// Why nothing was gathered.
+///
+/// Of several causes it is the first of `Start`, `Memory`, `Ring` and `TooMany`.
 #[derive(Clone, Copy, Debug, Eq, Error, PartialEq)]
 pub enum GatherFault {
     /// The game has more minimal winning coalitions than were asked for.
@@ -39,8 +41,7 @@ impl From<council_game::Memory> for GatherFault {
     }
 }
 
-/// Returns which fault is answered where this one is met after `met`: Start before Memory, Memory
-/// before Ring, Ring before TooMany.
+/// Returns the first of two faults: Start, then Memory, then Ring, then TooMany.
 pub(crate) fn first_of(met: Option<GatherFault>, fault: GatherFault) -> GatherFault
     ensures { result ≡ first_of met fault }
 {

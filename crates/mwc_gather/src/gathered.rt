@@ -1,4 +1,4 @@
-//! All parts.
+//! The parts of all workers.
 ghost use Rattle.std.specs.Prelude.{◌≡◌, ℕ, ◌<◌, List, All, IfOk, map};
 ghost use Rattle.std.specs.List.{flat_map, range_with_len};
 ghost use Rattle.council_base.specs.Lists.{joined};
@@ -8,7 +8,7 @@ use crate::part::Part;
 use council_game::{Coalition, Memory};
 use std::alloc::Global;
 
-/// The parts of all workers, in which slices 0 to the last stand once each.
+/// The parts of all workers: together they have each slice once.
 #[derive(Drop)]
 pub struct Gathered {
     /// The part of each worker.

@@ -1,4 +1,4 @@
-//! Workers that run beside each other.
+//! The call that runs the workers.
 ghost use Rattle.std.specs.Prelude.{◌≡◌, ◌≢◌, ◌<◌, ◌≤◌, ◌^◌, All, List, ℕ, Option, Some, None, IfOk, IfErr, length, vec_len};
 ghost use Rattle.std.specs.Option.{is_some};
 ghost use Rattle.std.specs.List.{AllZip};
@@ -31,8 +31,9 @@ use std::thread::{Scope, Threads};
 
 /// Lists the minimal winning coalitions of the game, if there are at most `most`.
 ///
-/// Each worker runs in a thread of its own. Worker w begins with slice w; whoever has finished its
-/// slices gets the lowest slice that no worker has. The call returns after all workers have ended.
+/// Each worker runs in a thread of its own. Worker w begins with slice w; a worker that has
+/// finished its slices gets the lowest slice that no worker has. The call returns after all workers
+/// have ended.
 ///
 /// There are at most 10 bits, and no more than members; 1 to 16 workers; `most` is 1 to 4,000,000.
 ///
@@ -98,7 +99,7 @@ fn run<'s, E, R: Threads + Wait + Sync, G: SliceObserver + Sync>(
     combine_parts(job, workers, parts)
 }
 
-/// Returns all that was gathered, unless there is more than was asked for.
+/// Returns the parts together, unless they have more coalitions than were asked for.
 fn combine_parts<G>(
     job: &Job<'_, G>,
     workers: u8,
@@ -117,8 +118,10 @@ fn combine_parts<G>(
     })
 }
 
-/// Starts the workers, until one cannot be started, and returns their desks and why that was. Room
-/// for the desks is made first.
+/// Starts the workers, until one cannot be started.
+///
+/// Returns their handles, for which room is made first, and the fault of the one that did not
+/// start.
 #[tactic(auto, using(std::proofs::lemmas::Grind::common_steps))]
 fn open_all<'s, E, R: Threads + Wait + Sync, G: SliceObserver + Sync>(
     scope: &Scope<'s, E>,
@@ -148,7 +151,7 @@ fn open_all<'s, E, R: Threads + Wait + Sync, G: SliceObserver + Sync>(
     (handles, None)
 }
 
-/// Joins all workers, and returns the part of each, or the fault that is answered.
+/// Joins all workers, and returns the part of each, or the first fault.
 fn finish_all<R: Threads, G>(
     rt: &R,
     alloc: Global,

@@ -7,7 +7,9 @@ use council_game::Game;
 use std::marker::Model;
 use std::snapshot::Snapshot;
 
-/// A game behind a gate: the only way to the game is to pass. Contracts see the game.
+/// A game behind a gate: the only way to the game is to pass.
+///
+/// Contracts see the game.
 #[derive(Drop)]
 pub struct Guarded<'a, G> {
     game: &'a Game,
@@ -39,7 +41,7 @@ impl<'a, G: Gate> Guarded<'a, G> {
 }
 
 impl<'a, G: SliceObserver> Guarded<'a, G> {
-    /// Passes the gate for a worker and slice that it may hear of, and then returns the game.
+    /// Announces a worker and slice to an observer that takes them; returns the game.
     pub(crate) fn admit(&self, worker: u8, slice: u16) -> &Game
         requires { G.takes worker slice }
         ensures { result.now ≡ self.now }
@@ -65,7 +67,7 @@ impl<'a, G> Guarded<'a, G> {
         }
     }
 
-    /// Returns the game as proofs see it, which has no bytes.
+    /// For the prover: returns the game as proofs see it, which takes no bytes.
     pub(crate) fn seen(&self) -> Snapshot<Game>
         ensures { result.value ≡ self.now }
     {

@@ -1,4 +1,4 @@
-//! What the workers are to do.
+//! What the workers do.
 ghost use Rattle.std.specs.Prelude.{◌≡◌, ◌≤◌, length};
 ghost use Rattle.council_base.specs.declared.limits.TheConstants.{BITS, COALITIONS};
 
@@ -7,8 +7,7 @@ use crate::promise::GivenJob;
 use mwc_pipe::{RingIn, RingOut};
 use std::snapshot::Snapshot;
 
-/// What the workers are to do: to list the slices of the game at `bits` bits, up to `most`
-/// coalitions.
+/// What all workers do: list slices of the game at `bits` bits, up to `most` coalitions.
 #[derive(Drop)]
 pub(crate) struct Job<'a, G> {
     pub guarded: Guarded<'a, G>,
@@ -21,7 +20,7 @@ pub(crate) struct Job<'a, G> {
 }
 
 impl<'a, G> Job<'a, G> {
-    /// Returns the job as proofs see it, with a worker's ends of its two rings.
+    /// For the prover: returns the job with a worker's ends of its two rings.
     pub fn given(&self, out: &RingIn, tasks: &RingOut) -> GivenJob
         ensures game { result.game.value ≡ self.now.guarded }
         ensures asked { (result.bits ≡ self.now.bits) × (result.most ≡ self.now.most) }

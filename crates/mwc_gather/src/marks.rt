@@ -6,8 +6,9 @@ ghost use Rattle.mwc_gather.specs.Table.{IsFirstFree};
 use council_base::limits;
 use std::marker::Model;
 
-/// Which slice was given to which worker: a fixed table for up to 1024 slices. Contracts see the
-/// holder of each slice. No call takes memory.
+/// Which slice was given to which worker: a fixed table for up to 1024 slices.
+///
+/// Contracts see the holder of each slice. No call takes memory.
 #[derive(Drop)]
 pub struct Marks {
     slices: u16,

@@ -1,16 +1,16 @@
-//! The gate as the one function that passes it sees it.
+//! A gate, as the one function that passes it sees it.
 ghost use Rattle.std.specs.Prelude.{ℕ, ⊤};
 
 use council_base::Gate;
 
-/// An observer of slices, of which only this trait is known.
+/// Whoever is informed of the slices that workers examine.
 ///
 /// Code that may announce one worker and slice can announce no other.
 pub(crate) trait SliceObserver {
-    /// Which workers and slices it may hear of.
+    /// For the prover: the workers and slices that it may be informed of.
     ghost takes: { ℕ → ℕ → Type 0 };
 
-    /// Says that a worker is about to examine a slice.
+    /// Announces that a worker is about to examine a slice.
     fn announce(&self, worker: u8, slice: u16)
         requires { takes worker slice };
 
@@ -18,7 +18,7 @@ pub(crate) trait SliceObserver {
     fn report(&self, prefixes: u64, found: u64);
 }
 
-/// A gate may hear of any worker and slice.
+/// A gate may be informed of any worker and slice.
 impl<G: Gate> SliceObserver for G {
     ghost takes = { λ _ _. ⊤ };
 

@@ -6,7 +6,7 @@ ghost use Rattle.mwc_gather.specs.Pieces.{HasEnds};
 
 use council_game::Coalition;
 
-/// The slices of one worker, in the order given, their coalitions, and where each slice ends.
+/// The slices of one worker, their coalitions, and where each slice ends.
 #[derive(Drop)]
 pub struct Part {
     /// The slices, in the order given.
@@ -43,7 +43,7 @@ impl Part {
         &self.got[self.start(m)..self.ends[m] as usize]
     }
 
-    /// Returns how many coalitions come before that slice.
+    /// Returns how many coalitions come before the slice at place `m`.
     fn start(&self, m: usize) -> usize
         requires { m < length self.now.slices.items }
         ensures { result ≡ slice_index (0 ∷ self.now.ends.items) m }

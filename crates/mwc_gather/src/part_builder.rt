@@ -1,4 +1,4 @@
-//! A part as its words come.
+//! A part while its words come in.
 ghost use Rattle.std.specs.Prelude.{◌≡◌, [], ◌∷◌, length, None, IfOk, IfErr, true, false};
 ghost use Rattle.std.specs.List.{list_any};
 ghost use Rattle.mwc_pipe.specs.declared.word.Word.{Word};
@@ -13,20 +13,20 @@ use council_game::{Coalition, Memory};
 use mwc_pipe::Word;
 use std::alloc::Global;
 
-/// What is kept of the words of a worker; its part is made of it.
+/// What is kept of the words of a worker, of which its part is made.
 #[derive(Drop)]
 pub(crate) struct PartBuilder {
-    /// How many coalitions had come at the end of each slice.
+    /// How many coalitions there were at the end of each slice.
     pub ends: Vec<u32>,
-    /// The coalitions that have come.
+    /// The coalitions so far.
     pub got: Vec<Coalition>,
-    /// Whether a word told of a cut.
+    /// Whether a word said that the sending was cut.
     pub cut: bool,
-    /// Whether something was lost because there was no room for it. Nothing is kept after that.
+    /// Whether a growth was refused. Nothing is kept after that.
     pub out_of_memory: bool,
 }
 
-/// What the words of a row tell of their worker.
+/// What the words of a row say of their worker.
 #[derive(Clone, Copy)]
 pub(crate) struct Signals {
     /// Whether it has finished a slice.
@@ -36,7 +36,7 @@ pub(crate) struct Signals {
 }
 
 impl PartBuilder {
-    /// Makes the draft of no words, with room for the ends of `slices` slices.
+    /// Makes a builder of no words, with room for the ends of `slices` slices.
     ///
     /// # Errors
     ///
@@ -75,8 +75,9 @@ impl PartBuilder {
         }
     }
 
-    /// Keeps the words of a row, for whose coalitions room is made once, and returns what they
-    /// tell of the worker.
+    /// Keeps the words of a row, and returns what they say of the worker.
+    ///
+    /// Room for their coalitions is made once.
     pub fn add_row(&mut self, row: &[Word]) -> Signals
         ensures adds { AddsWords self.old row.now self.new }
         ensures full { FailsOnlyWithoutRoom self.old (length row.now) self.new }
@@ -98,11 +99,11 @@ impl PartBuilder {
         signals
     }
 
-    /// Notes a loss: nothing is kept from here on.
+    /// Notes that a growth was refused: nothing is kept from here on.
     pub fn set_out_of_memory(&mut self)
         ensures { self.new ≡ record self.old { out_of_memory = true } }
     {
-        // memory: the call that tells a loss
+        // memory: the call that notes a refused growth
         self.out_of_memory = true;
     }
 
@@ -110,7 +111,7 @@ impl PartBuilder {
     ///
     /// # Errors
     ///
-    /// `Memory` if words were lost, else `TooMany` if the sending was cut.
+    /// `Memory` if a growth was refused, else `TooMany` if the sending was cut.
     pub fn into_part(self, given: Vec<u16>) -> Result<Part, GatherFault>
         requires { fault_in_builder self ≡ None
             → HasEnds given.items self.ends.items (length self.got.items) }
@@ -118,7 +119,7 @@ impl PartBuilder {
         ensures fault { IfErr result (λ why. fault_in_builder self ≡ Some why) }
     {
         if self.out_of_memory {
-            // memory: a draft is lost where a growth was refused
+            // memory: a growth was refused
             return Err(GatherFault::Memory);
         }
         if self.cut {

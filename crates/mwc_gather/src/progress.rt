@@ -1,4 +1,4 @@
-//! How far the walk over a slice has come.
+//! Reports of how far the walk over a slice has come.
 ghost use Rattle.std.specs.Prelude.{◌≡◌, ◌<◌, ◌∷◌, [], MatchOption};
 
 use crate::guarded::Guarded;
@@ -33,7 +33,7 @@ impl Progress {
         self.found = 0;
     }
 
-    /// Reports if that is due, and returns how many visits there may be until it is due again.
+    /// Reports if that is due, and returns how many visits are left until it is due.
     fn visits_until_due<G: SliceObserver>(
         &mut self,
         guarded: &Guarded<'_, G>,

@@ -10,7 +10,7 @@ use std::thread::Promise;
 /// What a worker hands back: its closed end, and the end that its tasks came from.
 pub(crate) type Answer = (Result<Closed, Unfinished>, RingOut);
 
-/// What a worker was given, for proofs alone: a job as proofs see it, and its ends of two rings.
+/// For the prover: the job that a worker was given, and its ends of two rings.
 #[derive(Drop)]
 pub(crate) struct GivenJob {
     /// The game whose slices it lists.

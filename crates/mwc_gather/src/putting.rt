@@ -3,7 +3,7 @@ ghost use Rattle.std.specs.Prelude.{◌≡◌, ◌≤◌, ◌++◌, true, false,
 
 use mwc_pipe::{PipeIn, Refused, RingIn, Word};
 
-/// How far a row of words came.
+/// How much of a row of words a pipe accepted.
 #[derive(Clone, Copy)]
 pub(crate) struct RowOutcome {
     /// How many of its words were accepted, the first ones.
@@ -12,10 +12,9 @@ pub(crate) struct RowOutcome {
     pub refused: bool,
 }
 
-/// How the words of a row are put into a pipe, one behind the other, up to the first that is
-/// refused.
+/// Puts the words of a row into a pipe, in order, up to the first refusal.
 pub(crate) trait PutsRows<P: PipeIn<Word>> {
-    /// Puts the row in, as far as there is room.
+    /// Puts the row in, as far as there is room, and returns how far that was.
     fn put_row(out: &mut P, words: &[Word]) -> RowOutcome
         ensures count { result.accepted ≤ length words.now }
         ensures identity { P.identity out.new ≡ P.identity out.old }
@@ -25,7 +24,7 @@ pub(crate) trait PutsRows<P: PipeIn<Word>> {
         ensures whole { result.refused ≡ false → P.broken out.new ≡ P.broken out.old };
 }
 
-/// One word a call, into any pipe.
+/// Puts one word a call, into any pipe.
 pub(crate) struct WordByWord;
 
 impl<P: PipeIn<Word>> PutsRows<P> for WordByWord {
@@ -46,7 +45,7 @@ impl<P: PipeIn<Word>> PutsRows<P> for WordByWord {
     }
 }
 
-/// As many words a call as there is room for, into a ring.
+/// Puts as many words a call as there is room for, into a ring.
 pub(crate) struct RowByRow;
 
 impl PutsRows<RingIn> for RowByRow {

@@ -1,4 +1,4 @@
-//! Dealing slices to the workers while they run.
+//! The code that hands out slices to the workers while they run.
 ghost use Rattle.std.specs.Prelude.{◌≡◌, ◌<◌, ◌≤◌, ◌^◌, ◌++◌, List, All, length, replicate, true, false};
 ghost use Rattle.std.specs.List.{list_any};
 ghost use Rattle.council_base.specs.declared.limits.TheConstants.{WORKERS};
@@ -16,18 +16,19 @@ use crate::worker_handle::WorkerHandle;
 use mwc_pipe::Word;
 use std::sync::Wait;
 
-/// The deal of the slices to the workers.
+/// What hands out the slices to the workers.
 #[derive(Drop)]
 pub(crate) struct Scheduler {
     /// Which worker each slice was given to.
     pub marks: Marks,
-    /// Whether no further slice is given: from the beginning, where a worker could not be started.
+    /// Whether no further slice is given: from the beginning if a worker did not start.
     pub stopped: bool,
 }
 
 impl Scheduler {
-    /// Gives a worker that has finished its slices the lowest slice without a holder, or tells it
-    /// that there are no more. After a loss or a cut nothing more is given.
+    /// Gives a worker that has finished its slices the next one, or says there is none.
+    ///
+    /// It is the lowest slice without a holder. After a refused growth or a cut no slice is given.
     #[tactic(auto, using(std::proofs::lemmas::Grind::common_steps))]
     fn assign_next<R: Wait>(
         &mut self,
@@ -62,8 +63,9 @@ impl Scheduler {
         }
     }
 
-    /// Takes the words of the worker that are there, gives it a slice if it has finished the
-    /// others, and returns whether a word was there.
+    /// Takes the words of a worker that have arrived, and gives it the next slice.
+    ///
+    /// Returns whether a word had arrived.
     fn serve<R: Wait>(
         &mut self,
         rt: &R,
@@ -88,7 +90,7 @@ impl Scheduler {
         count > 0
     }
 
-    /// Deals one slice to each worker.
+    /// Gives one slice to each worker.
     #[tactic(auto, using(std::proofs::lemmas::Grind::common_steps))]
     fn assign_first<R: Wait, G>(
         &mut self,
@@ -106,8 +108,9 @@ impl Scheduler {
         }
     }
 
-    /// Deals the slices and reads the rings in turn, until each worker has sent its End. It waits
-    /// if no word is there.
+    /// Hands out the slices and reads the rings in turn, until each worker has ended.
+    ///
+    /// It waits if no word has arrived.
     #[tactic(auto, using(std::proofs::lemmas::Grind::common_steps))]
     pub fn read_all<R: Wait, G>(
         &mut self,

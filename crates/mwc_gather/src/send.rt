@@ -17,8 +17,10 @@ use mwc_pipe::{PipeIn, Word};
 use mwc_walk::Walk;
 use std::sync::Wait;
 
-/// Puts the words in, waits while the pipe is full, and returns false if the pipe refuses one for
-/// good. It rings the other bell for what it has put in, and sleeps at its own.
+/// Puts all words into a pipe, and waits while it is full.
+///
+/// Returns false if the pipe refuses a word for good. After words went in it wakes the other side;
+/// while it waits it sleeps until its own waker wakes it.
 #[tactic(auto, using(std::proofs::lemmas::Grind::common_steps))]
 pub(crate) fn send<W: PutsRows<P>, R: Wait, P: PipeIn<Word>>(
     rt: &R,
@@ -52,8 +54,9 @@ pub(crate) fn send<W: PutsRows<P>, R: Wait, P: PipeIn<Word>>(
     unreachable!()
 }
 
-/// Adds the word to the parcel, which is sent first if it is full. Returns false if the pipe
-/// refuses a word for good.
+/// Adds a word to the buffer, which is sent first if it is full.
+///
+/// Returns false if the pipe refuses a word for good.
 #[tactic(auto, using(std::proofs::lemmas::Grind::common_steps))]
 fn add<W: PutsRows<P>, R: Wait, P: PipeIn<Word>>(
     rt: &R,
@@ -80,8 +83,9 @@ fn add<W: PutsRows<P>, R: Wait, P: PipeIn<Word>>(
     true
 }
 
-/// Adds the last word to the parcel, and sends all of it. Returns false if the pipe refuses a word
-/// for good.
+/// Adds the last word to the buffer, and sends all of it.
+///
+/// Returns false if the pipe refuses a word for good.
 fn send_last<W: PutsRows<P>, R: Wait, P: PipeIn<Word>>(
     rt: &R,
     buffer: &mut WordBuffer,
@@ -124,7 +128,7 @@ pub fn send_slice<R: Wait, P: PipeIn<Word>, G: Gate>(
         (P.accepted out.new) (P.broken out.new) result }
     ensures unbroken { BreaksOnlyIfRefused (P.broken out.old) (P.broken out.new) result }
 {
-    // nobody waits beside it, so one bell stands for both
+    // no other thread waits for it: one waker serves both sides
     let waker = Waker::new();
     let pair = WakerPair {
         own: &waker,
@@ -133,9 +137,9 @@ pub fn send_slice<R: Wait, P: PipeIn<Word>, G: Gate>(
     send_slice_in_rows::<WordByWord, _, _, _>(rt, guarded, bits, slice, worker, left, out, pair)
 }
 
-/// Sends a slice as `send_slice` does, and informs the gate how far it has come. Only here a gate
-/// is passed: whatever sends a slice comes by. It rings the other bell for what it has put in,
-/// and sleeps at its own.
+/// Sends a slice as `send_slice` does, in rows, and informs the gate of progress.
+///
+/// This is the only function that passes a gate. After words went in it wakes the other side.
 pub(crate) fn send_slice_in_rows<W: PutsRows<P>, R: Wait, P: PipeIn<Word>, G: SliceObserver>(
     rt: &R,
     guarded: &Guarded<'_, G>,

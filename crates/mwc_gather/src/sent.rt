@@ -1,11 +1,11 @@
-//! What the sending of a slice answers.
+//! How the sending of a slice ended.
 
-/// What the sending of a slice answers.
+/// How the sending of a slice ended.
 #[derive(Clone, Copy, Debug, Eq, PartialEq)]
 pub enum Sent {
-    /// The whole slice was sent, and `left` coalitions may still be.
+    /// The whole slice was sent, and `left` more coalitions may be.
     Whole { left: u32 },
-    /// As many coalitions were sent as might be, and the slice is not finished.
+    /// The last coalition that may be sent was sent, and the slice is not finished.
     Cut,
     /// The pipe refused a word for good.
     Refused,

@@ -1,6 +1,6 @@
 //! Waiting that yields the processor.
 //!
-//! A thread that finds nothing to do looks again a few times, says that it is about to sleep,
+//! A thread that finds nothing to do looks again a few times, announces that it is about to sleep,
 //! looks once more, and sleeps until it is woken. After each sleep it looks an eighth less often,
 //! and after a look that found something twice as often. No contract depends on this. A lost
 //! wake-up costs one millisecond, the longest sleep.
@@ -14,10 +14,10 @@ use std::thread::Parker;
 use std::time::Duration;
 use std::{array, hint};
 
-/// How often a thread looks again at most before it sleeps.
+/// How often a thread looks again before it sleeps, at most.
 const MOST_LOOKS: u32 = 512;
 
-/// How often it does so at least.
+/// How often a thread looks again before it sleeps, at least.
 const FEWEST_LOOKS: u32 = 32;
 
 /// How many milliseconds a thread sleeps at most before it looks again.
@@ -42,21 +42,21 @@ impl Waker {
         }
     }
 
-    /// Wakes the thread where it sleeps, or is about to: there may be something for it to do.
+    /// Wakes the thread if it sleeps or is about to: it may have something to do.
     pub fn wake(&self) {
         if self.asleep.load(Ordering::SeqCst) && self.asleep.swap(false, Ordering::SeqCst) {
             self.parker.unpark();
         }
     }
 
-    /// A look found something to do: the thread may look twice as often.
+    /// Lets the thread look twice as often: a look found something to do.
     fn look_more_often(&self) {
         let looks = self.looks.load(Ordering::Relaxed);
         self.looks
             .store(MOST_LOOKS.min(looks.saturating_mul(2)), Ordering::Relaxed);
     }
 
-    /// The thread had to sleep: it looks an eighth less often.
+    /// Lets the thread look an eighth less often: it had to sleep.
     fn look_less_often(&self) {
         let looks = self.looks.load(Ordering::Relaxed);
         self.looks
@@ -64,7 +64,7 @@ impl Waker {
     }
 }
 
-/// The bell of the gatherer, and those of 16 workers.
+/// The wakers of the gatherer and of 16 workers.
 #[derive(Drop)]
 pub(crate) struct Wakers {
     pub gatherer: Waker,
@@ -79,7 +79,7 @@ impl Wakers {
         }
     }
 
-    /// The bells of the ring of a worker, as the gatherer sees them.
+    /// Returns the two wakers of a worker's rings, as the gatherer sees them.
     pub fn pair(&self, worker: usize) -> WakerPair<'_>
         requires { worker < WORKERS }
     {
@@ -90,7 +90,7 @@ impl Wakers {
     }
 }
 
-/// The bells of the two sides of a ring, as one of them sees them.
+/// The wakers of the two sides of a ring, as one of them sees them.
 #[derive(Clone, Copy)]
 pub(crate) struct WakerPair<'a> {
     /// What wakes this side.
@@ -99,12 +99,12 @@ pub(crate) struct WakerPair<'a> {
     pub other: &'a Waker,
 }
 
-/// How a thread has waited since there was last something to do.
+/// How a thread has waited since it last had something to do.
 #[derive(Drop)]
 pub(crate) struct Backoff {
     /// How often it looked again.
     looks: u32,
-    /// Whether it has said that it is about to sleep.
+    /// Whether it has announced that it is about to sleep.
     announced: bool,
     /// Whether it has slept.
     slept: bool,
@@ -119,7 +119,7 @@ impl Backoff {
         }
     }
 
-    /// There was something to do.
+    /// Starts again: there was something to do.
     pub fn renew(&mut self, waker: &Waker) {
         if self.looks > 0 && !self.slept {
             waker.look_more_often();
@@ -130,7 +130,7 @@ impl Backoff {
         *self = Backoff::new();
     }
 
-    /// There was nothing to do: returns when it is time to look again.
+    /// Waits until it is time to look again: there was nothing to do.
     pub fn wait<R: Wait>(&mut self, rt: &R, waker: &Waker) {
         if self.announced {
             waker

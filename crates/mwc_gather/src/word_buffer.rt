@@ -5,16 +5,19 @@ ghost use Rattle.mwc_gather.specs.declared.word_buffer.TheConstants.{WORDS};
 use mwc_pipe::Word;
 use std::marker::Model;
 
-/// How many words a parcel or a ring has room for: a worker may be that far ahead of the gatherer.
+/// How many words a buffer or a ring has room for.
+///
+/// A worker may be that far ahead of the gatherer.
 pub(crate) const WORDS: usize = 64;
 
-/// What the constant is, as a number: clauses name it.
+/// For the prover: the number of the constant, which clauses name.
 fn is_this_number()
     ensures { WORDS ≡ 64 }
 {}
 
-/// Up to 64 words that wait to be sent together. Contracts see the words. No call takes
-/// memory.
+/// Up to 64 words that wait to be sent together.
+///
+/// Contracts see the words. No call takes memory.
 #[derive(Drop)]
 pub(crate) struct WordBuffer {
     words: [Word; WORDS],
@@ -34,7 +37,7 @@ impl Model for WordBuffer {
 }
 
 impl WordBuffer {
-    /// No words.
+    /// Makes a buffer of no words.
     pub fn new() -> WordBuffer
         ensures { result ≡ [] }
     {
@@ -44,7 +47,7 @@ impl WordBuffer {
         }
     }
 
-    /// Whether there is no room for one more.
+    /// Returns whether there is no room for one more word.
     pub fn is_full(&self) -> bool
         ensures full { IsTrue result ↔ length self.now ≡ WORDS }
         ensures room { IsFalse result → length self.now < WORDS }
@@ -52,7 +55,7 @@ impl WordBuffer {
         self.count == WORDS
     }
 
-    /// Adds a word behind the others.
+    /// Adds a word after the others.
     pub fn push(&mut self, word: Word)
         requires { length self.old < WORDS }
         ensures { self.new ≡ self.old ++ word ∷ [] }
@@ -61,14 +64,14 @@ impl WordBuffer {
         self.count += 1;
     }
 
-    /// The words.
+    /// Returns the words.
     pub fn words(&self) -> &[Word]
         ensures { result.now ≡ self.now }
     {
         &self.words[..self.count]
     }
 
-    /// Lets all words go.
+    /// Removes all words.
     pub fn clear(&mut self)
         ensures { self.new ≡ [] }
     {

@@ -64,16 +64,17 @@ fn finish<R: Wait>(
     out.close()
 }
 
-/// Sends the slices that the tasks give, one after another, until a task that gives none, or until
-/// it has sent coalition number `most + 1`; then sends End and closes. It hands back the end that
-/// the tasks came from. It takes no memory.
+/// Sends the slices that the tasks give, one after another; then sends End and closes.
+///
+/// It stops at a task that gives no slice, or after coalition number `most + 1`. It hands back the
+/// end that the tasks came from. It takes no memory.
 ///
 /// There are at most 10 bits, and no more than members; `worker` is below 16, `most` 1 to
 /// 4,000,000. Both ends are new: `out` has accepted no word, and none was taken from `tasks`.
 ///
 /// # Errors
 ///
-/// Unfinished where `out` could not be finished.
+/// Returns `Unfinished` if `out` could not be finished.
 pub fn work<R: Wait, G: Gate>(
     rt: &R,
     guarded: &Guarded<'_, G>,
@@ -89,7 +90,7 @@ pub fn work<R: Wait, G: Gate>(
     requires fresh { (out.accepted ≡ []) × (tasks.taken ≡ []) }
     ensures { HasWorked (slicing guarded.now bits) most out tasks result }
 {
-    // nobody waits beside it, so one bell stands for both
+    // no other thread waits for it: one waker serves both sides
     let waker = Waker::new();
     let pair = WakerPair {
         own: &waker,
@@ -103,7 +104,9 @@ pub fn work<R: Wait, G: Gate>(
     run_worker(rt, &job, worker, out, tasks, pair)
 }
 
-/// As `work`. It rings the other bell for what it has put in or taken, and sleeps at its own.
+/// Works as `work` does, with wakers for both sides of its rings.
+///
+/// It wakes the other side after it has put words in or taken tasks, and sleeps until it is woken.
 #[tactic(auto, using(std::proofs::lemmas::Grind::common_steps))]
 pub(crate) fn run_worker<R: Wait, G: SliceObserver>(
     rt: &R,

@@ -40,7 +40,7 @@ pub(crate) struct WorkerHandle {
     pub given: Vec<u16>,
     /// Whether it has finished all slices that it was given.
     pub idle: bool,
-    /// Whether it was told that there are no more.
+    /// Whether it was sent the task that there are no more slices.
     pub dismissed: bool,
     /// Whether it has sent its End.
     pub ended: bool,
@@ -115,7 +115,9 @@ impl WorkerHandle {
         })
     }
 
-    /// Returns whether there is room for one more slice; if there is none, notes a loss.
+    /// Makes room for one more slice, and returns whether there is room.
+    ///
+    /// If there is none, the builder notes it.
     pub fn make_room(&mut self) -> bool
         ensures same { IsSameWorker self.old self.new }
         ensures room { IsTrue result → vec_len self.new.given < vec_capacity self.new.given }
@@ -146,7 +148,7 @@ impl WorkerHandle {
         self.idle = false;
     }
 
-    /// Tells the worker that there are no more slices.
+    /// Sends the worker the task that there are no more slices.
     pub fn dismiss<R: Wait>(&mut self, rt: &R, pair: WakerPair<'_>)
         requires { self.old.dismissed ≡ false }
         ensures same { IsSameWorker self.old self.new }
@@ -156,8 +158,7 @@ impl WorkerHandle {
         self.dismissed = true;
     }
 
-    /// Takes the words that are there into the front of the row, keeps what they tell, and returns
-    /// how many they are.
+    /// Takes the words that have arrived into a row, keeps them, and returns how many.
     pub fn read(&mut self, row: &mut [Word]) -> usize
         ensures worker { self.new.worker.promise ≡ self.old.worker.promise }
         ensures same { (self.new.given.items ≡ self.old.given.items)
@@ -206,20 +207,21 @@ impl WorkerHandle {
     }
 }
 
-/// Returns the fault of a ring that could not be finished: `Memory` if something was lost before.
+/// Returns the fault of a ring that could not be finished.
+///
+/// It is `Memory` if a growth was refused before.
 fn ring_fault(builder: &PartBuilder) -> GatherFault
     ensures { result ≡ (if builder.now.out_of_memory then GatherFault.Memory else GatherFault.Ring) }
 {
     if builder.out_of_memory {
-        // memory: a draft is lost where a growth was refused
+        // memory: a growth was refused
         GatherFault::Memory
     } else {
         GatherFault::Ring
     }
 }
 
-/// Puts a task into the ring, sleeps at its own bell while the ring is full, and then rings the
-/// other.
+/// Puts a task into the ring, and waits while it is full; then wakes the worker.
 fn put<R: Wait>(rt: &R, tasks: &mut RingIn, mut task: Word, pair: WakerPair<'_>)
     ensures ring { tasks.new.ring ≡ tasks.old.ring }
     ensures accepted { tasks.new.accepted ≡ tasks.old.accepted ++ task ∷ [] }

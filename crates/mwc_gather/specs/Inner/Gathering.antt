@@ -18,7 +18,7 @@ use Rattle.mwc_gather.specs.declared.part.Part.{Part}
 abbrev pub all_total : Slicing → ℕ
 all_total g = coalition_count g (range_with_len 0 g.slices)
 
--- the parts of all workers: all slices are dealt to them, each has the coalitions of its slices,
+-- the parts of all workers: all slices are given to them, each has the coalitions of its slices,
 -- and worker w begins with slice w
 pub record IsComplete (g : Slicing) (workers : ℕ) (parts : List Part) : Type 0 where
   pub a_part_each : length parts ≡ workers

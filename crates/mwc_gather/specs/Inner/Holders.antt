@@ -15,7 +15,7 @@ slices_held_by holders w = slices_from w 0 holders
 abbrev pub slices_by_worker : List ℕ → ℕ → List (List ℕ)
 slices_by_worker holders workers = map (slices_held_by holders) (range_with_len 0 workers)
 
--- each of the slices 0 to n - 1 has one holder, and each share has the slices of its worker, in
+-- each of the slices 0 to n - 1 has one holder, and each row has the slices of its worker, in
 -- ascending order
 pub record AreAssigned (n : ℕ) (part_slices : List (List ℕ)) : Type 0 where
   pub holders : List ℕ
@@ -28,6 +28,6 @@ abbrev pub AscendsFrom : ℕ → List ℕ → Type 0
 AscendsFrom n [] = Unit {0}
 AscendsFrom n (j ∷ js) = (n ≤ j) × AscendsFrom (j + 1) js
 
--- how often a number stands in a list
+-- how often a list has a number
 abbrev pub times_in : ℕ → List ℕ → ℕ
 times_in i s = sum_by (λ x. if x == i then 1 else 0) s

@@ -9,7 +9,7 @@ abbrev pub is_end : Word → Bool
 is_end (End cut) = true
 is_end _ = false
 
--- whether a word tells that a slice is whole
+-- whether a word says that a slice is whole
 abbrev pub is_done : Word → Bool
 is_done (Done j) = true
 is_done _ = false

@@ -9,7 +9,7 @@ use Rattle.mwc_gather.specs.Inner.PartBuilders.{IsBuilderOf}
 use Rattle.mwc_gather.specs.declared.part_builder.PartBuilder.{PartBuilder}
 use Rattle.mwc_gather.specs.declared.part.Part.{Part}
 
--- all that was given was sent whole, and the worker was told that there are no more
+-- all that was given was sent whole, and the worker was sent the task that there are no more
 pub record IsSentWhole (g : Slicing) (most : ℕ) (given : List ℕ) (dismissed : Bool) (words : List Word)
     : Type 0 where
   pub words_are : words ≡ wording g given ++ End false ∷ []
@@ -26,7 +26,7 @@ abbrev pub AreSettled : Slicing → ℕ → List ℕ → Bool → List Word → 
 AreSettled g most given dismissed words =
     IsSentWhole g most given dismissed words ⊎ IsCutShort g most given words
 
--- a draft of all words of a worker that was given these slices, and has ended
+-- what is built of all words of a worker that was given these slices, and has ended
 pub record HasAllWords (g : Slicing) (most : ℕ) (given : List ℕ) (dismissed : Bool) (builder : PartBuilder)
     : Type 0 where
   pub words : List Word

@@ -1,4 +1,4 @@
--- What the workers of some desks were given.
+-- What the workers of some handles were given.
 use Rattle.std.specs.Prelude.{◌≡◌, ◌≢◌, ℕ, ◌<◌, ◌≤◌, ◌^◌, Bool, true, List, Option, Some, None, All, length, map, replicate}
 use Rattle.std.specs.List.{AllWithin}
 use Rattle.mwc_gather.specs.Slicing.{Slicing}
@@ -37,16 +37,16 @@ view_of d = record { given = d.given.items; idle = d.idle; dismissed = d.dismiss
 abbrev pub views_of : List WorkerHandle → List WorkerView
 views_of handles = map view_of handles
 
--- what a desk's worker has sent, where its answer is a part
+-- what a worker has sent whose answer is a part
 pub record IsPartOfWorker (g : Slicing) (d : WorkerHandle) (p : Part) : Type 0 where
   pub slices : p.slices.items ≡ d.given.items
   pub part : IsPart g p
   pub well : HasNotFailed (view_of d)
   pub dismissed : d.dismissed ≡ true
 
--- what the end of a desk's worker may be answered, of which None is a part: whose worker was well
--- and told, or a fault other than Start; where something was lost it is Memory, and it is TooMany
--- only where the slices given have more coalitions than were asked for
+-- how the end of a worker may be answered, of which None is a part: the worker was dismissed and
+-- nothing failed; or a fault other than Start. If a growth was refused it is Memory, and it is
+-- TooMany only if the slices given have more coalitions than were asked for
 abbrev pub CanEndWith : Slicing → ℕ → WorkerHandle → Option GatherFault → Type 0
 CanEndWith g most d None = HasNotFailed (view_of d) × (d.dismissed ≡ true)
 CanEndWith g most d (Some why) = (why ≢ Start) × (d.builder.out_of_memory ≡ true → why ≡ Memory)
@@ -58,19 +58,18 @@ abbrev pub HasStarted : ℕ → ℕ → Option GatherFault → Type 0
 HasStarted workers started None = started ≡ workers
 HasStarted workers started (Some why) = (started < workers) × IsEarly why
 
--- the slices of the game are dealt to the desks; nothing is, where the deal was stopped early, from
--- its beginning
+-- the slices of the game are assigned to the workers; none is if a start failed early
 pub record AssignsTo (g : Slicing) (most : ℕ) (early : Bool) (scheduler : Scheduler) (handles : List WorkerHandle) : Type 0 where
   pub all_of : AllOf g most handles
   pub scheduling : AssignsInTurn g.slices (length handles) early scheduler.marks scheduler.stopped (views_of handles)
 
--- the first k desks were dealt to
+-- the first k workers had their turn
 pub record AssignsFirst (g : Slicing) (most : ℕ) (early : Bool) (scheduler : Scheduler) (k : ℕ) (handles : List WorkerHandle) : Type 0 where
   pub all_of : AllOf g most handles
   pub firsts : AssignsOneEach g.slices k early scheduler.marks scheduler.stopped (views_of handles)
   pub to_come : AllWithin (λ (d : WorkerHandle). IsFresh (view_of d)) handles k (length handles)
 
--- nothing is dealt yet, to the desks of workers that were given the job
+-- nothing is assigned yet to the workers, which were given the job
 abbrev pub CanAssign : {G : Type 0} → Job G → Scheduler → List WorkerHandle → Type 0
 CanAssign job scheduler handles = (length handles ≤ WORKERS) × AllOf (slices_of job) job.most handles × All IsFresh (views_of handles)
     × (scheduler.marks ≡ replicate (2 ^ job.bits) None)
