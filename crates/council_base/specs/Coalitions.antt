@@ -2,11 +2,11 @@
 use Rattle.std.specs.Prelude.{ℕ, ◌+◌, ◌-◌, ◌/◌, ◌%◌, ◌^◌, Bool, ◌==◌, List, length}
 use Rattle.std.specs.List.{filter, range_with_len}
 
--- in a game of n members, place p is in c where this binary digit of c is 1
+-- in a game of n members, place p is in c if this binary digit of c is 1
 unfoldable pub has : ℕ → ℕ → ℕ → Bool
 has n p c = c / 2 ^ (n - 1 - p) % 2 == 1
 
--- c with place p besides, which is not in c
+-- c together with place p, which is not in c
 unfoldable pub with_member : ℕ → ℕ → ℕ → ℕ
 with_member n p c = c + 2 ^ (n - 1 - p)
 

@@ -1,4 +1,4 @@
--- Lists that lie in pieces.
+-- Lists in pieces.
 use denote.Ref.{Bor}
 use Rattle.std.specs.Prelude.{ℕ, List}
 use Rattle.std.specs.List.{flat_map}

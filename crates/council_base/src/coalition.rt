@@ -5,10 +5,10 @@ ghost use Rattle.council_base.specs.Coalitions.{has, with_member, without, size}
 
 use std::marker::Model;
 
-/// A set of members.
+/// A set of members, as a number.
 ///
-/// It is held as its rank mask, a number of 40 binary digits: among n members, the member of rank
-/// place p is in it if digit n - 1 - p is 1. A clause sees the number.
+/// The number is the rank mask, a number of 40 binary digits: among n members, the member of rank
+/// place p is in it if digit n - 1 - p is 1. Contracts see the number.
 #[derive(Clone, Copy, Debug, PartialEq, Eq)]
 pub struct Coalition {
     mask: u64,

@@ -1,4 +1,4 @@
-//! What all crates share: coalitions, counts by size, lists by place, `Memory`, the limits, the
+//! The base of all crates: coalitions, counts by size, lists by place, `Memory`, the limits, the
 //! options of a run, the observer of its workers, readers and writers seen call by call, and text
 //! that is safe to show.
 #![tactic(auto)]

@@ -44,7 +44,7 @@ pub const CAPACITY: usize = 65_536;
 /// The most members of a game whose coalitions are all tried.
 pub const PLAIN_MEMBERS: usize = 20;
 
-/// Says what the limits are, as numbers: contracts and definitions name them.
+/// For the prover: the numbers of the limits, which contracts and definitions name.
 pub fn are_these_numbers()
     ensures members { MEMBERS ≡ 40 }
     ensures sizes { SIZES ≡ MEMBERS + 1 }

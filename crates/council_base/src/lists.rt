@@ -4,9 +4,9 @@ ghost use Rattle.std.specs.Prelude.{◌≡◌, ◌<◌, ℕ, IfOk, map};
 
 use std::alloc::{AllocError, Global};
 
-/// Lists what each number from 0 to `count - 1` gives.
+/// Lists what `made` returns for each number from 0 to `count - 1`.
 ///
-/// Room for the list is reserved before anything is made.
+/// Room for the list is reserved first.
 ///
 /// # Errors
 ///

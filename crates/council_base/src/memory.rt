@@ -1,8 +1,8 @@
-//! Want of memory.
+//! Out of memory.
 use std::alloc::{AllocError, AllocFailed};
 use thiserror::Error;
 
-/// Out of memory: an allocation was refused.
+/// A refused allocation: out of memory.
 #[derive(Clone, Copy, Debug, Error, PartialEq, Eq)]
 #[error("out of memory")]
 pub struct Memory;

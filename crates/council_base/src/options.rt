@@ -4,7 +4,7 @@ ghost use Rattle.std.specs.Prelude.{◌≤◌};
 
 use crate::report_lines::ReportLines;
 
-/// The options of a run. The type keeps each number in its range.
+/// The options of a run, each number in its range.
 #[derive(Clone, Copy, Debug, PartialEq, Eq)]
 pub struct Options {
     /// The number of worker threads, 1 to 16.

@@ -1,8 +1,8 @@
-//! The optional lines of a report.
+//! Which optional lines a report has.
 ghost use Rattle.council_base.specs.Options.{without_list};
 ghost use Rattle.std.specs.Prelude.{◌≡◌};
 
-/// Which optional lines a report has, besides those that each report has.
+/// The optional lines of a report.
 #[derive(Clone, Copy, Debug, PartialEq, Eq)]
 pub struct ReportLines {
     /// A line for each minimal winning coalition.
@@ -14,7 +14,7 @@ pub struct ReportLines {
 }
 
 impl ReportLines {
-    /// Returns the same lines, but none for a coalition.
+    /// Returns these lines without a line for each coalition.
     pub fn without_list(self) -> ReportLines
         ensures { result ≡ without_list self }
     {

@@ -1,9 +1,10 @@
 //! Text from outside, made safe to show in a line on a terminal.
 use std::fmt::{self, Display, Formatter, Write};
 
-/// The letters that show nothing, from the first to the last of each range: those that Unicode
-/// lists as default ignorable code points, and then separators of lines, the marks of annotations,
-/// a blank of Braille, and codes that are no letters.
+/// The letters that show nothing, as ranges, first and last.
+///
+/// They are those that Unicode lists as default ignorable code points, and then separators of
+/// lines, the marks of annotations, a blank of Braille, and codes that are no letters.
 const INVISIBLE: &[(u32, u32)] = &[
     (0xAD, 0xAD),
     (0x34F, 0x34F),
@@ -28,8 +29,10 @@ const INVISIBLE: &[(u32, u32)] = &[
     (0xFDD0, 0xFDEF),
 ];
 
-/// Whether a letter must not stand in a line on a terminal: it moves the terminal, ends a line,
-/// turns the direction of writing, shows nothing, or is a blank of another width.
+/// Returns whether a letter can do harm in a line on a terminal.
+///
+/// It moves the terminal, ends a line, turns the direction of writing, shows nothing, or is a blank
+/// of another width.
 fn is_harmful(letter: char) -> bool {
     let code = u32::from(letter);
     letter.is_control()
@@ -40,8 +43,7 @@ fn is_harmful(letter: char) -> bool {
             .any(|(first, last)| *first <= code && code <= *last)
 }
 
-/// A writer that passes on the letters that are `left`, dots instead of the next one, and none
-/// after it.
+/// A writer that passes on `left` letters, dots instead of the next one, and no more.
 #[derive(Drop)]
 struct Cut<'a, W> {
     writer: &'a mut W,
@@ -65,15 +67,17 @@ impl<W: Write> Write for Cut<'_, W> {
     }
 }
 
-/// Text from outside that is safe to show.
+/// Text from outside, safe to show.
 #[derive(Drop)]
 pub struct Sanitized<T> {
     what: T,
     most: usize,
 }
 
-/// Makes text from outside safe to show: at most `most` characters of it, with a blank instead of
-/// each that moves a terminal, ends a line, turns the direction of writing, or shows nothing.
+/// Makes text from outside safe to show, at most `most` characters of it.
+///
+/// It shows a blank instead of each letter that moves a terminal, ends a line, turns the direction
+/// of writing, or shows nothing.
 pub fn sanitize<T: Display>(what: T, most: usize) -> Sanitized<T> {
     Sanitized { what, most }
 }

@@ -8,7 +8,7 @@ use crate::limits;
 /// How many coalitions there are of each size, from 0 to 40 members.
 pub type SizeCounts = [u64; limits::SIZES];
 
-/// Adds numbers of coalitions to others, size by size.
+/// Adds `more` to `sum`, size by size.
 pub fn add_counts(sum: &mut SizeCounts, more: &SizeCounts)
     requires { (s : ℕ) → s ≤ MEMBERS → slice_index sum.old s + slice_index more.now s < 2 ^ 64 }
     ensures { AreAdded sum.old more.now sum.new }

@@ -1,4 +1,4 @@
-//! The command line of the program, and what it prints if there is nothing to do.
+//! The command line of the program, and what it prints if it cannot run.
 use crate::words::{Arguments, WordsFault, read_words};
 use clap::Error;
 use clap::error::ErrorKind;
@@ -8,13 +8,13 @@ use std::env::{Env, FillError};
 use std::io;
 use std::process::ExitCode;
 
-/// Says on standard error that memory ran out; the status for it, 5.
+/// Reports on standard error that memory ran out, and returns the status 5.
 pub fn out_of_memory(rt: &impl Eprint) -> ExitCode {
     let _ = eprintln!(rt; "council: out of memory");
     ExitCode::from(5)
 }
 
-/// Says why the words of the command line are not to be had.
+/// Reports why the words of the command line cannot be read, and returns the status.
 fn no_words(rt: &impl Eprint, error: io::Error) -> ExitCode {
     if error.kind() == io::ErrorKind::OutOfMemory {
         return out_of_memory(rt);
@@ -26,8 +26,9 @@ fn no_words(rt: &impl Eprint, error: io::Error) -> ExitCode {
 /// The name of the program, whatever path started it.
 const NAME: &[u8] = b"council";
 
-/// The words of the command line, of which the first is `NAME`. The path that started the program
-/// may be no UTF-8, and is no argument.
+/// The words of the command line, of which the first is `NAME`.
+///
+/// The path that started the program may be no UTF-8, and is no argument.
 #[derive(Drop)]
 struct Named<'a, R>(&'a R);
 
@@ -67,8 +68,7 @@ pub fn collect_words(rt: &(impl AllocGlobal + Env + Eprint)) -> Result<Vec<Strin
     }
 }
 
-/// Prints what the parser of the command line says: a fault, or the text of `--help` or
-/// `--version`.
+/// Prints the text of the parser: a fault, or that of `--help` or `--version`.
 fn refuse(rt: &(impl Print + Eprint), error: &Error) -> ExitCode {
     if error.kind() == ErrorKind::OutOfMemory {
         return out_of_memory(rt);
@@ -84,7 +84,7 @@ fn refuse(rt: &(impl Print + Eprint), error: &Error) -> ExitCode {
     ExitCode::from(5)
 }
 
-/// Words as they can stand in a line.
+/// Makes the words safe to show in a line.
 fn sanitize_words(alloc: Global, words: &[String]) -> Result<Vec<String>, AllocError> {
     let mut sanitize_words = Vec::new(alloc);
     for word in words {
@@ -93,8 +93,7 @@ fn sanitize_words(alloc: Global, words: &[String]) -> Result<Vec<String>, AllocE
     Ok(sanitize_words)
 }
 
-/// Prints what the parser says of words that it refuses, or answers by a text: of the words as they
-/// can stand in a line.
+/// Prints the text of the parser on words that it refuses, with safe words.
 fn refuse_words(rt: &(impl AllocGlobal + Print + Eprint), words: &[String]) -> ExitCode {
     let Ok(words) = sanitize_words(rt.alloc(), words) else {
         return out_of_memory(rt);

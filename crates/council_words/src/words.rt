@@ -3,19 +3,19 @@ use clap::{Arg, ArgAction, ArgMatches, Command, Error, value_parser};
 use council_base::{Options, limits};
 use std::alloc::{AllocError, Global};
 
-/// Why there is nothing to do for a command line.
+/// Why a command line cannot be run.
 #[derive(Debug, Drop)]
 pub enum WordsFault {
-    /// By the parser, which also answers `--help` and `--version` so.
+    /// The parser refused it, or answers `--help` or `--version`.
     Parse(Error),
-    /// By a range, which the parser's own ranges do not let happen.
+    /// A number is out of range; the parser checks the ranges first.
     Range,
 }
 
 /// What a command line asks for.
 #[derive(Drop)]
 pub struct Arguments<'a> {
-    /// The game file; none if standard input is to be read.
+    /// The game file, or `None` if standard input is read.
     pub file: Option<&'a str>,
     /// The options of a run. A tally lists no coalition, and takes any number of them.
     pub options: Options,
@@ -31,7 +31,7 @@ power indices that rest on them, as exact fractions and with six decimals that
 are cut off: the Deegan-Packel index (Deegan and Packel 1978) and the public
 good index (Holler 1982; Holler and Packel 1983).";
 
-/// The version, and with which kit it was proved.
+/// The version, and the kit with which it was proved.
 const VERSION: &str = "1.2.0\nproved with rattle-kit-13f logic dac8208d650f15bf";
 
 const FORMS: &str = "A game file has one of two forms:
@@ -84,8 +84,9 @@ opened or read, 2 where the command line is wrong, 3 where the file has no game,
 4 where the game has more than --most coalitions, 5 where memory, a thread or
 the output failed.";
 
-/// An option that takes a number: how `--help` writes the number, what it is where none is given,
-/// and its range.
+/// An option that takes a number.
+///
+/// It has how `--help` writes the number, its default, and its range.
 #[derive(Clone, Copy)]
 struct Number {
     name: &'static str,
@@ -125,7 +126,7 @@ const NUMBERS: &[Number] = &[
     },
 ];
 
-/// The flags, what is said of them, and what does not go with them.
+/// The flags, their help, and what does not go with them.
 const FLAGS: &[(&str, &str, &[&str])] = &[
     ("list", "A line for each minimal winning coalition", &[]),
     ("sizes", "A line for each size of a coalition", &[]),
@@ -164,7 +165,7 @@ fn flag<'a>(
         .conflicts_with_all(others)
 }
 
-/// What the command takes, in the order of `--help`.
+/// Makes the arguments of the command, in the order of `--help`.
 fn make_arguments<'a>(alloc: Global) -> Result<Vec<Arg<'a>>, AllocError> {
     let file = "The game file; none, or -, is standard input";
     let mut arguments = Vec::new(alloc);
@@ -178,7 +179,7 @@ fn make_arguments<'a>(alloc: Global) -> Result<Vec<Arg<'a>>, AllocError> {
     Ok(arguments)
 }
 
-/// The game file that is named; none where standard input is to be read, as `-` says too.
+/// Returns the game file that is named, or `None` for standard input and `-`.
 fn file_of<'a>(matches: &ArgMatches<'a>) -> Option<&'a str> {
     match matches.get_str("FILE") {
         Some("-") => None,
@@ -186,7 +187,7 @@ fn file_of<'a>(matches: &ArgMatches<'a>) -> Option<&'a str> {
     }
 }
 
-/// Returns the options of a run; none if a number is missing or out of its range.
+/// Returns the options of a run, or `None` if a number is missing or out of range.
 fn options_of(matches: &ArgMatches<'_>) -> Option<Options> {
     let workers = matches.get_one::<u8>("workers")?;
     let bits = matches.get_one::<u8>("bits")?;
@@ -209,7 +210,7 @@ fn options_of(matches: &ArgMatches<'_>) -> Option<Options> {
     })
 }
 
-/// What the parser makes of the words.
+/// Parses the words.
 fn matches_of<'a>(alloc: Global, words: &'a [String]) -> Result<ArgMatches<'a>, Error> {
     let taken = make_arguments(alloc)?;
     Command::new(alloc, "council")
@@ -224,7 +225,7 @@ fn matches_of<'a>(alloc: Global, words: &'a [String]) -> Result<ArgMatches<'a>, 
 ///
 /// # Errors
 ///
-/// `Parse` where the parser refuses it, or answers `--help` or `--version`.
+/// `Parse` if the parser refuses it, or answers `--help` or `--version`.
 pub fn read_words<'a>(alloc: Global, words: &'a [String]) -> Result<Arguments<'a>, WordsFault> {
     match matches_of(alloc, words) {
         Ok(matches) => Ok(Arguments {

@@ -1,4 +1,4 @@
-//! Counts of a list that lies in pieces, by several threads.
+//! Counts of a list in pieces, by several threads.
 ghost use Rattle.council_base.specs.declared.limits.TheConstants.{MEMBERS, WORKERS};
 ghost use Rattle.council_game.specs.Game.{AreNonemptyCoalitions};
 ghost use Rattle.power_index.specs.Tables.{AreCounts, AreTallies};
@@ -13,7 +13,7 @@ use std::sync::Wait;
 use std::thread;
 use std::thread::{Promise, PromisedHandle, Scope, Threads};
 
-/// What a thread was given, for proofs alone: a stretch of a list in pieces.
+/// For the prover: the chunk of a list in pieces that a thread was given.
 #[derive(Clone, Copy)]
 pub(crate) struct GivenChunk<'s> {
     pub game: &'s Game,
@@ -31,7 +31,7 @@ impl<'s> Promise<Counts> for GivenChunk<'s> {
         (take t.most (drop t.skip (joined t.pieces.now))) counts };
 }
 
-/// A thread that counts a stretch.
+/// A thread that counts a chunk.
 type Counting<'s> = PromisedHandle<Counts, GivenChunk<'s>>;
 
 /// Returns how many coalitions pieces have together.
@@ -43,7 +43,7 @@ fn length_of(pieces: &[&[Coalition]]) -> usize
     pieces.iter().map(|piece| piece.len()).sum()
 }
 
-/// Counts at most `most` coalitions of a list in pieces, past its first `skip`.
+/// Counts at most `most` coalitions of a list in pieces, after its first `skip`.
 fn count_chunk(game: &Game, pieces: &[&[Coalition]], skip: usize, most: usize) -> Counts
     requires list { CanBeCounted game.now (joined pieces.now) }
     ensures { CountChunk game.now pieces.now skip most result }
@@ -61,10 +61,10 @@ fn count_chunk(game: &Game, pieces: &[&[Coalition]], skip: usize, most: usize) -
     counts
 }
 
-/// Counts a list of nonempty coalitions in pieces by 1 to 16 threads, the calling one included.
+/// Counts a list of nonempty coalitions in pieces by 1 to 16 threads.
 ///
-/// Each thread counts an equal stretch of the list, wherever the pieces end. The call waits for
-/// their end.
+/// The calling thread is one of them. Each counts an equal chunk of the list, wherever the pieces
+/// end. The call waits for their end.
 ///
 /// # Errors
 ///
@@ -101,7 +101,7 @@ pub fn tally_pieces<R: Threads + Wait + Sync>(
     )
 }
 
-/// Starts a thread that counts a stretch; none if it could not be started.
+/// Starts a thread that counts a chunk, or returns `None` if it cannot be started.
 fn start<'s, E>(
     scope: &Scope<'s, E>,
     game: &'s Game,
@@ -135,8 +135,7 @@ fn count_first(game: &Game, pieces: &[&[Coalition]], chunk: usize, counts: &mut 
     *counts = count_chunk(game, pieces, 0, chunk);
 }
 
-/// Joins the thread that counts the `chunk` coalitions after the first `skip`, and adds its
-/// counts to theirs.
+/// Joins a thread, and adds its counts to those of the coalitions before its chunk.
 #[inline(never)]
 fn add_chunk<'s, R: Threads>(
     rt: &R,
@@ -156,7 +155,7 @@ fn add_chunk<'s, R: Threads>(
     counts.add(&own);
 }
 
-/// Counts the first stretches of a list, of `chunk` coalitions each.
+/// Counts the first chunks of a list, of `chunk` coalitions each.
 ///
 /// The calling thread counts one, and `others` threads one each. It calls itself for each thread,
 /// so it keeps no counts of its own on the stack.

@@ -13,18 +13,17 @@ use council_game::Game;
 use mwc_walk::{Seek, Walk};
 use power_index::Counts;
 
-/// A gate is informed of each 1,048,576 prefixes or coalitions of a slice, and of the rest at its
-/// end.
+/// How many prefixes or coalitions of a slice there are between two reports.
 const REPORT_EVERY: u64 = 1 << 20;
 
-/// What the constant is, as a number: clauses name it.
+/// For the prover: the number of the constant, which clauses name.
 fn is_this_number()
     ensures { REPORT_EVERY ≡ 2 ^ 20 }
 {}
 
-/// Counts slice `j` of a game at `bits` bits, by a walk over it. It allocates nothing.
+/// Counts slice `j` of a game at `bits` bits, by a walk over it.
 ///
-/// There are at most 10 bits, and no more than members; `j` is below 2^bits.
+/// It allocates nothing. There are at most 10 bits, and no more than members; `j` is below 2^bits.
 pub fn tally_slice(game: &Game, bits: u8, j: u16) -> Counts
     requires few { bits ≤ BITS }
     requires bits { bits ≤ length game.now.names }
@@ -34,7 +33,7 @@ pub fn tally_slice(game: &Game, bits: u8, j: u16) -> Counts
     count_slice(SlicedGame { game, bits }, j, &NoGate)
 }
 
-/// Counts a slice, and informs a gate of progress.
+/// Counts a slice, and informs a gate of progress after each `REPORT_EVERY` steps.
 pub(crate) fn count_slice<G: Gate>(slices: SlicedGame<'_>, j: u16, gate: &G) -> Counts
     requires { j < 2 ^ slices.bits }
     ensures { AreTallies slices.entry.game.now (slice_of slices.entry j) result }

@@ -1,4 +1,4 @@
-//! What the workers of a tally share.
+//! The slices that the workers of a tally take.
 ghost use Rattle.std.specs.Prelude.{◌≡◌, IfOk};
 ghost use Rattle.mwc_tally.specs.Inner.SliceCounts.{AreThreadCounts};
 
@@ -10,7 +10,7 @@ use council_game::Memory;
 use std::alloc::Global;
 use std::sync::atomic::{AtomicU64, Ordering};
 
-/// The slices of a game, how many of them were taken, and the gate that workers pass.
+/// The slices of a game, how many were taken, and the gate that workers pass.
 #[derive(Drop)]
 pub(crate) struct SliceQueue<'a, G> {
     pub slices: SlicedGame<'a>,
@@ -33,7 +33,7 @@ impl<'a, G: Gate> SliceQueue<'a, G> {
         }
     }
 
-    /// Leaves no slice to be taken.
+    /// Leaves no slice for any worker.
     pub(crate) fn stop(&self) {
         self.taken
             .store(u64::from(self.slices.count()), Ordering::SeqCst);
@@ -60,13 +60,12 @@ impl<'a, G: Gate> SliceQueue<'a, G> {
         Ok(totals)
     }
 
-    /// Counts as `count` does. If memory runs out, it leaves nothing to the other workers, since
-    /// all is lost.
+    /// Counts as `count` does; if memory runs out, it stops the other workers.
     pub(crate) fn run(&self, alloc: Global, worker: u8) -> Result<ThreadCounts, Memory>
         ensures { IfOk result (AreThreadCounts self.now.slices) }
     {
         let totals = self.count(alloc, worker);
-        // memory: the one error of a share is Memory
+        // memory: the one error of these counts is Memory
         if totals.is_err() {
             self.stop();
         }

@@ -7,7 +7,7 @@ use council_game::{Game, Memory};
 use mwc_walk::slice_count;
 use std::thread::Promise;
 
-/// A game cut into slices: `bits` of its heaviest members are fixed in each.
+/// A game in slices: `bits` of its heaviest members are fixed in each.
 #[derive(Clone, Copy)]
 pub(crate) struct SlicedGame<'a> {
     pub game: &'a Game,
@@ -25,7 +25,7 @@ impl<'a> SlicedGame<'a> {
     }
 }
 
-/// A thread that was given these slices promises a share of them.
+/// A thread that was given these slices promises the counts of some of them.
 impl<'a> Promise<Result<ThreadCounts, Memory>> for SlicedGame<'a> {
     ghost use Rattle.std.specs.Prelude.{IfOk};
     ghost use Rattle.mwc_tally.specs.Inner.SliceCounts.{AreThreadCounts};

@@ -8,20 +8,23 @@ use council_game::{Memory, limits};
 use power_index::Counts;
 use std::alloc::Global;
 
-/// No game has more minimal winning coalitions.
+/// The most minimal winning coalitions that a game can have.
 const MOST: u64 = 1 << limits::MEMBERS;
 
-/// The counts of some slices of a game together, and which slices these are, in the order in which
-/// they were added.
+/// The counts of the slices that one thread took, and which slices these are.
+///
+/// The slices are in the order in which they were added.
 #[derive(Drop)]
 pub(crate) struct ThreadCounts {
     pub taken: Vec<u16>,
-    /// On the heap: a thread returns its share by value, and its stack may be small.
+    /// On the heap: a thread returns its counts by value, and its stack may be small.
     pub counts: Box<Counts>,
 }
 
 impl ThreadCounts {
-    /// Returns the share of no slice. (Out of line: inlined, it would cost stack on every call.)
+    /// Returns the counts of no slice.
+    ///
+    /// Kept out of line: inlined, it would cost stack on every call.
     #[inline(never)]
     pub(crate) fn none(alloc: Global, slices: SlicedGame<'_>) -> Result<ThreadCounts, Memory>
         ensures { IfOk result (AreThreadCounts slices.entry) }
@@ -35,8 +38,8 @@ impl ThreadCounts {
 
     /// Adds the counts of further slices.
     ///
-    /// If there were more coalitions than any game has, it adds nothing, and `whole` finds that
-    /// slices are missing. Nor does it add anything if an allocation was refused.
+    /// It adds nothing if an allocation was refused, or if there were more coalitions than any game
+    /// has: then `whole` finds that slices are missing.
     pub(crate) fn add(
         &mut self,
         slices: SlicedGame<'_>,
@@ -70,7 +73,7 @@ impl ThreadCounts {
     }
 }
 
-/// Returns whether a row of numbers is 0, 1, .. up to, but not, `count`.
+/// Returns whether a row of numbers is 0, 1, .. up to `count - 1`.
 #[tactic(auto, using(crate::proofs::Counting::each_once))]
 fn is_each_once(row: &[u16], count: u16) -> bool
     ensures { result ≡ true → row.now ≡ range_with_len 0 count }

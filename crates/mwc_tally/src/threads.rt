@@ -1,4 +1,4 @@
-//! The counts of all slices.
+//! The counts of all slices, by threads.
 ghost use Rattle.std.specs.Prelude.{◌≡◌, ◌≤◌, All, length, IfOk, MatchOption, ⊤};
 ghost use Rattle.council_base.specs.declared.limits.TheConstants.{BITS, WORKERS};
 ghost use Rattle.power_index.specs.Tables.{AreCountsOfGame};
@@ -65,7 +65,7 @@ pub fn tally<R: Threads + Wait + Sync, G: Gate + Sync>(
     }
 }
 
-/// Starts worker `worker`; none if it could not be started.
+/// Starts a worker, and returns its thread, or `None` if it could not be started.
 fn start<'s, E, G: Gate + Sync>(
     scope: &Scope<'s, E>,
     alloc: Global,
@@ -81,7 +81,7 @@ fn start<'s, E, G: Gate + Sync>(
     scope.spawn_with(queue.slices, body).ok()
 }
 
-/// Starts the workers, until one cannot be started. Returns those that run.
+/// Starts the workers, until one cannot be started, and returns those that run.
 fn start_all<'s, E, G: Gate + Sync>(
     scope: &Scope<'s, E>,
     alloc: Global,
@@ -124,7 +124,7 @@ fn count_in_threads<'s, E, R: Threads, G: Gate + Sync>(
     Ok(totals?)
 }
 
-/// Joins all threads, and adds what they counted to a share.
+/// Joins all threads, and adds up what they counted.
 fn join_all<'s, R: Threads>(
     rt: &R,
     slices: SlicedGame<'s>,
@@ -145,11 +145,13 @@ fn join_all<'s, R: Threads>(
             Err(_) => out_of_memory = true,
         }
     }
-    // memory: a share that was lost, or not added
+    // memory: counts that were refused, or not added
     if out_of_memory { Err(Memory) } else { Ok(all) }
 }
 
-/// Counts all slices one after the other. (This fallback never runs: each slice is taken once.)
+/// Counts all slices one after the other.
+///
+/// For the prover: this fallback never runs, since each slice is taken once.
 fn one_by_one<G: Gate>(
     alloc: Global,
     slices: SlicedGame<'_>,

@@ -26,7 +26,7 @@ AreThreadCounts s totals = AreThreadCountsAt s.game.now s.bits totals
 abbrev pub CountWhole : SlicedGame → Tables → Type 0
 CountWhole s t = AreCountsOfGame s.game.now t
 
--- of a list of coalitions those before what is to come are counted
+-- the coalitions of a list before those to come are counted
 pub record CountedUpTo (g : GameView) (whole to_come : List ℕ) (t : Tables) : Type 0 where
   pub before : List ℕ
   pub joined : before ++ to_come ≡ whole
