@@ -12,11 +12,11 @@ use Rattle.council_c.specs.declared.fault.Fault.TheVariants as fault
 use Rattle.council_c.specs.declared.options.CouncilOptions.{CouncilOptions}
 use Rattle.council_c.specs.Asked.{are_wrong, lines_of_call, limit_of}
 
--- a buffer has a text at its front, as much of it as fits, and behind it what was there before
+-- a buffer has a text at its front, as much of it as fits; the rest of the buffer is unchanged
 unfoldable pub Shows : List ℕ → List ℕ → List ℕ → Type 0
 Shows text before after = after ≡ take (length before) text ++ drop (length text) before
 
--- The text is that of the game that the bytes hold, its length is told, and the buffer shows it.
+-- The text is that of the game that the bytes hold, `len` is its length, and the buffer shows it.
 abbrev pub FillsBy : (GameView → List ℕ) → Option ℕ → List ℕ → List ℕ → List ℕ → ℕ → Type 0
 FillsBy text limit bytes before after len =
     (g : GameView) × Holds bytes (Ok g) × IsWithin limit g × (len ≡ length (text g)) × Shows (text g) before after
@@ -35,7 +35,7 @@ abbrev pub StopsCall : CouncilOptions → List ℕ → Fault → Type 0
 StopsCall o bytes fault.Options = are_wrong o ≡ true
 StopsCall o bytes (fault.Run why) = StopsOn (report (lines_of_call o)) (limit_of o) bytes why
 
--- the buffer shows some words, and their length is told
+-- the buffer shows some text, and `len` is its length
 abbrev pub Tells : List ℕ → List ℕ → ℕ → Type 0
 Tells before after len = (words : List ℕ) × (len ≡ length words) × Shows words before after
 

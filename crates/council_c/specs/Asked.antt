@@ -9,7 +9,7 @@ use Rattle.council_c.specs.declared.options.CouncilOptions.{CouncilOptions}
 abbrev pub are_wrong : CouncilOptions → Bool
 are_wrong o = nat_lt COALITIONS o.most || o.tally && (o.list || nat_lt 0 o.most)
 
--- how many minimal winning coalitions are kept at the most; 0 stands for a million
+-- how many minimal winning coalitions are kept at most; 0 means a million
 abbrev pub most_of : CouncilOptions → ℕ
 most_of o = if o.most == 0 then 1000000 else o.most
 

@@ -5,11 +5,13 @@ use crate::filled::fill;
 use crate::options::CouncilOptions;
 use std::alloc::Global;
 
-/// Reads the bytes of a game and puts its report into `text`, or the words of the fault that
-/// stopped it, as much of either as fits, with no byte behind it. `length` is then how long it is
-/// whole: where that is more than `text` has room for, the call may be made again with more. The
-/// answer is the status, as the program ends with it: 0 for a report, 2 for options that no call
-/// takes, 3 for a fault of the game, 4 for too many coalitions, and 5 for want of memory.
+/// Reads the bytes of a game, and puts its report into `text`.
+///
+/// If there is none, it puts in the text of the fault. Either is cut off if it does not fit, and
+/// has no byte after it. `length` becomes the length of the whole text: if that is more than `text`
+/// has room for, call again with a longer one. The result is the status that the program would end
+/// with: 0 for a report, 2 for options that no call takes, 3 for a fault of the game, 4 for too
+/// many coalitions, and 5 for out of memory.
 ///
 /// It starts no thread, keeps nothing from one call to the next, and gives out no memory. Calls may
 /// run at the same time, each on its own buffers.

@@ -8,10 +8,10 @@ use council_run::{Cause, RunFault, status};
 use std::fmt::Write;
 use thiserror::Error;
 
-/// No fault has more words than fit these bytes.
+/// The most bytes of the text of a fault.
 const WORDS: usize = 100;
 
-/// Why there is no report. The words are the program's.
+/// Why there is no report, with the texts of the program.
 #[derive(Clone, Copy, Debug, Error)]
 pub enum Fault {
     /// No call takes the options.
@@ -23,7 +23,7 @@ pub enum Fault {
 }
 
 impl Fault {
-    /// Returns the status of a call that it stopped.
+    /// Returns the status of a call that this fault stopped.
     pub(crate) fn status(self) -> u32
         ensures { result ≡ status_of_call self }
     {
@@ -33,7 +33,7 @@ impl Fault {
         }
     }
 
-    /// Puts its words into a buffer, as many as fit, and returns how many bytes they have.
+    /// Puts its text into a buffer, as much as fits, and returns how long the text is.
     pub(crate) fn put_words(self, room: &mut [u8]) -> u64
         ensures { Tells room.old room.new result }
     {

@@ -35,7 +35,7 @@ fn write_length(
     }
 }
 
-/// Puts the report of a game into a buffer, as much of it as fits, and returns how long it is.
+/// Puts the report of a game into a buffer, as much as fits, and returns its length.
 fn put_report(
     alloc: Global,
     game: &Game,
@@ -54,7 +54,7 @@ fn put_report(
         Err(ReportFault::Write { .. }) if page.bytes().len() == room.len() => {
             write_length(alloc, game, found, lines)?
         }
-        // memory: a page with room left fails where it cannot grow
+        // memory: a page with room left fails if it cannot grow
         Err(_) => return Err(Memory),
     };
     put(page.bytes(), room);
@@ -117,8 +117,7 @@ fn put_tally(
     put_found(alloc, &game, found, options.lines(), room)
 }
 
-/// Puts the report of the game in some bytes into a buffer, as much of it as fits. It returns how
-/// long the report is.
+/// Puts the report of a game file into a buffer, as much as fits; returns its length.
 ///
 /// # Errors
 ///

@@ -5,15 +5,15 @@ ghost use Rattle.council_c.specs.Asked.{are_wrong, lines_of_call, most_of};
 
 use council_base::{Options, limits};
 
-/// How many coalitions a call keeps if it is not told.
+/// How many coalitions a call keeps by default.
 const USUAL: u32 = 1_000_000;
 
-/// The options of a call. With each field 0 it writes a plain report.
+/// The options of a call: with each field 0 it writes a plain report.
 #[repr(C)]
 #[derive(Clone, Copy)]
 pub struct CouncilOptions {
-    /// The greatest number of minimal winning coalitions that are kept, 1 to 4,000,000; 0 stands
-    /// for 1,000,000.
+    /// The greatest number of minimal winning coalitions that are kept, 1 to 4,000,000; 0 means
+    /// 1,000,000.
     pub most: u32,
     /// Count the coalitions, any number, and keep none; not with `list` or `most`.
     pub tally: bool,
@@ -26,7 +26,7 @@ pub struct CouncilOptions {
 }
 
 impl CouncilOptions {
-    /// Returns the options of a run in one thread; none if no call takes them.
+    /// Returns the options of a run in one thread, or `None` if no call takes them.
     pub(crate) fn options(&self) -> Option<Options>
         ensures { MatchOption result (are_wrong self.now ≡ true)
             (λ o. (o.most ≡ most_of self.now) × (lines_of o ≡ lines_of_call self.now)

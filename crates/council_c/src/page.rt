@@ -7,8 +7,9 @@ use std::alloc::Global;
 use std::io;
 use std::io::Write;
 
-/// The beginning of a text, as much of it as fits its bytes. A write takes what there is room for,
-/// and in the end nothing. It fails where the page cannot grow.
+/// The beginning of a text, as much of it as fits the buffer.
+///
+/// A write takes what there is room for, and in the end nothing. It fails if the page cannot grow.
 #[derive(Drop)]
 pub(crate) struct Page {
     bytes: Vec<u8>,
@@ -16,7 +17,7 @@ pub(crate) struct Page {
 }
 
 impl Page {
-    /// Nothing is written yet.
+    /// Makes a page with nothing written.
     pub(crate) fn new(alloc: Global, room: usize) -> Page
         ensures bytes { result.bytes.items ≡ [] }
         ensures room { result.room ≡ room }
@@ -27,7 +28,7 @@ impl Page {
         }
     }
 
-    /// What is written.
+    /// Returns what is written.
     pub(crate) fn bytes(&self) -> &[u8]
         ensures { result.now ≡ self.now.bytes.items }
     {

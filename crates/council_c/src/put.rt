@@ -1,7 +1,7 @@
 //! A text in a buffer.
 ghost use Rattle.council_c.specs.Answer.{Shows};
 
-/// Puts a text to the front of a buffer, as much of it as fits.
+/// Copies a text to the front of a buffer, as much of it as fits.
 pub(crate) fn put(text: &[u8], room: &mut [u8])
     ensures { Shows text.now room.old room.new }
 {

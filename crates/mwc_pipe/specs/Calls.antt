@@ -1,4 +1,4 @@
--- The calls of a pipe, and the replies that they stand for.
+-- The calls of a pipe, and their replies.
 use Rattle.std.specs.Prelude.{◌≡◌, Bool, true, false, [], ◌∷◌, Option, Some, None, Result, Ok, Err, if◌then◌else◌}
 use Rattle.mwc_pipe.specs.declared.refused.Refused.{Refused}
 use Rattle.mwc_pipe.specs.declared.refused.Refused.TheVariants as refused
@@ -9,7 +9,7 @@ use Rattle.mwc_pipe.specs.declared.reply.Reply.TheVariants as reply
 use Rattle.mwc_pipe.specs.PipeView.{PipeView}
 
 module _ {T : Type 0} where
-  -- the reply to a put; a refusal for want of memory is none
+  -- the reply to a put; out of memory is none
   abbrev pub reply_of_put : Result Unit (Refused T) → Option (Reply T)
   reply_of_put (Ok _) = Some reply.Accepted
   reply_of_put (Err (refused.Closed x)) = Some reply.Closed

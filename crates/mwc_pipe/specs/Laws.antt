@@ -25,6 +25,6 @@ module _ {T : Type 0} where
       (k : ℕ) (step : Step T) → slice_get steps k ≡ Some step →
       slice_get (replies capacity steps) k ≡ Some (reply_to capacity (history capacity (take k steps)) step)
 
-  -- some history leaves the pipe as it is
+  -- some history leaves the pipe so
   abbrev pub HasPast : PipeView T → Type 0
   HasPast pipe = (past : List (Event T)) × Leaves past pipe

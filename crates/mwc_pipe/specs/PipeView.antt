@@ -16,8 +16,8 @@ module _ {T : Type 0} where
     pub lawful : IsLawful (items_in past) (items_out past) pipe.inside
     pub closed : pipe.closed ≡ has_close past
 
-  -- whatever the past was that left the pipe as it is: the reply is the one after that past,
-  -- and the past with this step leaves the pipe as it then is
+  -- whatever past left the pipe so: the reply is the one after that past, and the past with this
+  -- step leaves the pipe as the call does
   pub record IsStep (old : PipeView T) (step : Step T) (reply : Reply T) (new : PipeView T) : Type 0 where
     pub answers : (past : List (Event T)) → Leaves past old → reply ≡ reply_to old.capacity past step
     pub leads : (past : List (Event T)) → Leaves past old → Leaves (past ++ (step, reply) ∷ []) new

@@ -16,8 +16,8 @@ module _ {T : Type 0} where
   broken_after (Full x) broken = broken
   broken_after (Memory x) broken = true
 
-  -- the item comes behind those that were accepted, or is handed back; the pipe is as broken as
-  -- before, or by the refusal
+  -- the item follows those that were accepted, or is handed back; the pipe is as broken as before,
+  -- or by the refusal
   abbrev pub PutsIn : T → List T → Bool → Result Unit (Refused T) → List T → Bool → Type 0
   PutsIn item accepted broken (Ok _) after now = (after ≡ accepted ++ item ∷ []) × (now ≡ broken)
   PutsIn item accepted broken (Err e) after now = (handed_back e ≡ item) × (after ≡ accepted) × (now ≡ broken_after e broken)

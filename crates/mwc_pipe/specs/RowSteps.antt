@@ -10,8 +10,8 @@ module _ {T : Type 0} where
   put_refused [] = []
   put_refused (x ∷ xs) = (Put x, Full) ∷ []
 
-  -- what a call that puts the first n of a row stands for: n puts accepted, and where it stops
-  -- short, one more that is answered Full
+  -- the steps of a call that puts the first n of a row: n puts accepted, and if it stops short, one
+  -- more that is answered Full
   abbrev pub puts_of : List T → ℕ → List (Event T)
   puts_of row n = map (λ x. (Put x, Accepted)) (take n row) ++ put_refused (drop n row)
 
@@ -19,8 +19,8 @@ module _ {T : Type 0} where
   abbrev pub take_refused : Bool → List (Event T)
   take_refused short = if short then (Take, Empty) ∷ [] else []
 
-  -- what a call that takes these items stands for: as many takes answered by an item, and where it
-  -- stops short, one more that is answered Empty
+  -- the steps of a call that takes these items: as many takes answered by an item, and if it stops
+  -- short, one more that is answered Empty
   abbrev pub takes_of : List T → Bool → List (Event T)
   takes_of items short = map (λ x. (Take, Item x)) items ++ take_refused short
 

@@ -13,8 +13,9 @@ use crate::word::Word;
 use std::alloc::Global;
 use std::marker::Model;
 
-/// A pipe of words that is filled, and then closed. Contracts see its capacity, the words that
-/// it accepted, and whether a put was refused for good.
+/// A pipe of words that is filled, and then closed.
+///
+/// Contracts see its capacity, the words that it accepted, and whether a put was refused for good.
 #[derive(Drop)]
 pub struct Batch {
     pipe: Pipe<Word>,
@@ -34,7 +35,9 @@ impl Model for Batch {
 }
 
 impl Batch {
-    /// An empty batch with room for 1 to 2^23 words. It takes no memory.
+    /// Makes an empty batch with room for 1 to 2^23 words.
+    ///
+    /// It takes no memory.
     pub fn new(alloc: Global, capacity: u32) -> Self
         requires { (1 ≤ capacity) × (capacity ≤ 2 ^ 23) }
         ensures { result ≡ record { capacity = capacity; accepted = []; broken = false } }
@@ -45,7 +48,9 @@ impl Batch {
         }
     }
 
-    /// The words that were accepted, in a closed pipe. It takes no memory.
+    /// Returns the words that were accepted, in a closed pipe.
+    ///
+    /// It takes no memory.
     pub fn close(self) -> Pipe<Word>
         ensures { result
             ≡ record { capacity = self.capacity; inside = self.accepted; closed = true } }
@@ -65,12 +70,12 @@ impl PipeIn<Word> for Batch {
 
     ghost broken = { λ b. b.broken };
 
-    /// Puts a word in, behind all others.
+    /// Puts a word in, after all others.
     ///
     /// # Errors
     ///
-    /// Full where `capacity` words were accepted, else Memory where a growth was refused. It is
-    /// never refused as Closed.
+    /// `Full` if `capacity` words were accepted, else `Memory` if a growth was refused. It is never
+    /// refused as `Closed`.
     fn put(&mut self, item: Word) -> Result<(), Refused<Word>>
         ensures identity { self.new.capacity ≡ self.old.capacity }
         ensures put { PutsIn item self.old.accepted self.old.broken result
@@ -90,7 +95,7 @@ impl PipeIn<Word> for Batch {
             }
             Err(Refused::Memory(word)) => {
                 self.broken = true;
-                // memory: the pipe inside told it
+                // memory: the pipe inside refused it
                 Err(Refused::Memory(word))
             }
         }

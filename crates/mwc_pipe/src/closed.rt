@@ -1,11 +1,12 @@
-//! What a close leaves of the end of a ring that words were put into.
+//! A closed end of a ring.
 use crate::word::Word;
 use rtrb::Finished;
 use std::marker::Model;
 use thiserror::Error;
 
-/// What is left of an end that words were put into, once it is closed. Contracts see which ring
-/// it is of, and the words that were accepted.
+/// The closed in-end of a ring, which `RingOut::end` takes.
+///
+/// Contracts see which ring it is of, and the words that were accepted.
 #[derive(Drop)]
 pub struct Closed {
     pub(crate) finished: Finished<Word>,
@@ -22,7 +23,7 @@ impl Model for Closed {
         record { ring = ring_of_finished r.finished; accepted = all_sent r.finished } };
 }
 
-/// A ring could not be finished. It can never be ended.
+/// The fault of a ring that could not be finished: it can never be ended.
 #[derive(Clone, Copy, Debug, Eq, Error, PartialEq)]
 #[error("a ring could not be finished")]
 pub struct Unfinished;

@@ -1,30 +1,32 @@
-//! Laws of the definitions, each the contract of a function that does nothing.
+//! Laws of the definitions: free at run time, each is the contract of its function.
 ghost use Rattle.std.specs.Prelude.{ℕ, List};
 ghost use Rattle.mwc_pipe.specs.History.{replies};
 ghost use Rattle.mwc_pipe.specs.Laws.{NothingIsLost, NothingEntersAfterClose, EachReplyIsCounted, HasPast};
 ghost use Rattle.mwc_pipe.specs.PipeView.{PipeView};
 ghost use Rattle.mwc_pipe.specs.declared.step.Step.{Step};
 
-/// What came out is the beginning of what went in, and at most `capacity` items are left.
+/// States that what came out is the beginning of what went in.
+///
+/// At most `capacity` items are left.
 #[tactic(auto, using(crate::proofs::WholeRuns::laws))]
 pub fn nothing_is_lost<T>()
     ensures { (capacity : ℕ) (steps : List (Step T)) → NothingIsLost capacity steps }
 {}
 
-/// Each put after a close is answered Closed.
+/// States that each put after a close is answered Closed.
 #[tactic(auto, using(crate::proofs::WholeRuns::laws))]
 pub fn nothing_enters_after_close<T>()
     ensures { (capacity : ℕ) (steps : List (Step T))
         → NothingEntersAfterClose steps (replies capacity steps) }
 {}
 
-/// The reply to a step is counted from the steps before it and the replies to them.
+/// States that the reply to a step is counted from the steps and replies before it.
 #[tactic(auto, using(crate::proofs::WholeRuns::laws))]
 pub fn each_reply_is_counted<T>()
     ensures { (capacity : ℕ) (steps : List (Step T)) → EachReplyIsCounted capacity steps }
 {}
 
-/// Whatever a pipe holds, some history leaves it so.
+/// States that whatever a pipe holds, some history leaves it so.
 #[tactic(auto, using(crate::proofs::WholeRuns::laws))]
 pub fn each_pipe_has_a_past<T>()
     ensures { (pipe : PipeView T) → HasPast pipe }

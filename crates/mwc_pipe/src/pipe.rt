@@ -12,8 +12,9 @@ use std::collections::VecDeque;
 use std::marker::Model;
 use std::mem;
 
-/// A bounded queue that can be closed, in one thread. Contracts see its capacity, the items
-/// inside, oldest first, and whether it is closed.
+/// A bounded queue that can be closed, in one thread.
+///
+/// Contracts see its capacity, the items inside, oldest first, and whether it is closed.
 #[derive(Drop)]
 pub struct Pipe<T> {
     items: VecDeque<T>,
@@ -34,7 +35,9 @@ impl<T> Model for Pipe<T> {
 }
 
 impl<T> Pipe<T> {
-    /// An empty, open pipe with room for 1 to 2^23 items. It takes no memory.
+    /// Makes an empty, open pipe with room for 1 to 2^23 items.
+    ///
+    /// It takes no memory.
     pub fn new(alloc: Global, capacity: u32) -> Self
         requires { (1 ≤ capacity) × (capacity ≤ 2 ^ 23) }
         ensures { result ≡ record { capacity = capacity; inside = []; closed = false } }
@@ -46,12 +49,12 @@ impl<T> Pipe<T> {
         }
     }
 
-    /// Puts an item in, behind all others.
+    /// Puts an item in, after all others.
     ///
     /// # Errors
     ///
-    /// Hands the item back, and changes nothing: Closed after a close; else Full where `capacity`
-    /// items are inside; else Memory where a growth was refused.
+    /// Hands the item back, and changes nothing: Closed after a close; else Full if `capacity`
+    /// items are inside; else Memory if a growth was refused.
     pub fn put(&mut self, item: T) -> Result<(), Refused<T>>
         ensures ok { OnOk result
             (self.new ≡ record self.old { inside = self.old.inside ++ item ∷ [] }) }
@@ -74,7 +77,7 @@ impl<T> Pipe<T> {
         Ok(())
     }
 
-    /// Takes the oldest item out. It takes no memory.
+    /// Takes the oldest item out; it takes no memory.
     pub fn take(&mut self) -> Taken<T>
         ensures taken { TakesOut self.old result self.new }
         ensures step { IsStep self.old Take (reply_of_taken result) self.new }
@@ -86,7 +89,9 @@ impl<T> Pipe<T> {
         }
     }
 
-    /// Closes the pipe: the first close answers true, and a later one changes nothing.
+    /// Closes the pipe, and returns whether this was the first close.
+    ///
+    /// A later one changes nothing.
     #[tactic(auto, using(crate::proofs::Steps::stepping))]
     pub fn close(&mut self) -> bool
         ensures first { result ≡ not self.old.closed }
@@ -96,7 +101,7 @@ impl<T> Pipe<T> {
         !mem::replace(&mut self.closed, true)
     }
 
-    /// How many items are inside.
+    /// Returns how many items are inside.
     pub fn len(&self) -> u32
         ensures length { result ≡ length self.now.inside }
         ensures bound { result ≤ self.now.capacity }
@@ -104,14 +109,14 @@ impl<T> Pipe<T> {
         self.items.len() as u32
     }
 
-    /// How many items there is room for.
+    /// Returns how many items there is room for.
     pub fn capacity(&self) -> u32
         ensures { result ≡ self.now.capacity }
     {
         self.capacity
     }
 
-    /// Whether the pipe is closed.
+    /// Returns whether the pipe is closed.
     pub fn is_closed(&self) -> bool
         ensures { result ≡ self.now.closed }
     {

@@ -1,13 +1,15 @@
-//! What items can be put into.
+//! Pipes that items can be put into.
 ghost use Rattle.std.specs.Prelude.{◌≡◌, List, Bool};
 ghost use Rattle.mwc_pipe.specs.Refusal.{PutsIn};
 
 use crate::refused::Refused;
 
-/// What items can be put into. Contracts see what it accepted, whether it is broken, and which
-/// pipe it is, and nothing else.
+/// A pipe that items can be put into.
+///
+/// Contracts see the items that it accepted, whether it is broken, and which pipe it is, and
+/// nothing else.
 pub trait PipeIn<T> {
-    /// How a pipe is told from others.
+    /// The type of what identifies a pipe.
     ghost Identity: { Type 0 };
 
     /// Which pipe it is.
@@ -19,7 +21,9 @@ pub trait PipeIn<T> {
     /// Whether a put was refused for good.
     ghost broken: { Self → Bool };
 
-    /// Puts an item in, behind all others. No put changes which pipe it is.
+    /// Puts an item in, after all others.
+    ///
+    /// No put changes which pipe it is.
     ///
     /// # Errors
     ///

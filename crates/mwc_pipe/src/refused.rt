@@ -2,7 +2,9 @@
 use std::fmt::Debug;
 use thiserror::Error;
 
-/// Why a put was refused, with the item that is handed back. The reasons are checked in this order.
+/// Why a put was refused, with the item that is handed back.
+///
+/// The reasons are checked in this order.
 #[derive(Debug, Drop, Eq, Error, PartialEq)]
 #[error_bound(T: Debug)]
 pub enum Refused<T> {

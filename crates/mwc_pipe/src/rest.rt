@@ -5,8 +5,9 @@ use crate::word::Word;
 use rtrb::Consumer;
 use std::marker::Model;
 
-/// The words that were left in a ring when its ends met. Contracts see those still to come, in
-/// order.
+/// The words that were left in a ring when its ends met.
+///
+/// Contracts see those still to come, in order.
 #[derive(Drop)]
 pub struct Rest {
     pub(crate) consumer: Consumer<Word>,
@@ -23,8 +24,9 @@ impl Model for Rest {
 }
 
 impl Rest {
-    /// The next word that was left, and `None` for ever once there are no more. It takes no
-    /// memory.
+    /// Returns the next word that was left, or `None` after the last one.
+    ///
+    /// It takes no memory.
     pub fn next(&mut self) -> Option<Word>
         ensures { MatchOption result ((self.old ≡ []) × (self.new ≡ []))
             (λ w. self.old ≡ w ∷ self.new) }

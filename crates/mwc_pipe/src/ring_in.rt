@@ -13,8 +13,10 @@ use crate::word::Word;
 use rtrb::{Producer, PushError};
 use std::marker::Model;
 
-/// The end of a ring that words are put into. Contracts see which ring it is of, the capacity,
-/// the words that it accepted, and how many of them it knows to have been taken.
+/// The end of a ring that words are put into.
+///
+/// Contracts see which ring it is of, the capacity, the words that it accepted, and how many of
+/// them it knows to have been taken.
 #[derive(Drop)]
 pub struct RingIn {
     pub(crate) producer: Producer<Word>,
@@ -40,12 +42,13 @@ impl Model for RingIn {
 }
 
 impl RingIn {
-    /// Puts a word in, behind all others. The first `capacity` puts of a ring succeed. It takes
-    /// no memory.
+    /// Puts a word in, after all others.
+    ///
+    /// The first `capacity` puts of a ring succeed. It takes no memory.
     ///
     /// # Errors
     ///
-    /// Hands the word back where the ring is full as far as this end knows.
+    /// Hands the word back if the ring is full as far as this end knows.
     pub fn put(&mut self, word: Word) -> Result<(), Word>
         ensures ring { (self.new.ring ≡ self.old.ring) × (self.new.capacity ≡ self.old.capacity) }
         ensures ok { OnOk result (self.new.accepted ≡ self.old.accepted ++ word ∷ []) }
@@ -62,10 +65,11 @@ impl RingIn {
         }
     }
 
-    /// Puts the words of a row in, as many of them as there is room for, in their order, and says
-    /// how many. It stops short only where the ring is full as far as this end knows; the first
-    /// `capacity` words of a ring are taken in at once. However many they are, they come in by
-    /// one store. It takes no memory.
+    /// Puts as many words of a row in as there is room for, and returns how many.
+    ///
+    /// It stops short only if the ring is full as far as this end knows; the first `capacity` words
+    /// of a ring are accepted at once. However many they are, the ring is updated by one store. It
+    /// takes no memory.
     pub fn put_some(&mut self, words: &[Word]) -> usize
         ensures count { result ≤ length words.now }
         ensures ring { (self.new.ring ≡ self.old.ring) × (self.new.capacity ≡ self.old.capacity) }
@@ -80,12 +84,13 @@ impl RingIn {
         accepted.len()
     }
 
-    /// Closes the ring. The end is gone, so that no word can be put in after it. It takes no
-    /// memory.
+    /// Closes the ring and consumes the end, so no word can be put in after it.
+    ///
+    /// It takes no memory.
     ///
     /// # Errors
     ///
-    /// Unfinished where the ring could not be finished. It can then never be ended.
+    /// `Unfinished` if the ring could not be finished: then it can never be ended.
     pub fn close(self) -> Result<Closed, Unfinished>
         ensures { IfOk result (λ c. (c.ring ≡ self.ring) × (c.accepted ≡ self.accepted)) }
     {
@@ -106,11 +111,11 @@ impl PipeIn<Word> for RingIn {
 
     ghost broken = { λ _. false };
 
-    /// Puts a word in, behind all others.
+    /// Puts a word in, after all others.
     ///
     /// # Errors
     ///
-    /// Full where the ring is full, and no other refusal: a ring is never broken.
+    /// `Full` if the ring is full, and no other refusal: a ring is never broken.
     fn put(&mut self, item: Word) -> Result<(), Refused<Word>>
         ensures identity { self.new.ring ≡ self.old.ring }
         ensures put { PutsIn item self.old.accepted false result self.new.accepted false }

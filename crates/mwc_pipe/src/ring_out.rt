@@ -10,8 +10,10 @@ use crate::word::Word;
 use rtrb::Consumer;
 use std::marker::Model;
 
-/// The end of a ring that words are taken from. Contracts see which ring it is of, the words that
-/// were taken, and those that it knows to be inside.
+/// The end of a ring that words are taken from.
+///
+/// Contracts see which ring it is of, the words that were taken, and those that it knows to be
+/// inside.
 #[derive(Drop)]
 pub struct RingOut {
     pub(crate) consumer: Consumer<Word>,
@@ -32,7 +34,9 @@ impl Model for RingOut {
 }
 
 impl RingOut {
-    /// Takes the oldest word, or gives `None` where none is known yet. It takes no memory.
+    /// Takes the oldest word, or returns `None` if none is known yet.
+    ///
+    /// It takes no memory.
     pub fn take(&mut self) -> Option<Word>
         ensures ring { self.new.ring ≡ self.old.ring }
         ensures taken { MatchOption result
@@ -42,9 +46,10 @@ impl RingOut {
         self.consumer.pop().ok()
     }
 
-    /// Takes the oldest words into the front of a row, as many as are known and the row has room
-    /// for, and says how many. The rest of the row stays. It stops short only where no further
-    /// word is known. However many they are, they go by one store. It takes no memory.
+    /// Takes the oldest words into the front of a row, and returns how many.
+    ///
+    /// It takes as many as are known and the row has room for; the rest of the row is unchanged.
+    /// However many they are, the ring is updated by one store. It takes no memory.
     #[tactic(auto, using(crate::proofs::Counting::takes))]
     pub fn take_some(&mut self, into: &mut [Word]) -> usize
         ensures count { result ≤ length into.old }
@@ -60,8 +65,9 @@ impl RingOut {
         self.consumer.pop_partial_slice(into)
     }
 
-    /// Meets the closed end of the same ring: what was taken and what is left is what was
-    /// accepted. It takes no memory.
+    /// Meets the closed end of the same ring, and returns the words that are left.
+    ///
+    /// What was taken, followed by what is left, is what was accepted. It takes no memory.
     pub fn end(self, closed: Closed) -> Rest
         requires { closed.ring ≡ self.ring }
         ensures { IsLawful closed.accepted self.taken result }

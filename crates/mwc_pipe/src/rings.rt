@@ -1,4 +1,4 @@
-//! Making a ring.
+//! The call that makes a ring.
 ghost use Rattle.std.specs.Prelude.{◌≡◌, ◌≤◌, [], IfOk};
 ghost use Rattle.council_base.specs.declared.limits.TheConstants.{CAPACITY};
 
@@ -8,12 +8,13 @@ use council_base::Memory;
 use rtrb::RingBuffer;
 use std::alloc::Global;
 
-/// A ring with room for 1 to 65,536 words, and its two ends, of which each may move to a thread
-/// of its own.
+/// Makes a ring with room for 1 to 65,536 words, and returns its two ends.
+///
+/// Each end may move to a thread of its own.
 ///
 /// # Errors
 ///
-/// Memory where there was none for the words.
+/// `Memory` if there was none for the words.
 pub fn ring(alloc: Global, capacity: usize) -> Result<(RingIn, RingOut), Memory>
     requires { (1 ≤ capacity) × (capacity ≤ CAPACITY) }
     ensures pair { IfOk result (λ r. r.1.ring ≡ r.0.ring) }

@@ -29,13 +29,14 @@ pub struct Trace<T> {
     pub closed: bool,
 }
 
-/// Serves the steps, one after another, by a new pipe with room for 1 to 2^23 items. The items
-/// that came out, and after them those inside, are the items that went in, in their order; after
-/// a close none did.
+/// Serves steps, one after another, by a new pipe with room for 1 to 2^23 items.
+///
+/// The items that came out, and after them those inside, are the items that went in, in their
+/// order; after a close none did.
 ///
 /// # Errors
 ///
-/// Memory where a growth was refused.
+/// `Memory` if a growth was refused.
 #[tactic(auto, using(crate::proofs::WholeRuns::replaying))]
 pub fn replay<T: Copy>(alloc: Global, capacity: u32, steps: &[Step<T>]) -> Result<Trace<T>, Memory>
     requires { (1 ≤ capacity) × (capacity ≤ 2 ^ 23) }
@@ -58,7 +59,7 @@ pub fn replay<T: Copy>(alloc: Global, capacity: u32, steps: &[Step<T>]) -> Resul
 }
 
 impl<T: Copy> Trace<T> {
-    /// That of no step.
+    /// Makes the trace of no step.
     fn new(alloc: Global) -> Trace<T>
         ensures replies { result.replies.items ≡ [] }
         ensures came { result.came.items ≡ [] }
@@ -111,7 +112,7 @@ impl<T: Copy> Trace<T> {
     }
 }
 
-/// One step. Only a put may fail for memory.
+/// Serves one step; only a put may run out of memory.
 fn serve<T: Copy>(pipe: &mut Pipe<T>, step: Step<T>) -> Result<Reply<T>, Memory>
     ensures { IfOk result (λ reply. IsStep pipe.old step reply pipe.new) }
 {
@@ -137,7 +138,7 @@ fn serve<T: Copy>(pipe: &mut Pipe<T>, step: Step<T>) -> Result<Reply<T>, Memory>
     }
 }
 
-/// What is left inside, oldest first.
+/// Takes the items that are left inside, oldest first.
 fn items_of<T: Copy>(alloc: Global, mut pipe: Pipe<T>) -> Result<Vec<T>, Memory>
     ensures { IfOk result (λ items. items.items ≡ pipe.inside) }
 {

@@ -10,6 +10,6 @@ pub enum Word {
     One(Coalition),
     /// The slice of this number is whole.
     Done(u16),
-    /// Nothing more comes; cut says that a slice was not finished.
+    /// Nothing more comes; `cut` says that a slice was not finished.
     End { cut: bool },
 }
