@@ -17,7 +17,7 @@ met n rs f = list_all (λ r. nat_le r.quota (weighs n r f)) rs
 abbrev pub HasNoWeight : List RuleView → ℕ → Type 0
 HasNoWeight rules i = All (λ r. slice_index r.weights i ≡ 0) rules
 
--- members meet the rules of g exactly where they meet those of a and those of b, and no member has
+-- members meet the rules of g exactly if they meet those of a and those of b, and no member has
 -- weight in both
 pub record AreChambersOf (g a b : GameView) : Type 0 where
   pub first : length a.names ≡ length g.names

@@ -3,20 +3,19 @@ use Rattle.std.specs.Prelude.{ℕ, ◌*◌, ◌<◌, ◌≤◌, ◌==◌, ◌≡
 use Rattle.std.specs.List.{list_all, list_any, range_with_len}
 use Rattle.council_game.specs.Votes.{RuleView, Votes, rule_at, size, weight, minimal}
 
--- a rule that gives each of n members the same weight above 0, so that it asks for a number of
--- heads
+-- a rule that gives each of n members the same weight above 0: it asks for a number of heads
 pub record AsksForHeads (n heads : ℕ) (r : RuleView) : Type 0 where
   pub each : ℕ
   pub some : 0 < each
   pub same : (p : ℕ) → p < n → slice_index r.weights p ≡ each
   pub enough : (k : ℕ) → (r.quota ≤ k * each) ↔ (heads ≤ k)
 
--- the first rule alone
+-- only the first rule
 abbrev pub first_rule : Votes → Votes
 first_rule v = record v { rules = take 1 v.rules }
 
 -- a coalition has just as many members as heads and meets the first quota, or more members and is
--- minimal under the first rule alone
+-- minimal under only the first rule
 abbrev pub IsMinimalByHeads : Votes → ℕ → ℕ → Type 0
 IsMinimalByHeads v heads c =
     let rule = rule_at v.rules 0 in

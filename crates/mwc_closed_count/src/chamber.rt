@@ -8,8 +8,9 @@ ghost use Rattle.std.specs.Prelude.{◌≡◌, ◌<◌, ◌==◌, ◌&&◌, ◌|
 use crate::statute::Statute;
 
 impl Statute {
-    /// Returns whether a rule gives each member `each`, or nothing if another rule gives nothing
-    /// either.
+    /// Returns whether a rule gives each member `each`, or nothing.
+    ///
+    /// It may give nothing only to members to whom another rule gives nothing either.
     fn gives_all(&self, each: u64, heads: usize, weights: usize) -> bool
         requires heads { heads < length self.now.rules }
         requires weights { weights < length self.now.rules }
@@ -23,7 +24,7 @@ impl Statute {
         })
     }
 
-    /// Returns the same of a weight `each` above 0.
+    /// Returns whether `each` is above 0, and a rule gives it to members as above.
     fn gives_each(&self, each: u64, heads: usize, weights: usize) -> bool
         requires heads { heads < length self.now.rules }
         requires weights { weights < length self.now.rules }
@@ -33,8 +34,9 @@ impl Statute {
         each > 0 && self.gives_all(each, heads, weights)
     }
 
-    /// Returns whether a rule gives some members the same weight, among them all with weight in
-    /// another rule, and nothing to the rest.
+    /// Returns whether a rule gives some members the same weight, and the rest nothing.
+    ///
+    /// Among them are all with weight in another rule.
     fn asks_of_those(&self, heads: usize, weights: usize) -> bool
         requires heads { heads < length self.now.rules }
         requires weights { weights < length self.now.rules }
@@ -48,8 +50,9 @@ impl Statute {
         ))
     }
 
-    /// Returns the rule with the weights of a chamber's members, and the one that says who they
-    /// are; none if the rules are not of one chamber.
+    /// Returns the two rules of a chamber, or `None` if the rules are not of one.
+    ///
+    /// The first has the weights of its members, the second says who they are.
     pub(crate) fn seats(&self) -> Option<(usize, usize)>
         ensures seats { IfSome result (λ r. AreSeated self.now.members self.now.rules r.0 r.1) }
         ensures kind { IsSome result ↔ are_of_one_chamber self.now.members self.now.rules ≡ true }

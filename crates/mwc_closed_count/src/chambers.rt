@@ -51,8 +51,9 @@ impl Statute {
         })
     }
 
-    /// Counts a game by these rules, of chambers: pairs of the first rule's chamber and of the
-    /// others.
+    /// Counts a game of chambers by these rules.
+    ///
+    /// Its coalitions are pairs of the first rule's chamber and of the others.
     #[cycle(count)]
     pub(crate) fn count(&self, alloc: Global, game: &Game) -> Result<Box<Counts>, Memory>
         requires some { 0 < length self.now.rules }

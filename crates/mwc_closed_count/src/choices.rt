@@ -83,7 +83,7 @@ fn choice_is_minimal(game: &Game, kinds: &Kinds, wins: &[bool], choice: usize) -
     true
 }
 
-/// Returns the size of a minimal choice, and none for any other.
+/// Returns the size of a minimal choice, and `None` for any other.
 #[tactic(auto, unfolding(crate::specs::Inner::Choices::minimal_size))]
 fn minimal_size(game: &Game, kinds: &Kinds, wins: &[bool], choice: usize) -> Option<usize>
     requires kinds { AreKindsOf (votes_of game.now) kinds.now }
@@ -99,7 +99,7 @@ fn minimal_size(game: &Game, kinds: &Kinds, wins: &[bool], choice: usize) -> Opt
     }
 }
 
-/// Lists the size of each minimal choice, and none for the other choices.
+/// Lists the size of each minimal choice, and `None` for the other choices.
 pub(crate) fn minimal_sizes(
     alloc: Global,
     game: &Game,

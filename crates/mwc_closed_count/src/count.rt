@@ -12,8 +12,9 @@ use council_game::{Game, Memory};
 use power_index::Counts;
 use std::alloc::Global;
 
-/// Makes the counts of a game from those of its coalitions by choice. (Out of line: inlined, it
-/// would cost stack on every call.)
+/// Makes the counts of a game from those of its coalitions by choice.
+///
+/// Kept out of line: inlined, it would cost stack on every call.
 #[inline(never)]
 fn counts_of(alloc: Global, game: &Game, kinds: &Kinds) -> Result<Box<Counts>, Memory>
     requires { AreKindsOf (votes_of game.now) kinds.now }

@@ -1,4 +1,4 @@
-//! Games that are counted, and those of two of them together.
+//! Counted games, and the counts of two of them together.
 ghost use Rattle.council_game.specs.Game.{IsGame, votes_of};
 ghost use Rattle.council_game.specs.Votes.{minimal_coalitions};
 ghost use Rattle.mwc_closed_count.specs.Chambers.{AreChambersOf, minimal_of_member_size, minimal_of_size};
@@ -19,7 +19,7 @@ pub struct CountedGame {
     ghost are: { AreCountsOfGame game counts.value },
 }
 
-/// Counts the coalitions of a size of a game of two chambers: pairs of one of each.
+/// Counts the coalitions of one size of a game of two chambers, as pairs.
 #[tactic(auto, using(crate::proofs::Pairs::pairs))]
 fn pairs_of_size(game: &Game, first: &CountedGame, second: &CountedGame, size: usize) -> u64
     requires size { size ≤ length game.now.names }
@@ -34,7 +34,7 @@ fn pairs_of_size(game: &Game, first: &CountedGame, second: &CountedGame, size: u
     pairs
 }
 
-/// Counts those of them that contain a member, in the one or in the other.
+/// Counts the pairs of one size that contain a member, of either chamber.
 #[tactic(auto, using(crate::proofs::Pairs::pairs))]
 fn pairs_of_member(
     game: &Game,
@@ -71,7 +71,7 @@ fn pairs(game: &Game, first: &CountedGame, second: &CountedGame) -> SizeCounts
     sizes
 }
 
-/// Counts those of them that contain a member, by size.
+/// Counts the pairs that contain a member, by size.
 #[tactic(auto, using(crate::proofs::Pairs::above))]
 fn pairs_with(game: &Game, first: &CountedGame, second: &CountedGame, member: usize) -> SizeCounts
     requires member { member < length game.now.names }
@@ -86,8 +86,9 @@ fn pairs_with(game: &Game, first: &CountedGame, second: &CountedGame, member: us
 }
 
 impl CountedGame {
-    /// Counts the game of two chambers, this one and another. (Out of line: inlined, it would cost
-    /// stack on every call.)
+    /// Counts the game of two chambers, this one and another.
+    ///
+    /// Kept out of line: inlined, it would cost stack on every call.
     #[inline(never)]
     #[tactic(auto, using(power_index::proofs::Shared::Minimal::can_be_counted))]
     pub(crate) fn join(self, game: &Game, other: &CountedGame) -> Box<Counts>

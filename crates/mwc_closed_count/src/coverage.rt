@@ -12,15 +12,15 @@ use std::alloc::Global;
 /// How much of a game sums can count.
 #[derive(Drop)]
 pub enum Coverage {
-    /// All of it: the counts of its minimal winning coalitions.
+    /// The whole game: the counts of its minimal winning coalitions.
     All(Box<Counts>),
-    /// A part of it: the rest is a game that is left for you to count.
+    /// A part of the game: the rest is a game that is left for you to count.
     Part(Parts),
-    /// Nothing.
+    /// No part of the game.
     Nothing,
 }
 
-/// A game in two parts. Each minimal winning coalition of the game is one of each part together.
+/// A game in two parts: each minimal winning coalition is one of each together.
 #[derive(Drop)]
 pub struct Parts {
     /// The part that sums counted.
@@ -51,7 +51,7 @@ impl Parts {
     }
 }
 
-/// Counts the minimal winning coalitions of a game, as far as this is possible without listing any.
+/// Counts the minimal winning coalitions of a game, as far as sums can.
 ///
 /// Sums count a game that consists of chambers which share no member, as what its rules ask of the
 /// members without a veto if all others agree. A chamber is one rule, or two of which one gives the

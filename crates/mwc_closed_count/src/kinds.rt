@@ -11,13 +11,13 @@ use council_base::list_from_fn;
 use council_game::{Game, Memory};
 use std::alloc::Global;
 
-/// The most choices that are few.
+/// The most choices with which `count_by_kinds` counts.
 pub const CHOICES: usize = 1_048_576;
 
-/// How many coalitions a game has for each choice at least, if the choices are few.
+/// The fewest coalitions for each choice with which `count_by_kinds` counts.
 pub const COALITIONS_EACH: usize = 64;
 
-/// Members with the same weight under every rule.
+/// A kind: members with the same weight under every rule.
 #[derive(Clone, Copy)]
 pub(crate) struct Kind {
     /// The rank place of the first of them.

@@ -1,4 +1,4 @@
-//! What a game consists of, and parts of that: rules over its members.
+//! The rules that a game consists of, and parts of them.
 ghost use Rattle.council_base.specs.declared.limits.TheConstants.{RULES};
 ghost use Rattle.council_game.specs.Game.{IsGame};
 ghost use Rattle.council_game.specs.Rules.{rule_view, rule_views};
@@ -14,8 +14,9 @@ use council_game::{Game, GameFault, Memory, Rule};
 use std::alloc::Global;
 use std::marker::Model;
 
-/// Rules over members that are numbered as those of a game: those that it consists of, or some of
-/// them.
+/// The rules that a game consists of, or some of them.
+///
+/// Their members are numbered as those of the game.
 #[derive(Drop)]
 pub(crate) struct Statute {
     members: usize,
@@ -51,7 +52,7 @@ impl Statute {
         Ok(Statute { members, rules })
     }
 
-    /// Says to the prover that each rule is one that a game can have. Nothing runs.
+    /// For the prover: each rule is one that a game can have.
     pub(crate) fn rules_are_fair(&self)
         ensures { All (IsFair self.now.members) self.now.rules }
     {

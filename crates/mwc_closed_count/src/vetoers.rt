@@ -59,7 +59,7 @@ fn rest_of_rule(alloc: Global, game: &Game, rule: usize) -> Result<Rule, Memory>
     Ok(Rule { quota, weights })
 }
 
-/// Puts a rule at the end of others if it asks for something.
+/// Adds a rule to others if it asks for something.
 fn put(rules: &mut Vec<Rule>, rule: Rule) -> Result<(), Memory>
     ensures { IfOk result (λ _. rule_views rules.new.items
         ≡ rule_views rules.old.items ++ filter (λ r. nat_lt 0 r.quota) (rule_view rule ∷ [])) }
@@ -70,8 +70,10 @@ fn put(rules: &mut Vec<Rule>, rule: Rule) -> Result<(), Memory>
     Ok(())
 }
 
-/// Makes the rule that asks for all with a veto, and what the rules ask of the others if these
-/// agree; those that ask for nothing are left out.
+/// Makes the rule that asks for all with a veto, and those for the other members.
+///
+/// Those say what the rules ask of the others if all with a veto agree; rules that ask for nothing
+/// are left out.
 #[tactic(auto, using(crate::proofs::VetoRules::one_more))]
 pub(crate) fn rules_beside_vetoers(alloc: Global, game: &Game) -> Result<Vec<Rule>, Memory>
     ensures { IfOk result (λ rules. rule_views rules.items ≡ statute game.now) }

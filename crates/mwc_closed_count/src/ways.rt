@@ -7,7 +7,7 @@ ghost use Rattle.std.specs.Prelude.{◌≡◌, ℕ, ◌+◌, ◌-◌, ◌<◌, �
 use council_base::{Memory, SizeCounts, limits};
 use std::alloc::Global;
 
-/// Adds the coalitions with one member more, of this stride, to those without it.
+/// Adds the coalitions with one more member, of this stride, to those without it.
 fn add_member(ways: &mut [u64], stride: usize)
     requires { (x : ℕ) → slice_index ways.old x ≤ 2 ^ MEMBERS }
     ensures long { length ways.new ≡ length ways.old }
@@ -38,7 +38,7 @@ pub(crate) fn count_ways(
     Ok(ways)
 }
 
-/// Counts those of each choice that contain a place.
+/// Counts the coalitions of each choice that contain a place.
 fn count_ways_with(
     alloc: Global,
     ways: &[u64],
@@ -80,7 +80,7 @@ pub(crate) fn add_by_size(numbers: &[u64], sizes: &[Option<usize>]) -> SizeCount
     sums
 }
 
-/// Adds up by size those that contain each place.
+/// Adds up by size the coalitions that contain each place.
 pub(crate) fn add_each_by_size(
     alloc: Global,
     ways: &[u64],

@@ -21,7 +21,7 @@ fn next_row(row: &[u64; limits::SIZES], of: usize) -> [u64; limits::SIZES]
     next
 }
 
-/// Makes rows: row m has, for each k, in how many ways k of m members can be chosen.
+/// Makes rows: row m has for each k the number of ways to choose k of m members.
 fn choices(alloc: Global) -> Result<Vec<[u64; limits::SIZES]>, Memory>
     ensures { IfOk result (λ v. AreChoices v.items) }
 {
@@ -35,20 +35,21 @@ fn choices(alloc: Global) -> Result<Vec<[u64; limits::SIZES]>, Memory>
     Ok(rows)
 }
 
-/// How many members are asked for besides a quota, and in how many ways others fill a coalition up
-/// to them.
+/// How many members are asked for besides a quota.
+///
+/// It says in how many ways other members fill a coalition up to that number.
 #[derive(Drop)]
 pub(crate) struct Heads {
     /// How many members are asked for, 0 to 40.
     pub asked: usize,
-    /// Row m has, for each k, in how many ways k of m members can be chosen.
+    /// Row m has for each k the number of ways to choose k of m members.
     choices: Vec<[u64; limits::SIZES]>,
     ghost few: { asked ≤ MEMBERS },
     ghost are: { AreChoices choices.items },
 }
 
 impl Heads {
-    /// Asks for `asked` members, 0 to 40.
+    /// Makes what asks for `asked` members, 0 to 40.
     pub(crate) fn new(alloc: Global, asked: usize) -> Result<Heads, Memory>
         requires { asked ≤ MEMBERS }
         ensures { IfOk result (λ heads. heads.asked ≡ asked) }

@@ -1,4 +1,4 @@
-//! The sets of a list that meet a need, by size.
+//! The subsets of a list that meet a need, by size.
 ghost use Rattle.std.specs.Prelude.{◌≡◌, ℕ, ◌+◌, ◌-◌, ◌<◌, ◌≤◌, ◌^◌, true, false, if◌then◌else◌, nat_le, length, slice_index};
 ghost use Rattle.council_base.specs.declared.limits.TheConstants.{MEMBERS};
 ghost use Rattle.subset_counts.specs.MinimalCounts.{one_of_size};
@@ -8,22 +8,22 @@ ghost use Rattle.subset_counts.specs.Inner.Fitting.{AreEntered, AreOfNeed, Meet}
 use crate::subsets::Subset;
 use council_base::{SizeCounts, limits};
 
-/// How many members a half has at most.
+/// The most members of a half.
 pub(crate) const HALF: usize = limits::MEMBERS / 2;
 
-/// Those sets of a half that meet a need: of a list by weight, the ones at its end.
+/// The subsets of a half that meet a need: of a list by weight, those at its end.
 #[derive(Drop)]
 pub(crate) struct Fitting {
     /// How many of them have each size.
     here: [u64; HALF + 1],
-    /// This many sets at the front of the list are not among them.
+    /// How many subsets at the front of the list do not meet it.
     outside: usize,
     /// Whether there are any.
     any: bool,
 }
 
 impl Fitting {
-    /// None of a list of sets.
+    /// Makes the fitting subsets of a list before any is entered.
     #[tactic(auto, using(std::proofs::lemmas::Grind::common_steps, crate::proofs::Taking::zeros))]
     pub(crate) fn none(subsets: &[Subset]) -> Fitting
         ensures entered { AreEntered subsets.now result }
@@ -36,7 +36,7 @@ impl Fitting {
         }
     }
 
-    /// One set more.
+    /// Enters one more subset.
     fn enter(&mut self, set: &Subset)
         requires size { set.now.size ≤ 20 }
         requires here { slice_index self.old.here set.now.size < 2 ^ 63 }
@@ -49,7 +49,7 @@ impl Fitting {
         self.any = true;
     }
 
-    /// Lets in all that meet a need, which is not above what those that are in meet.
+    /// Enters all that meet a need, which is at most the need of the last call.
     pub(crate) fn let_in(&mut self, subsets: &[Subset], need: u64)
         requires half { IsHalf subsets.now }
         requires entered { AreEntered subsets.now self.old }
@@ -64,7 +64,7 @@ impl Fitting {
         }
     }
 
-    /// Counts them, by size, where `size` members are in front of them.
+    /// Counts the entered subsets into sums by size, each with `size` members more.
     #[tactic(auto, using(std::proofs::lemmas::Grind::common_steps, crate::proofs::FittingSubsets::entering))]
     pub(crate) fn add(&self, size: usize, done: &mut SizeCounts)
         requires size { size ≤ 20 }

@@ -1,4 +1,4 @@
-//! How many pairs of sets of two lists meet a quota, by size and by the members of the one.
+//! How many pairs of subsets of two lists meet a quota, by size and by members.
 ghost use Rattle.std.specs.Prelude.{◌≡◌, ℕ, ◌+◌, ◌/◌, ◌%◌, ◌<◌, ◌≤◌, ◌^◌, if◌then◌else◌, IfOk, List, slice_index, sum_by};
 ghost use Rattle.council_base.specs.declared.limits.TheConstants.{MEMBERS};
 ghost use Rattle.subset_counts.specs.declared.subsets.Subset.{Subset};
@@ -11,7 +11,7 @@ use crate::table::Table;
 use council_base::{Memory, SizeCounts};
 use std::alloc::Global;
 
-/// Which of the first members are in, of as many as there are digits.
+/// Returns which of the first members are in, of as many as there are digits.
 #[tactic(auto, using(std::proofs::lemmas::Grind::common_steps, std::proofs::lemmas::Nat::one_shl, std::proofs::lemmas::Nat::and_mask))]
 fn low(members: u32, digits: u32) -> usize
     requires { digits ≤ 10 }
@@ -20,7 +20,7 @@ fn low(members: u32, digits: u32) -> usize
     (members & ((1 << digits) - 1)) as usize
 }
 
-/// Which of the members behind them are in.
+/// Returns which of the members after the first `digits` are in.
 fn high(members: u32, digits: u32) -> usize
     requires { digits ≤ 10 }
     ensures { result ≡ members / 2 ^ digits }
@@ -28,9 +28,10 @@ fn high(members: u32, digits: u32) -> usize
     (members >> digits) as usize
 }
 
-/// How many sets meet a quota together with a set of a list, by their size together, for each
-/// choice of the first members that the sets of the list are chosen from, and for each choice of
-/// the others.
+/// How many pairs of a subset of a list and one of another list meet a quota, by size.
+///
+/// They are counted for each choice of the first members of the list, and for each choice of its
+/// other members.
 #[derive(Drop)]
 pub(crate) struct Groups {
     /// How many members are the first; at most as many are the others.
@@ -69,7 +70,9 @@ impl Groups {
         })
     }
 
-    /// How many there are without the member of a place, which may be behind the last.
+    /// Returns how many there are without the member of a place.
+    ///
+    /// The place may be after the last.
     pub(crate) fn without(&self, place: usize) -> SizeCounts
         requires { HaveRows self.now }
         ensures { (quota : ℕ) (xs others : List Subset) (s : ℕ) → AreGroups quota xs others self.now

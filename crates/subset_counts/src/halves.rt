@@ -1,5 +1,4 @@
-//! The coalitions that members lead to, from the sets of their two halves (Horowitz and Sahni
-//! 1974).
+//! Minimal coalitions, counted by the subsets of two halves (Horowitz and Sahni 1974).
 ghost use Rattle.council_base.specs.declared.limits.TheConstants.{MEMBERS, SIZES, TOTAL};
 ghost use Rattle.subset_counts.specs.declared.subsets.Subset.{Subset};
 ghost use Rattle.subset_counts.specs.MinimalCounts.{AreAllMinimalCounts, minimal_count, left_out};
@@ -15,7 +14,7 @@ use crate::sums::difference;
 use council_base::{Memory, SizeCounts, limits};
 use std::alloc::Global;
 
-/// How many pairs of a set of the first half of the members and one of the second meet a quota.
+/// How many pairs of a subset of each half of the members meet a quota.
 #[derive(Drop)]
 struct Pairs {
     first: Groups,
@@ -41,7 +40,9 @@ impl Pairs {
         })
     }
 
-    /// How many there are without the member of a place, where the first half has `front` members.
+    /// Returns how many there are without the member of a place.
+    ///
+    /// The first half has `front` members.
     fn without(&self, front: usize, place: usize) -> SizeCounts
         requires first { HaveRows self.now.first }
         requires second { HaveRows self.now.second }
@@ -58,10 +59,10 @@ impl Pairs {
     }
 }
 
-/// Returns how many sets of a size are left of those that meet a quota.
+/// Returns how many subsets of a size count, of those that meet a quota.
 ///
-/// Of just as many members as heads, all are; of more, those that do not meet it without their last
-/// member; of fewer, none.
+/// With just as many members as heads, all count; with more, those that do not meet the quota
+/// without their last member; with fewer, none.
 fn left_at(size: usize, won: u64, shortened: u64, own: u64, heads: usize) -> u64
     requires { heads < size → shortened + own ≤ won }
     ensures { IsLeft heads size won shortened own result }
@@ -75,7 +76,7 @@ fn left_at(size: usize, won: u64, shortened: u64, own: u64, heads: usize) -> u64
     }
 }
 
-/// Does the same for each size.
+/// Returns for each size how many subsets count, as `left_at` does for one.
 fn left_of(won: &SizeCounts, shortened: &SizeCounts, own: &SizeCounts, heads: usize) -> SizeCounts
     requires { (s : ℕ) → heads < s → s ≤ MEMBERS
         → slice_index shortened.now s + slice_index own.now s ≤ slice_index won.now s }
@@ -90,21 +91,22 @@ fn left_of(won: &SizeCounts, shortened: &SizeCounts, own: &SizeCounts, heads: us
     sizes
 }
 
-/// What the sets of two halves of the members come to.
+/// The pairs of subsets of two halves that meet a quota.
 #[derive(Drop)]
 struct Halves {
     quota: u64,
-    /// Those that meet the quota.
+    /// The pairs that meet the quota.
     won: Pairs,
-    /// Those that do so without their last member, of the second half.
+    /// The pairs that do so without their last member, which is of the second half.
     shortened: Pairs,
-    /// Those of the first half that do so without their last member.
+    /// The subsets of the first half that do so without their last member.
     own: Groups,
 }
 
 impl Halves {
-    /// Lists the sets of the second half twice, and those of the first. (With `own` made first,
-    /// these lists took a third more memory.)
+    /// Makes the halves, with room for the lists of subsets.
+    ///
+    /// With `own` made first, these lists took a third more memory.
     fn of_lists(
         alloc: Global,
         weights: &[u64],
@@ -135,7 +137,7 @@ impl Halves {
         })
     }
 
-    /// The same, with lists of its own.
+    /// Makes the halves of members with these weights.
     fn new(alloc: Global, weights: &[u64], quota: u64) -> Result<Halves, Memory>
         requires few { length weights.now ≤ MEMBERS }
         requires light { sum weights.now ≤ TOTAL }
@@ -150,8 +152,9 @@ impl Halves {
         Halves::of_lists(alloc, weights, quota, &mut first, &mut second, &mut spare)
     }
 
-    /// Counts the coalitions that members lead to without that of a place, or of all if no member
-    /// has that place.
+    /// Counts the minimal coalitions of the members without that of a place.
+    ///
+    /// If no member has that place, they are those of all.
     fn count_without(&self, weights: &[u64], heads: usize, place: usize) -> SizeCounts
         requires few { length weights.now ≤ MEMBERS }
         requires halves { AreHalves weights.now self.now }
@@ -168,8 +171,7 @@ impl Halves {
         left_of(&won, &shortened, &own, heads)
     }
 
-    /// Counts all coalitions that the members lead to, and those with each member: the others do
-    /// not lead to these.
+    /// Counts all minimal coalitions, and those with each member.
     #[tactic(auto, using(crate::proofs::MinimalLaws::fewer, crate::proofs::HalfSums::places))]
     fn counts(&self, weights: &[u64], heads: usize) -> MinimalCounts
         requires few { length weights.now ≤ MEMBERS }
@@ -187,7 +189,7 @@ impl Halves {
     }
 }
 
-/// Counts the coalitions that members lead to, by their halves.
+/// Counts the minimal coalitions of members by their halves.
 pub(crate) fn by_halves(
     alloc: Global,
     weights: &[u64],

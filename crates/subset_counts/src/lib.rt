@@ -8,7 +8,7 @@
 //!
 //! `row`, `rows` and `sums` go from member to member, and merge prefixes that miss as much to the
 //! quota: this is fast if there are few such needs. `subsets`, `fitting`, `table`, `groups` and
-//! `halves` count pairs of sets of the heavier and of the lighter half of the members, whatever
+//! `halves` count pairs of subsets of the heavier and of the lighter half of the members, whatever
 //! their weights. `mwc_closed_count` says which games these are the counts of.
 #![tactic(auto)]
 

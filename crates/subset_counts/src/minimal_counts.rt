@@ -1,4 +1,4 @@
-//! The coalitions that members lead to, by sums or by halves.
+//! The minimal coalitions of members with some weights, by sums or by halves.
 ghost use Rattle.council_base.specs.declared.limits.TheConstants.{MEMBERS, TOTAL};
 ghost use Rattle.std.specs.Prelude.{◌≡◌, ◌≤◌, ◌<◌, IfOk, length, sum};
 ghost use Rattle.subset_counts.specs.MinimalCounts.{AreAllMinimalCounts};
@@ -8,14 +8,14 @@ use crate::sums::by_sums;
 use council_base::{Memory, SizeCounts, limits};
 use std::alloc::Global;
 
-/// The coalitions that members lead to, by size: of all, and by place of those that contain it.
+/// Minimal coalitions by size: of all, and by place of those that contain it.
 #[derive(Clone, Copy)]
 pub struct MinimalCounts {
     pub all: SizeCounts,
     pub each: [SizeCounts; limits::MEMBERS],
 }
 
-/// Counts the coalitions that members with these weights lead to from a quota.
+/// Counts the minimal coalitions of members with these weights.
 ///
 /// Each meets the quota and loses it without its last member, and has more members than the heads
 /// that are asked for; or it has just as many and meets the quota. There are at most 40 weights, of

@@ -8,7 +8,7 @@ ghost use Rattle.subset_counts.specs.Inner.Rows.{AreMerged, AreTaken, prefixes, 
 use crate::choices::Heads;
 use council_base::{Memory, SizeCounts};
 
-/// Prefixes that miss as much to the quota and have as many members: how many of them there are.
+/// How many prefixes miss `need` to the quota and have `size` members.
 #[derive(Clone, Copy)]
 pub(crate) struct Prefixes {
     pub need: u64,
@@ -16,10 +16,10 @@ pub(crate) struct Prefixes {
     pub ways: u64,
 }
 
-/// Returns how many prefixes at the front of a row stay open if later members weigh `rest`
-/// together.
+/// Returns how many prefixes at the front of a row can still be completed.
 ///
-/// A row ascends by need, and the prefixes behind those cannot be completed any more.
+/// Later members weigh `rest` together. A row ascends by need, so the prefixes after those miss too
+/// much.
 pub(crate) fn still_open(row: &[Prefixes], rest: u64) -> usize
     ensures within { result ≤ length row.now }
     ensures same { (g : ℕ → ℕ → ℕ) → ((need size : ℕ) → rest < need → g need size ≡ 0)
@@ -34,7 +34,7 @@ pub(crate) fn still_open(row: &[Prefixes], rest: u64) -> usize
 
 /// Takes a member of this weight into a prefix.
 ///
-/// If this meets the quota, the coalition is counted by size: alone if it has more members than are
+/// If this meets the quota, the coalition is counted by size: once if it has more members than are
 /// asked for, and else with any of the others that fill it up. If not, the prefix is put into
 /// `others`.
 fn take_in(
@@ -91,7 +91,7 @@ pub(crate) fn with_member(
     Ok(())
 }
 
-/// Returns whether a prefix comes before another in a row, or at the same place.
+/// Returns whether a prefix precedes another in a row, or has the same place.
 fn is_first(a: &Prefixes, b: &Prefixes) -> bool {
     a.need < b.need || (a.need == b.need && a.size <= b.size)
 }

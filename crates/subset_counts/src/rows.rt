@@ -14,10 +14,10 @@ use std::mem;
 /// The most entries that all rows of one pass over the members have together.
 const ROOM: usize = 1 << 20;
 
-/// Returns how many entries all rows of one pass over the members may have together.
+/// Returns how many entries the rows of one pass over the members may have together.
 ///
-/// These are twice as many as a half of the members has sets, and at most `ROOM`. With more of
-/// them, counting the sets of the halves is faster.
+/// These are twice as many as a half of the members has subsets, and at most `ROOM`. With more of
+/// them, counting the subsets of the halves is faster.
 fn room_for(members: usize) -> usize
     requires { members ≤ MEMBERS }
     ensures { result ≤ 2 ^ 20 }
@@ -26,11 +26,11 @@ fn room_for(members: usize) -> usize
     (2 * half).min(ROOM)
 }
 
-/// The row of the prefixes of the decided members, and the coalitions that these have completed.
+/// The prefixes of the decided members, and the coalitions that are completed.
 #[derive(Drop)]
 pub(crate) struct Rows {
     pub row: Vec<Prefixes>,
-    /// The coalitions that are counted by now, by size.
+    /// The coalitions that are counted so far, by size.
     pub done: SizeCounts,
     /// How many entries the rows of the pass may still have together.
     room: usize,
@@ -40,7 +40,7 @@ pub(crate) struct Rows {
 }
 
 impl Rows {
-    /// No prefix.
+    /// Makes rows without a prefix.
     pub(crate) fn new(alloc: Global) -> Rows {
         Rows {
             row: Vec::new(alloc),
@@ -78,7 +78,7 @@ impl Rows {
         self.done
     }
 
-    /// Goes on from where another pass is.
+    /// Copies the state of another pass.
     pub(crate) fn copy(&mut self, other: &Rows) -> Result<(), Memory>
         ensures row { IfOk result (λ _. self.new.row.items ≡ other.now.row.items) }
         ensures done { IfOk result (λ _. self.new.done ≡ other.now.done) }
@@ -90,9 +90,9 @@ impl Rows {
         Ok(())
     }
 
-    /// Decides one member more, of this weight, before `left` members that weigh `rest` together.
+    /// Decides one more member, and counts by size the coalitions that it completes.
     ///
-    /// Coalitions that it completes are counted by size.
+    /// It has this weight, and after it there are `left` members that weigh `rest` together.
     pub(crate) fn go_on(
         &mut self,
         weight: u64,
@@ -120,7 +120,9 @@ impl Rows {
         Ok(())
     }
 
-    /// Decides these members, which weigh `rest` together; false if there is no room.
+    /// Decides the other members, and returns false if there is no room.
+    ///
+    /// They weigh `rest` together.
     pub(crate) fn finish(
         &mut self,
         weights: &[u64],

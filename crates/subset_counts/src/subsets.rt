@@ -1,4 +1,4 @@
-//! Lists of sets of some members, by weight.
+//! Lists of subsets of some members, by weight.
 ghost use Rattle.std.specs.Prelude.{◌≡◌, ℕ, ◌+◌, ◌*◌, ◌-◌, ◌<◌, ◌≤◌, ◌^◌, if◌then◌else◌, List, [], ◌∷◌, IfOk, IsFalse, IsTrue, length, slice_index_or, sum};
 ghost use Rattle.std.specs.List.{All};
 ghost use Rattle.council_base.specs.declared.limits.TheConstants.{TOTAL};
@@ -7,25 +7,25 @@ ghost use Rattle.subset_counts.specs.Inner.Subsets.{AreSubsets, Ascend, HasRoom,
 use council_base::Memory;
 use std::mem;
 
-/// A set of members.
+/// Some of the members.
 #[derive(Clone, Copy)]
 pub(crate) struct Subset {
-    /// What its members weigh together, or what they weigh without the last.
+    /// What they weigh together, or what they weigh without the last.
     pub weight: u64,
-    /// Which they are: digit p is 1 where the member of place p is one of them.
+    /// Which they are: digit p is 1 if the member of place p is one of them.
     pub members: u32,
     /// How many they are.
     pub size: u32,
 }
 
-/// The set without a member.
+/// The subset without a member.
 pub(crate) const EMPTY: Subset = Subset {
     weight: 0,
     members: 0,
     size: 0,
 };
 
-/// The set of the first member alone, by what is left of it without that member.
+/// The subset of only the first member, by its weight without that member.
 const FIRST_ONLY: Subset = Subset {
     weight: 0,
     members: 1,
@@ -33,7 +33,7 @@ const FIRST_ONLY: Subset = Subset {
 };
 
 impl Subset {
-    /// The same set, where one member more stands in front who is not in it.
+    /// Returns the subset after a further member was put in front, who is not in it.
     fn without_member(&self) -> Subset
         requires { self.now.members < 2 ^ 31 }
         ensures { result ≡ left self.now }
@@ -45,7 +45,7 @@ impl Subset {
         }
     }
 
-    /// The set with a member of this weight in front.
+    /// Returns the subset with a further member of this weight in front.
     fn with_member(&self, weight: u64) -> Subset
         requires { HasRoom weight self.now }
         ensures { result ≡ joined weight self.now }
@@ -58,7 +58,7 @@ impl Subset {
     }
 }
 
-/// Makes a list of one set, or of none.
+/// Makes a list of one subset, or of none.
 fn begin(list: &mut Vec<Subset>, set: Subset, some: bool) -> Result<(), Memory>
     ensures { IfOk result (λ _. list.new.items ≡ (if some then set ∷ [] else [])) }
 {
@@ -69,7 +69,7 @@ fn begin(list: &mut Vec<Subset>, set: Subset, some: bool) -> Result<(), Memory>
     Ok(())
 }
 
-/// Returns whether there is a set at a place that weighs no more than this.
+/// Returns whether a place has a subset that weighs at most this.
 fn is_light(subsets: &[Subset], place: usize, weight: u64) -> bool
     ensures place { IsTrue result → place < length subsets.now }
     ensures light { IsTrue result → (slice_index_or subsets.now place empty).weight ≤ weight }
@@ -78,10 +78,10 @@ fn is_light(subsets: &[Subset], place: usize, weight: u64) -> bool
     place < subsets.len() && subsets[place].weight <= weight
 }
 
-/// Lists the sets with one member more in front, of this weight, by weight.
+/// Lists by weight the subsets of the same members and one more in front.
 ///
-/// Each set comes without and with this member; if they are shortened, so does the member alone.
-/// Those with the member are never further than those without.
+/// Each subset is listed without and with this member; if they are shortened, the member by itself
+/// is listed too. Those with the member are never further than those without.
 #[tactic(auto, using(std::proofs::lemmas::Grind::common_steps, crate::proofs::SubsetLists::doubling))]
 fn with_first(
     subsets: &[Subset],
@@ -110,9 +110,9 @@ fn with_first(
     Ok(())
 }
 
-/// Lists, by weight, all sets of members with these weights.
+/// Lists by weight all subsets of members with these weights.
 ///
-/// If they are shortened, the empty set is left out, and the weight of each is that without its
+/// If they are shortened, the empty subset is left out, and the weight of each is that without its
 /// last member. The second list is room to make the first.
 #[tactic(auto, using(std::proofs::lemmas::Grind::common_steps, crate::proofs::SubsetLists::filling))]
 pub(crate) fn fill(

@@ -1,4 +1,4 @@
-//! The coalitions that members lead to, member by member.
+//! Minimal coalitions, counted member by member.
 ghost use Rattle.council_base.specs.declared.limits.TheConstants.{MEMBERS, SIZES, TOTAL};
 ghost use Rattle.subset_counts.specs.MinimalCounts.{AreAllMinimalCounts, left_out};
 ghost use Rattle.subset_counts.specs.Inner.Rows.{AreOfPrefixes, AreOfTheRest, come_to};
@@ -10,7 +10,7 @@ use crate::rows::Rows;
 use council_base::{Memory, SizeCounts, limits};
 use std::alloc::Global;
 
-/// Returns how many more than a part all are, by size.
+/// Returns how many there are in `all` and not in `part`, by size.
 pub(crate) fn difference(all: &SizeCounts, part: &SizeCounts) -> SizeCounts
     requires { (s : ℕ) → s ≤ MEMBERS → slice_index part.now s ≤ slice_index all.now s }
     ensures long { length result ≡ SIZES }
@@ -26,8 +26,8 @@ pub(crate) fn difference(all: &SizeCounts, part: &SizeCounts) -> SizeCounts
 
 /// Fills `each[place..]` with the coalitions that contain each of these members.
 ///
-/// They are those of all that a row does not lead to without the member. The row is that of one
-/// member less, so one less is left to fill a coalition up. It returns false if there is no room.
+/// They are those of all that the row does not lead to without the member. The row leaves that
+/// member out, so one less is left to fill a coalition up. It returns false if there is no room.
 fn fill_from(
     rows: &mut Rows,
     others: &mut Rows,
@@ -67,7 +67,7 @@ fn fill_from(
     Ok(full)
 }
 
-/// Counts the coalitions that members lead to; none if there is no room for the rows.
+/// Counts the minimal coalitions, or returns `None` if there is no room for the rows.
 #[tactic(auto, using(crate::proofs::MinimalLaws::fewer))]
 fn count(
     rows: &mut Rows,
@@ -94,7 +94,7 @@ fn count(
     Ok(Some(MinimalCounts { all, each }))
 }
 
-/// Counts the coalitions that members lead to; none if there is no room for the rows.
+/// Counts the minimal coalitions, or returns `None` if there is no room for the rows.
 pub(crate) fn by_sums(
     alloc: Global,
     weights: &[u64],

@@ -10,8 +10,9 @@ use crate::fitting::Fitting;
 use council_base::{Memory, SizeCounts, add_counts, limits};
 use std::alloc::Global;
 
-/// Rows of numbers by size, one for each choice of some members: digit p of a row's key is 1 if the
-/// member of place p is chosen.
+/// Rows of numbers by size, one for each choice of some members.
+///
+/// Digit p of a row's key is 1 if the member of place p is chosen.
 #[derive(Drop)]
 pub(crate) struct Table {
     rows: Vec<SizeCounts>,
@@ -29,7 +30,7 @@ impl Table {
         Ok(Table { rows })
     }
 
-    /// Counts in the row of a key the sets that fit, by size, behind `size` members.
+    /// Counts in the row of a key the subsets that fit, by size, after `size` members.
     #[tactic(auto, using(std::proofs::lemmas::Bool::Decides::nat_tests, std::proofs::lemmas::List::get_or_default))]
     pub(crate) fn add(&mut self, key: usize, size: usize, fitting: &Fitting)
         requires key { key < length self.old.rows.items }

@@ -28,7 +28,7 @@ beside_of sharing n rs k = side sharing (have_common_member n (rule_at rs k)) rs
 abbrev pub AreOfChambers : ℕ → List RuleView → Type 0
 AreOfChambers n rs = All (λ r. are_of_one_chamber n (chamber_of n rs r) ≡ true) rs
 
--- members meet them exactly where they meet those of a game
+-- members meet them exactly if they meet those of a game
 pub record AreRulesOf (g : GameView) (n : ℕ) (rs : List RuleView) : Type 0 where
   pub members : n ≡ length g.names
   pub alike : (f : ℕ → Bool) → met (length g.names) g.rules f ≡ met (length g.names) rs f

@@ -1,23 +1,23 @@
--- Sets of some members, and how many of them meet a need.
+-- Subsets of some members, and how many of them meet a need.
 use Rattle.std.specs.Prelude.{ℕ, ◌+◌, ◌-◌, ◌*◌, ◌/◌, ◌%◌, ◌==◌, ◌<◌, ◌≤◌, ◌^◌, ◌≡◌, Bool, if◌then◌else◌, nat_le, List, [], ◌∷◌, length}
 use Rattle.std.specs.Prelude.{sum_by}
 use Rattle.std.specs.List.{All, AllPairs}
 use Rattle.subset_counts.specs.declared.subsets.Subset.{Subset}
 use Rattle.subset_counts.specs.MinimalCounts.{one_of_size}
 
--- the set of no member
+-- the subset of no member
 abbrev pub empty : Subset
 empty = record { weight = 0; members = 0; size = 0 }
 
--- the set of the first member alone, by what it weighs without that member
+-- the subset of only the first member, by what it weighs without that member
 abbrev pub first_only : Subset
 first_only = record { weight = 0; members = 1; size = 1 }
 
--- a set, where one member more stands in front who is not in it
+-- a subset after a further member was put in front, who is not in it
 abbrev pub left : Subset → Subset
 left x = record { weight = x.weight; members = 2 * x.members; size = x.size }
 
--- a set with this member in front, of weight w
+-- a subset with this member in front, of weight w
 abbrev pub joined : ℕ → Subset → Subset
 joined w x = record { weight = x.weight + w; members = 2 * x.members + 1; size = x.size + 1 }
 
@@ -46,7 +46,7 @@ pub record AreSubsets (short : Bool) (ws : List ℕ) (xs : List Subset) : Type 0
 abbrev pub has : ℕ → ℕ → Bool
 has p members = members / 2 ^ p % 2 == 1
 
--- 1 where a set meets a need, and k members more than it has are s
+-- 1 if a subset meets a need, and k members more than it has are s
 abbrev pub fits : ℕ → ℕ → ℕ → Subset → ℕ
 fits need k s x = if nat_le need x.weight then one_of_size s (k + x.size) else 0
 
