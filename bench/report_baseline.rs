@@ -1,5 +1,5 @@
-//! The plain form of the whole program, to measure the proved one against: Rust with the standard
-//! library alone, one thread, and a `BufWriter` for the report.
+//! The plain form of the whole program, to measure the proved one against: Rust with only the
+//! standard library, one thread, and a `BufWriter` for the report.
 //!
 //! `report_baseline FILE [--most N] [--list]` reads a game as `[q; w1, .., wn]` or as a game file
 //! of the plain form that `examples/` has (a key and its value on a line), lists its minimal

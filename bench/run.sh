@@ -1,11 +1,11 @@
 #!/usr/bin/env bash
 # How long the proved program takes over a plain program of the same work, in two tables. The plain
 # one is bench/report_baseline.rs, and for tallies by sums bench/sums_baseline.rs, each Rust with
-# the standard library alone in one thread. Each program is timed as a whole, from its start to its
+# only the standard library in one thread. Each program is timed as a whole, from its start to its
 # end, with its report going to /dev/null.
 #
 # The first table: the least time of RUNS runs (11) of the plain program, in seconds, and that of
-# the proved one over it, with 1, 2 and 4 workers; the four take turns, so that a slow spell of the
+# the proved one over it, with 1, 2 and 4 workers; the four take turns, and a slow spell of the
 # machine meets all of them. Then the greatest resident memory of the plain program in MiB, and the
 # proved one's over it. The second: the longest of ten runs, in seconds, beside as many busy loops
 # as there are processors. It is no test, and nothing fails at a slow run.
@@ -13,7 +13,7 @@
 # How well threads wait is in no contract, and no test tells it: a wake-up that is lost costs a
 # millisecond. It shows here. A bell that is never rung, or a turn that rings nobody, makes a ring
 # that is full or empty cost that millisecond each time: the list of 658,008 coalitions goes in some
-# 10,000 rows, and takes seconds. Looks that are never renewed make each wait a sleep, so that 2 and
+# 10,000 rows, and takes seconds. Looks that are never renewed make each wait a sleep: 2 and
 # 4 workers gain little over 1. Looks that never become fewer hold processors that others want: the
 # last table, beside busy loops, rises.
 #

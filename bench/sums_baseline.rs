@@ -1,10 +1,10 @@
 // A plain program to compare tallies by sums with: it counts the minimal winning coalitions of a
 // game without listing any, how many have each size, and for each member how many of each size
-// contain it. Rust with the standard library alone, with nothing proved.
+// contain it. Rust with only the standard library, with nothing proved.
 //
 // It reads a file with the notation of a game, one line `[q; w1, .., wn]` for one rule, and a
 // second one where a second rule gives all members the same weight above zero, and prints the
-// number of coalitions and the time of the counting alone, in microseconds.
+// number of coalitions and the time of only the counting, in microseconds.
 use std::time::Instant;
 
 /// The prefixes of so many members that go together: what they still need, and how many of them

@@ -62,7 +62,7 @@ else
     failed "no archive of a program that was not built there" "status $status: $(cat "$temp/out" "$temp/err" | head -n 1)"
 fi
 
-# ---- used by another user, with the commands of the system alone
+# ---- used by another user, with only the commands of the system
 here=$temp/there/${archive##*/}
 here=${here%.tar.gz}
 mkdir "$temp/there" "$temp/home"

@@ -2,9 +2,9 @@
 # Makes the library's calls while their allocations are refused, one after the other, and then all
 # from one on. Each call is a test in src/NAME_tests/refusals.rt of the crate that tests the library
 # NAME, that prints `call` before it and its answer after it, `worked`, `out of memory` or `not
-# started`, or which part of a run found no memory, looks whether all stands as it must after that
-# answer, and fails if not. Where no allocation was refused the answer is the worked one. Where one
-# was, it is want of memory or, for calls that start threads, that one did not start, each for the
+# started`, or which part of a run found no memory, looks whether all is as it must be after that
+# answer, and fails if not. If no allocation was refused the answer is the worked one. If one was,
+# it is out of memory or, for calls that start threads, that one did not start, each for the
 # allocations that it is for; no call works then. The built tests of the crates are run, and the
 # library that refuses is allocations/refuse.c.
 . "$(dirname "$0")/common.sh"
@@ -61,7 +61,7 @@ call() {
     answer=$(sed -n 2p "$temp/out")
 }
 
-# Whether the last call ended, and answered `worked` where no allocation was refused, and else one
+# Whether the last call ended, and answered `worked` if no allocation was refused, and else one
 # of these answers. It says why not.
 answers() {
     local wanted
@@ -77,10 +77,10 @@ answers() {
     return 1
 }
 
-# The shape of the answers of a sweep, as an expression over one letter for each: g for want of
-# memory for the game, m for want of memory to gather, o for want of memory, s for a thread that did
+# The shape of the answers of a sweep, as an expression over one letter for each: g for out of
+# memory for the game, m for out of memory to gather, o for out of memory, s for a thread that did
 # not start, w for one that worked. So the answers say where each allocation was made, one after the
-# other. Empty where any mix is right.
+# other. Empty if any mix is right.
 shape=''
 
 # Whether the answers of the last sweep have their shape. It says why not.
@@ -123,7 +123,7 @@ sweep() {
     fi
 }
 
-# takes_memory CRATE TEST [ANSWER]: where allocations are refused, the call answers want of memory,
+# takes_memory CRATE TEST [ANSWER]: where allocations are refused, the call answers out of memory,
 # or so.
 takes_memory() {
     sweep REFUSE_AT "$1" "$2" "out of memory" "${@:3}"
@@ -204,7 +204,7 @@ takes_memory mwc_closed_count counts_in_part
 takes_memory mwc_closed_count counts_by_kinds
 takes_memory mwc_closed_count counts_by_kinds_under_two_rules
 takes_memory mwc_closed_count counts_by_kinds_under_four_rules
-# room for three desks; for each of three workers its room, and the start of its thread; and what
+# room for three handles; for each of three workers its room, and the start of its thread; and what
 # comes then
 shape='o+(o{4,})(s+)\1\2\1\2o+'
 takes_memory mwc_gather gathers "not started"

@@ -47,7 +47,7 @@ skipped() {
     echo "skipped $1: $2"
 }
 
-# needs COMMAND NAME..: whether there is such a command; where not, the tests of these names are
+# needs COMMAND NAME..: whether there is such a command; if not, the tests of these names are
 # skipped.
 needs() {
     local command=$1 name
@@ -146,7 +146,7 @@ member = [
 END
 }
 
-# Compiles the library that refuses allocations to $temp/refuse.so; where there is no compiler, the
+# Compiles the library that refuses allocations to $temp/refuse.so; if there is no compiler, the
 # script ends here.
 compile_refuse() {
     needs cc "$(basename "$0")" || exit 0

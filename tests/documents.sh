@@ -114,7 +114,7 @@ if needs python3 "tools/reference.py has every public item"; then
     python3 "$top/tests/reference.py" || failed "tools/reference.py has every public item" "tests/reference.py stopped"
 fi
 
-# ---- each text that the program prints stands in docs/FORMATS.md
+# ---- docs/FORMATS.md has each text that the program prints
 sed -n 's/.*GameFault::.* => .*"\(.*\)".*/\1/p' "$top"/crates/council_game/src/fault.rt >"$temp/texts"
 [ "$(wc -l <"$temp/texts")" = "$(grep -cE '^            GameFault::.* => [0-9]+,$' "$top"/crates/council_game/src/fault.rt)" ] ||
     failed "each fault of a game has a text" "they were not found in crates/council_game/src/fault.rt"
@@ -123,7 +123,7 @@ sed -n 's/.*#\[error("\(.*\)")\].*/\1/p' "$top"/crates/mwc_gather/src/fault.rt "
 sed -n 's/.*eprintln!(rt; "council: \([^{"]*\)".*/\1/p' "$top"/crates/council/src/*.rt >>"$temp/texts"
 sort -u "$temp/texts" >"$temp/each"
 while IFS= read -r text; do
-    # a text with a number in it stands there by an example
+    # a text with a number in it is there by an example
     pattern=$(sed 's/[][().*]/\\&/g; s/{[^}]*}/[0-9]+/g' <<<"$text")
     if grep -qE -e "\`$pattern\`" "$top/docs/FORMATS.md"; then
         ok "docs/FORMATS.md has: $text"

@@ -12,7 +12,8 @@ if [ ! -f "$library" ]; then
 fi
 here=$top/tests/foreign
 
-# ---- it keeps nothing: no data that can be written, but a byte of the kit that nobody writes (the address of no memory)
+# ---- it keeps nothing: no data that can be written, but a byte of the kit that nobody writes (the
+# address of no memory)
 name="no global state"
 if needs nm "$name"; then
     kept=$(nm "$library" | sed -n 's/.* [bBcCdDsS] //p' | grep -vx nothing | head -n 2 | tr '\n' ' ')
@@ -136,7 +137,8 @@ for words in "--most 4000001" "--tally --list" "--tally --most 5"; do
     done
 done
 
-# ---- buffers that are too small: each caller begins with one, and calls again (report.c sees what it got, and what stands behind)
+# ---- buffers that are too small: each caller begins with one, and calls again (report.c sees what
+# it got, and what follows it)
 run --list <"$top/examples/board.toml"
 whole=$(wc -c <"$temp/out")
 for room in 0 1 10 $((whole - 1)) "$whole" $((whole + 1)); do
@@ -168,7 +170,8 @@ if command -v cc >/dev/null; then
     fi
 fi
 
-# ---- want of memory: each allocation refused in turn, until none is met. It is told, or was not needed.
+# ---- out of memory: each allocation refused in turn, until none is met. It is reported, or was
+# not needed.
 name="from C: want of memory is a status"
 if [ -x "$temp/report_c" ]; then
     compile_refuse

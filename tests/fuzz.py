@@ -75,7 +75,7 @@ def several_rules(rng):
 
 
 def statute(rng):
-    """Two to four rules as statutes have them, heads first: many small members, and behind them a small
+    """Two to four rules as statutes have them, heads first: many small members, and after them a small
     group with much weight, as owners, founders, vetoers or regions."""
     small, large = rng.randint(20, 38), rng.randint(1, 8)
     large = min(large, 40 - small)
@@ -156,7 +156,7 @@ def noisy(rng, games):
             other = rng.choice(games)
             text[at:] = other[rng.randrange(len(other) + 1):]
         else:
-            # another number in place of one
+            # another number instead of one
             numbers = list(re.finditer(rb"[0-9]+", text))
             if numbers:
                 it = rng.choice(numbers)

@@ -318,7 +318,8 @@ else
     failed "it runs what the first has built, and leaves its log" "status $second: $(tr '\n' '/' <"$temp/err2")"
 fi
 
-# ---- with the whole of a toolchain each library is proved once, and a program is built of their statements
+# ---- with the whole of a toolchain each library is proved once, and a program is built of their
+# statements
 whole=$temp/whole
 mkdir -p "$whole/bin" "$whole/c" "$whole/logic_built" "$whole/rlibs" "$whole/rattle/logic" "$whole/toolchain"
 echo "kit two" >"$whole/KIT-ID"

@@ -24,12 +24,12 @@ import tempfile
 
 ANSWER = re.compile(r"\b(?:[A-Z]\w*::)?(?:Memory|Start)\b|\bAllocError\b(?!>)")
 GROWTH = r"[\w.]*\.(?:push|push_back|reserve|extend_from_slice)\((?:[^|&]|&(?!&))*\)"
-# a growth that is asked alone whether it failed, a thread that was not spawned, and a proof of what
-# a fault is
+# a growth that is asked by itself whether it failed, a thread that was not spawned, and a proof of
+# what a fault is
 ASKS = re.compile(rf"(?:if |let \w+ = ){GROWTH}\.is_err\(\)(?: \{{|;)$|if let Err\(\w+\) = {GROWTH} \{{$|let Ok\(\w+\) = [\w.]*\bspawn_with\([^|&]*\) else \{{$")
 PROVED = re.compile(r"prove!\(matches!\(\w+, (?:[A-Z]\w*::)?Memory\)\);$")
-# a loss that is told, a call that is asked whether it failed, and a growth by a great number that
-# the code makes up
+# a refusal that is reported, a call that is asked whether it failed, and a growth by a great number
+# that the code makes up
 LOSS = re.compile(r"\.lose\(\)|\blost\s*\|?=(?![=>])(?! false;)|\.is_(?:err|ok)\(\)|(?:reserve\w*|with_capacity|resize)\(.*(?:\d{4}|\d_\d|<<|(?<!limits::)\b[A-Z]{2})")
 
 
@@ -55,13 +55,13 @@ def code_lines(path):
 
 
 def is_converted(text):
-    """Whether the line meets a want of memory, and answers it."""
+    """Whether the line meets a refused allocation, and answers it."""
     met, arrow, answered = text.partition("=>")
     return bool(re.search(r"Memory\(failed\.value\)", text)) or bool(arrow) and (bool(ANSWER.search(met)) or "OutOfMemory" in met or "is_memory()" in met)
 
 
 def answers(text):
-    """Whether the line answers want of memory, or that a thread was not started."""
+    """Whether the line answers out of memory, or that a thread was not started."""
     met, arrow, answered = text.partition("=>")
     answer = answered if arrow else re.sub(r"Result<.*?(Memory|AllocError)>", "", text)
     return ANSWER.search(answer) and not re.match(r"(pub struct )?(Memory|Start)(\(T\))?[,;]$", text)
@@ -84,7 +84,7 @@ def faults_of(path, name):
 
 
 def sees_planted_lines(top):
-    """Whether a line that answers want of memory by hand is seen, whatever it looks like."""
+    """Whether a line that answers out of memory by hand is seen, whatever it looks like."""
     name = "mwc_walk/src/slices.rt"
     with open(f"{top}/{name}", encoding="utf-8") as it:
         text = it.read()

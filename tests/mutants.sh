@@ -1,5 +1,5 @@
 #!/usr/bin/env bash
-# Wrong bodies that no clause refuses, or not with every reading of it, since want of memory, a
+# Mutants that no clause refuses, or not with every reading of it, since out of memory, a
 # failed read or write, threads and time are in no contract. Each edit of mutants/ is of the form of
 # a must-fail edit, with a first line `test: NAME in CRATE`; it is put into a copy of the crate,
 # with its tests, the module CRATE_tests of another crate, as a module of it, that test is run
@@ -85,8 +85,8 @@ with open(f"{room}/crates.txt", "w", encoding="utf-8") as it:
     for name, (said, used) in lines.items():
         it.write(f"{' '.join([name, *said])}: {' '.join(used)}\n")
 END
-# What the test of this name says in the crate as it stands: `passes`, `fails`, `late` where the
-# time limit ended it, or `none` where it was not run.
+# What the test of this name says in the crate unchanged: `passes`, `fails`, `late` if the
+# time limit ended it, or `none` if it was not run.
 say_test() {
     (cd "$room/crates/$crate" && rt try --test --seconds 300 -- "$test") >"$room/said" 2>&1 </dev/null
     awk -v name="$test" '
@@ -113,7 +113,7 @@ judge() {
 }
 
 found=0
-# Some of them: others with each day and each commit, so that all come round.
+# Some of them: others with each day and each commit, and all come round.
 if [ $some -gt 0 ]; then
     mapfile -t all < <(grep -LE '^test: .* (late|slow)$' "$top"/tests/mutants/*.edit)
     first=$((($(date +%s) / 86400 + $(git -C "$top" rev-list --count HEAD 2>/dev/null || echo 0)) * some))

@@ -17,7 +17,7 @@ if [ -e /dev/full ]; then
         : >"$temp/out"
         refused "$name with $word" 5 "output failed"
     done
-    # a fault keeps its status where it cannot be told
+    # a fault keeps its status even if it cannot be printed
     for words in "$temp/missing 1" "--workers=0 2"; do
         timeout "$seconds" "$program" "${words% *}" >"$temp/out" 2>/dev/full
         status=$?
@@ -37,7 +37,8 @@ status=$?
 : >"$temp/out"
 refused "$name" 5 "output failed"
 
-# ---- reports of more than the block of 64 KiB that they go out by, and a writer that fails in a later one
+# ---- reports of more than the block of 64 KiB that they go out by, and a writer that fails in a
+# later one
 if needs python3 "long reports"; then
     equal_members 40 3 >"$temp/three.txt"
     two_rules >"$temp/two.toml"
@@ -47,7 +48,7 @@ if needs python3 "long reports"; then
         length=$(wc -c <"$temp/oracle")
         run "$temp/$game" --list --sizes --notation
         printed "a report of $length bytes, $game" "$temp/oracle"
-        # $taken bytes are taken, and then no more: the program is told by a failed write
+        # $taken bytes are taken, and then no more: the program learns it by a failed write
         for taken in 61439 65535 65536 65537 70000 $((length - 1)); do
             name="$taken bytes of a report are taken, $game"
             if timeout "$seconds" python3 - "$program" "$temp/$game" "$taken" "$temp/err" >"$temp/out" <<'END'
@@ -80,7 +81,7 @@ END
     done
 fi
 
-# A reader that goes away after the first bytes of a long report. The program is told of it by a
+# A reader that goes away after the first bytes of a long report. The program learns of it by a
 # failed write, whatever the shell does with the signal for it.
 equal_members 40 5 >"$temp/equal.txt"
 handlings="SIG_DFL SIG_IGN"

@@ -1,6 +1,6 @@
 #!/bin/sh
 # A put after the close of a ring does not compile, since the close takes the end away. A must-fail
-# edit has to compile, so this case stands here: in a copy of the crate, a function that puts after
+# edit has to compile, so this case is here: in a copy of the crate, a function that puts after
 # the close is refused as a use of a moved value, and there is no other error.
 set -u
 top=$(cd "$(dirname "$0")/.." && pwd)

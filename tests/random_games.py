@@ -73,7 +73,7 @@ def chamber(rng, members, seats):
     elif kind == 2 and len(seats) > 1:
         weights = dict(zip(seats, weights_of(rng, len(seats))))
         rules.append([weights.get(i, 0) for i in range(members)])
-    # mostly some third to two thirds, so that there are many coalitions
+    # mostly some third to two thirds: then there are many coalitions
     return [(rng.choice([quota_of(rng, of)] + 3 * [sum(of) * rng.randint(3, 7) // 10 + 1]), of) for of in rules]
 
 

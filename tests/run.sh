@@ -8,10 +8,10 @@
 # beside the tests that do not want it.
 #
 # Each prints `ok NAME` or `FAILED NAME: why`, or `skipped NAME: why` for a test that can't be run
-# on this machine. The last line is `N passed, M failed`, with `, K skipped` behind it where some
+# on this machine. The last line is `N passed, M failed`, with `, K skipped` after it if some
 # were, and the status is not 0 if any failed.
 #
-# It sees whether each of the wrong bodies of mutants/ can still be planted, and plants two of them,
+# It sees whether each of the edits of mutants/ can still be planted, and plants two of them,
 # others with each day and each commit (mutants.sh); with COUNCIL_MUTANTS=1 it plants them all, more
 # than half an hour more.
 #

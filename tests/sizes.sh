@@ -1,5 +1,5 @@
 #!/usr/bin/env bash
-# Games of many members, rules and coalitions succeed: no body may answer want of memory, too many
+# Games of many members, rules and coalitions succeed: no mutant may answer out of memory, too many
 # coalitions or a fault of the file above one size.
 . "$(dirname "$0")/common.sh"
 

@@ -46,7 +46,7 @@ on_small_stack "a tally of chambers" examples/us-federal --tally
 on_small_stack "a tally beside a vetoer" docs/statutes/veto --tally
 on_small_stack "a tally of a chamber with heads beside another" docs/statutes/two-holders --tally
 on_small_stack "a tally by threads" examples/eu-27-nice --tally --workers 16
-# the same Council beside six seats that it shares nothing with: threads count the Council alone
+# the same Council beside six seats that it shares nothing with: threads count only the Council
 member=0
 {
     sed 's/^quotas = \[\(.*\)\]/quotas = [\1, 10]/; s/^weights = \[\(.*\)\]/weights = [\1, 0]/' "$top/examples/eu-27-nice.toml"

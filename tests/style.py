@@ -1,5 +1,5 @@
 #!/usr/bin/env python3
-"""The style of the documents: README.md, CONTRIBUTING.md, CHANGELOG.md and docs/*.md.
+"""The style of the documents (README.md, CONTRIBUTING.md, CHANGELOG.md and docs/*.md), and of all comments.
 
     tests/style.py
 
@@ -7,10 +7,14 @@ Prints `ok style: what` or `FAILED style: what: why` for each page and each of t
 100 columns (tables, headings, code and lines with a link may be wider); each relative link leads to a file, and each
 anchor to a heading of it; no worn-out phrase stands in the prose; and no page has more words than its limit. Words are
 those of the whole page, code and tables too, that have a letter or a digit.
+
+Then `ok style: comments of FOLDER` or `FAILED ..` for each folder at the top and each crate: no whole-line comment of
+its sources and scripts is wider than 100 columns, but for code and tables in it, and none has a worn-out phrase.
 """
 import glob
 import os
 import re
+import subprocess
 import sys
 
 TOP = os.path.dirname(os.path.dirname(os.path.realpath(__file__)))
@@ -145,4 +149,61 @@ for group, limit in LIMITS:
     if there:
         count = sum(map(words_of, there))
         good &= report(f"{' and '.join(there)}: at most {limit} words", [f"{count} words"] if count > limit else [])
+
+
+# ---- comments
+MARKS = {".rt": "//[/!]?", ".rs": "//[/!]?", ".c": "//", ".h": "//", ".antt": "--", ".py": "#", ".sh": "#"}
+
+
+def mark_of(path):
+    ending = os.path.splitext(path)[1]
+    if ending in MARKS or ending or path.startswith(("LICENSE", "HANDLES")):
+        return MARKS.get(ending)
+    with open(os.path.join(TOP, path), "rb") as it:
+        return "#" if re.match(rb"#!.*\b(sh|bash|python3)\b", it.read(40)) else None
+
+
+def comments_of(text, mark):
+    """The paragraphs of whole-line comments, each with the number of its first line, and the lines that are too wide."""
+    found, too_wide, words, first, fenced = [], [], [], 0, False
+    for number, line in enumerate([*text.split("\n"), ""], 1):
+        comment = re.match(rf"\s*(?:{mark})(?: |$)(.*)", line)
+        body = comment.group(1) if comment else ""
+        fenced = bool(comment) and fenced ^ body.strip().startswith("```")
+        code = fenced or body.startswith(("   ", "|", "```", "[")) or "://" in body
+        if comment and not code and len(line) > WIDTH:
+            too_wide.append(number)
+        if body.strip() and not code:
+            first = first if words else number
+            words.append(body.strip())
+        elif words:
+            found.append((first, " ".join(words)))
+            words = []
+    return found, too_wide
+
+
+def faults_of_comments(path, mark):
+    found, too_wide = comments_of(read(path), mark)
+    faults = [f"{path}:{number} is wider than {WIDTH} columns" for number in too_wide]
+    for number, words in found:
+        words = re.sub(r'"[^"]{0,100}"', '"', re.sub(r"`[^`]*`", "`", words))
+        for pattern, _, better in WORN:
+            worn_out = re.search(pattern if pattern.startswith(r"\b") else r"\b" + pattern, words, re.I)
+            if worn_out:
+                faults.append(f'{path}:{number} says "{worn_out.group(0)}": write {better}')
+    return faults
+
+
+listed = subprocess.run(["git", "-C", TOP, "ls-files", "-z"], capture_output=True, text=True)
+paths = [it for it in listed.stdout.split("\0") if it and os.path.isfile(os.path.join(TOP, it))]
+if listed.returncode != 0:
+    # an archive of the sources has no list of its files
+    paths = [os.path.relpath(it, TOP) for it in glob.glob(f"{TOP}/**/*", recursive=True) if os.path.isfile(it) and "/out/" not in it]
+folders = {}
+for path in sorted(paths):
+    parts = path.split("/")
+    if path != "tests/style.py" and mark_of(path):
+        folders.setdefault("/".join(parts[:2]) if parts[0] == "crates" else parts[0] if len(parts) > 1 else "the top", []).append(path)
+for folder, its in folders.items():
+    good &= report(f"comments of {folder}", [fault for path in its for fault in faults_of_comments(path, mark_of(path))])
 sys.exit(0 if good else 1)

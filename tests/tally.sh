@@ -125,7 +125,7 @@ minimal_of() {
     run --tally "$temp/rules.toml"
     succeeded "--tally of $1" && minimal=$(sed -n 's/^minimal\t//p' "$temp/out")
 }
-# a house of 20 by two rules, beside a senate of 19: threads count the house alone, whose coalitions
+# a house of 20 by two rules, beside a senate of 19: threads count only the house, whose coalitions
 # go with each of the senate's
 x=7
 house=() senate=() both=()
@@ -173,7 +173,7 @@ fi
 # ---- how far it has come: told on a terminal after a second, and wiped
 if needs python3 "a long tally on a terminal"; then
     # a game that takes some seconds in one thread: any 8 members win, by three rules that sums do
-    # not take, and under each rule all weights differ a little, so that no two members are of one
+    # not take, and under each rule all weights differ a little: no two members are of one
     # kind
     {
         echo 'quotas = [8000000, 8000000, 8000000]'
@@ -240,9 +240,9 @@ END
     if succeeded "a long tally without a terminal"; then ok "a long tally without a terminal"; fi
 fi
 
-# ---- one rule, or a rule and heads, of weights that have nothing in common: the figures of another program, which keeps a table
-# of what fits for each member
-# random MEMBERS MOST: as many weights up to that, in `weights`, and their total
+# ---- one rule, or a rule and heads, of weights that have nothing in common: the figures of another
+# program, which keeps a table of what fits for each member random MEMBERS MOST: as many weights up
+# to that, in `weights`, and their total
 random() {
     local x=7 member draw weight
     weights=()

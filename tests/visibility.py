@@ -1,5 +1,5 @@
 #!/usr/bin/env python3
-"""What a crate may cite of another, beside its public definitions: what stands in a folder Shared.
+"""What a crate may cite of another, beside its public definitions: what is in a folder Shared.
 
     tests/visibility.py
 

@@ -28,7 +28,7 @@ done
 # ---- on a terminal: how far a run has come, and that a game is read from standard input
 if needs python3 "a long run on a terminal" "a barren run on a terminal" "a late fault on a terminal" "a late report on a terminal" "a game from a terminal"; then
     # a game of 3,838,380 coalitions, listed in some tenths of a second; the program is stopped
-    # meanwhile, so that more than the second goes by after which a run is told of
+    # meanwhile, until more than the second has passed after which a run is reported
     {
         echo 'quota = 6'
         for ((member = 1; member <= 40; member++)); do
@@ -73,7 +73,7 @@ run = Run([sys.argv[1], "--workers", "1", "--bits", "0", sys.argv[2]])
 run.read_until(lambda told: len(set(re.findall(line, told))) >= 2)
 run.kill()
 assert run.first > 1, f"told of after {run.first} seconds"
-# each 1,048,576 of the one thread are told of
+# each 1,048,576 of the one thread are reported
 numbers = sorted({int(it.replace(b",", b"")) for it in re.findall(line + rb"(?=\r)", run.told)})
 assert numbers and all(it % 2**20 == 0 for it in numbers), numbers
 assert all(there - here == 2**20 for here, there in zip(numbers, numbers[1:])), numbers

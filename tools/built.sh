@@ -7,7 +7,7 @@
 #     tools/built.sh why         prints why the program is to be built, in one word; nothing where it is not
 #
 # What is kept stands in crates/council/out/built: the sum of the sources, the length and the sum of
-# the program, and the toolchain. Where it cannot be written it is not kept.
+# the program, and the toolchain. If it cannot be written it is not kept.
 case ${0##*/} in
 built.sh) top=$(CDPATH='' cd -P -- "$(dirname -- "$0")/.." >/dev/null && pwd -P && echo .) && top=${top%??} || exit 1 ;;
 esac
@@ -57,7 +57,7 @@ keep() {
 # reaches to the end that its header tells, runs, and no source is newer. What it was built of is
 # then kept.
 is_taken() {
-    # the table of sections ends a program: where it begins, and how many rows of which length it
+    # the table of sections ends a program: its place, and how many rows of which length it
     # has
     if [ "$(head -c 4 "$program" | od -An -c | tr -d ' ')" = 177ELF ]; then
         end=$(($(od -An -t u8 -j 40 -N 8 "$program") + $(od -An -t u2 -j 58 -N 2 "$program") * $(od -An -t u2 -j 60 -N 2 "$program")))

@@ -72,7 +72,7 @@ run = Run(TOOL, hard, put("several", report(hostile_game(3))))
 case("council-tools compare: hostile names", run.status == 0 and all(it in run.out for it in HOSTILE if it.isprintable()), run.err)
 case("council-tools compare: no letter that moves a terminal", all(it.isprintable() or it == "\n" for it in run.out))
 
-# ---- what is told can be pasted into a shell, which then runs nothing and sees the names
+# ---- what is printed can be pasted into a shell, which then runs nothing and sees the names
 names = [*HOSTILE[:-6], "'; touch x'", "$(touch x)", "`touch x`", "Land\u009bA", "Land!1", "a\\'b\u0085 c"]
 ONE = "members\t1\nquota\t1\ntotal\t1\nminimal\t1\nmember\tNAME\t1\t1\t1/1\t1.000000\t1/1\t1.000000\n"
 for name in (it for it in names if len(it.encode()) <= 60 and sum(map(str.isalnum, it)) >= 4):

@@ -22,7 +22,7 @@ name = \"C\"
 weight = 1
 ";
 
-/// The names of a game's members, each with a blank behind it.
+/// Returns the names of a game's members, each with a blank after it.
 fn put_names(rt: &impl Abort, game: &Game, text: &mut Vec<u8>) {
     for i in 0..game.members() {
         text.extend_from_slice(game.name(i).as_bytes())
@@ -208,7 +208,7 @@ fn check_long(rt: &impl Abort, alloc: Global, more: usize, end: &str, wanted: Op
     check_fault(rt, alloc, text.as_bytes(), wanted);
 }
 
-/// A bracket text with `count` blanks behind it answers so.
+/// Checks the answer to a bracket text with `count` blanks after it.
 fn check_blanks(rt: &impl Abort, alloc: Global, count: usize, wanted: &str) {
     let blanks = " ".repeat(alloc, count).expect(rt, "blanks");
     let text = format!(in alloc; "[1; 1]{blanks}").expect(rt, "a text");

@@ -15,7 +15,7 @@ use std::alloc::Global;
 use std::io::{self, Error, ErrorKind, Write};
 use std::process::Abort;
 
-/// A game of three rules. Its members stand in the opposite order of their rank.
+/// A game of three rules, its members in the opposite order of their rank.
 const GAME: &str = "quotas = [140, 7, 1]
 [[member]]
 name = \"Northumbria of the North\"

@@ -3,7 +3,7 @@ use council_words::{Arguments, WordsFault, read_words};
 use std::alloc::Global;
 use std::process::Abort;
 
-/// Fails with the label where the numbers and the flags are not these: list, sizes, notation,
+/// Fails with the label if the numbers and the flags are not these: list, sizes, notation,
 /// tally, explain.
 fn asks_for(
     rt: &impl Abort,

@@ -1,11 +1,11 @@
-//! What the tests of this crate share.
+//! Helpers for the tests of this crate.
 use council_game::{Game, Rule};
 use std::alloc::Global;
 use std::fmt::Debug;
 use std::io::{ErrorKind, Print};
 use std::process::Abort;
 
-/// Each kind of a failure that a reader or a writer may tell.
+/// Each kind of failure that a reader or a writer may return.
 pub(crate) const KINDS: [ErrorKind; 42] = [
     ErrorKind::NotFound,
     ErrorKind::PermissionDenied,
@@ -51,7 +51,7 @@ pub(crate) const KINDS: [ErrorKind; 42] = [
     ErrorKind::Uncategorized,
 ];
 
-/// Fails with the label where what was found is not what was wanted.
+/// Fails with the label if what was found is not what was wanted.
 pub(crate) fn assert_same<T: PartialEq + Debug + Drop, L: Debug + Drop>(
     rt: &impl Abort,
     found: T,

@@ -104,10 +104,10 @@ const FOUR_GROUPS: Statute = (
     ],
 );
 
-/// Sixteen members of whom the last alone is the one minimal winning coalition.
+/// Sixteen members, of whom only the last is in the one minimal winning coalition.
 const LATE: Statute = (&[1, 1, 8], &[(15, &[2, 0, 1]), (1, &[1, 1, 8])]);
 
-/// The slices at `bits` bits, one behind the other.
+/// The slices at `bits` bits, one after the other.
 fn slices(rt: &impl Abort, alloc: Global, game: &Game, bits: u8) -> Vec<Coalition> {
     assert!(rt; bits <= 10 && bits as usize <= game.members());
     let mut all = Vec::new(alloc);
@@ -118,7 +118,7 @@ fn slices(rt: &impl Abort, alloc: Global, game: &Game, bits: u8) -> Vec<Coalitio
     all
 }
 
-/// Fails with the label where the coalitions are not those of these masks, in that order.
+/// Fails with the label if the coalitions are not those of these masks, in that order.
 fn are_masks(rt: &impl Abort, list: &[Coalition], masks: &[u64], label: &str) {
     assert_same(rt, list.len(), masks.len(), label);
     for (coalition, mask) in list.iter().zip(masks) {

@@ -117,7 +117,7 @@ const NONE: Printed = (0, 1, *b"0.000000");
 
 const ALL: Printed = (1, 1, *b"1.000000");
 
-/// The game of five members, its minimal winning coalitions, and what stands of each member.
+/// The game of five members, its minimal winning coalitions, and the line of each member.
 const FIVE: [u64; 5] = [35, 20, 15, 15, 15];
 
 const MASKS: [u64; 5] = [24, 22, 21, 19, 15];
@@ -165,7 +165,7 @@ type Worked = (
     &'static [Members],
 );
 
-/// The board in two orders of the file, and where all three are needed; the six of 1958, of whom
+/// The board in two orders of the file, and with all three needed; the six of 1958, of whom
 /// one is a dummy; one member; and a member of weight 0.
 const WORKED: [Worked; 6] = [
     (

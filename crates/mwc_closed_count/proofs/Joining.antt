@@ -54,7 +54,7 @@ pub record Holds (n : ℕ) (won : (ℕ → Bool) → Bool) (m : ℕ) (ranks : Li
   pub least : (c : ℕ) → c < 2 ^ m → (min c ≡ true) ↔ IsLeast n won (seen m ranks c)
   pub inside : (f : ℕ → Bool) → IsLeast n won f → (i : ℕ) → i < n → f i ≡ true → get_or ranks i 0 < m
 
--- a test of sets sees these members alone
+-- a test of sets sees only these members
 abbrev pub Sees : ℕ → (ℕ → Bool) → ((ℕ → Bool) → Bool) → Type 0
 Sees n side won = (f h : ℕ → Bool) → ((i : ℕ) → i < n → side i ≡ true → f i ≡ h i) → won f ≡ won h
 

@@ -61,7 +61,7 @@ heads-law v heads c votes two asks below =
     let parts = by-heads v.members (wins (take 1 v.rules)) heads c in
     grind (arith, same, minimal-min v c, parts, minimal-min (first_rule v) c, first-wins v.rules c votes.has_rule)
 
--- a coalition that members lead to, from a need and a number of members: where the first meets the
+-- a coalition that members lead to, from a need and a number of members: if the first meets the
 -- need, others behind it fill it up to the heads
 unfoldable pub leads : List ℕ → ℕ → ℕ → ℕ → ℕ → Bool
 leads [] heads need a c = false
@@ -79,7 +79,8 @@ leads-in : (w : ℕ) (ws : List ℕ) (heads r a c : ℕ) → leads (w ∷ ws) he
 unfolding leads
 leads-in w ws heads r a c = grind (arith, cond-false, le-ltb)
 
--- ---- how many coalitions of n places that have none of place p have a size; all, where p is no place
+-- ---- how many coalitions of n places that have none of place p have a size; all, where p is no
+-- place
 abbrev lacks : ℕ → ℕ → ℕ → Bool
 lacks n p c = not (ltb p n && has n p c)
 

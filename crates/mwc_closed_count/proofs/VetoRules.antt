@@ -127,7 +127,7 @@ pub made-of : (g : GameView) (rs : List RuleView) → IsGame g → All (IsFair (
     → made_game None g.names rs ≡ Ok (record { title = None; names = g.names; rules = rs; ranks = rank_places (first_weights rs) })
 made-of g rs is fair = grind (arith, passed, makes, position_nowhere, list_any_none, le-ltb)
 
--- what was made of them, or want of memory
+-- what was made of them, or out of memory
 pub made-rules : (g made : GameView) (rs : List RuleView) → IsGame g → All (IsFair (length g.names)) rs
     → Answers (Ok made) (made_game None g.names rs) → (made.title ≡ None) × (made.names ≡ g.names) × (made.rules ≡ rs)
 made-rules g made rs is fair gives = grind (arith, made-of)

@@ -103,7 +103,7 @@ fn options(workers: u8, bits: u8, most: u32, shown: ReportLines) -> Options
     }
 }
 
-/// The options that the program uses where none is given.
+/// The options that the program uses if none is given.
 fn plain() -> Options {
     options(4, 6, 1_000_000, NO_LINES)
 }

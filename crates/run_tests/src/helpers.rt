@@ -1,4 +1,4 @@
-//! What the tests of this crate share.
+//! Helpers for the tests of this crate.
 use council_game::{Game, Rule};
 use mwc_pipe::{PipeIn, Word};
 use std::alloc::Global;
@@ -6,7 +6,7 @@ use std::fmt::Debug;
 use std::io::Print;
 use std::process::Abort;
 
-/// Fails with the label where what was found is not what was wanted.
+/// Fails with the label if what was found is not what was wanted.
 pub(crate) fn assert_same<T: PartialEq + Debug + Drop, L: Debug + Drop>(
     rt: &impl Abort,
     found: T,

@@ -61,7 +61,7 @@ fn forty(rt: &impl Abort, alloc: Global, quota: u64) -> Game {
     game(rt, alloc, quota, &[1; 40])
 }
 
-/// Fails with the label where the coalitions are not those of these masks, in that order.
+/// Fails with the label if the coalitions are not those of these masks, in that order.
 fn are_masks(rt: &impl Abort, list: &[Coalition], masks: &[u64], label: &str) {
     assert_same(rt, list.len(), masks.len(), label);
     for (coalition, mask) in list.iter().zip(masks) {
@@ -101,7 +101,7 @@ fn lists<R: Threads + Wait + Abort + Sync, G: Gate + Sync>(
     are_masks(rt, &list, masks, "the list");
 }
 
-/// How many coalitions are gathered where there are at most `most`, and 0 where there are more.
+/// Returns how many coalitions are gathered, or 0 if there are more than `most`.
 fn count<R: Threads + Wait + Abort + Sync>(
     rt: &R,
     alloc: Global,
@@ -360,7 +360,7 @@ fn held_parts<R: Threads + Wait + Abort + Sync>(
     gathered
 }
 
-/// Fails where the parts of two workers do not begin with these slices.
+/// Fails if the parts of two workers do not begin with these slices.
 fn begin_with(rt: &impl Abort, gathered: &Gathered, first: &[u16], second: &[u16], held: u8) {
     assert!(rt; gathered.parts.len() == 2);
     let found = (

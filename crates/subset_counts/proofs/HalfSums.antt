@@ -20,7 +20,7 @@ left_out-back zero p (x ∷ xs) ys is = absurd (omega arith)
 left_out-back (suc q) p (x ∷ xs) ys is = ap (λ (l : List ℕ). x ∷ l) (left_out-back q p xs ys (omega arith))
 
 -- of members in two halves, without that of a place in the one or the other: the pairs of their
--- sets, and the sets of the first alone
+-- sets, and only the sets of the first
 module _ (short : Bool) (fr bk : List ℕ) (xs ys : List Subset) (front : ℕ) (first : AreSubsets false fr xs) (second : AreSubsets short bk ys)
     (long : length fr ≡ front) (q s place : ℕ) where
   pub front-met : place < front → over short (left_out place (fr ++ bk)) (fits q 0 s)
@@ -43,7 +43,7 @@ module _ (short : Bool) (fr bk : List ℕ) (xs ys : List Subset) (front : ℕ) (
       ∙ (λ i. sum_by (λ y. cond (has p y.members) 0 (sum_by (λ x. fits-turned q s x y i) xs)) ys) in
       grind (arith, left_out-back place p fr bk, fits-halves short (left_out p bk) fr q s, out, left_out-past place fr)
 
--- the sets of the first half alone
+-- only the sets of the first half
 met-empty : (q s : ℕ) (x : Subset) → met q (empty ∷ []) s x ≡ fits q 0 s x
 met-empty q s x = sum-one (fits (q - x.weight) x.size s) empty ∙ (grind (arith, nat_tests))
 

@@ -5,7 +5,7 @@ use crate::helpers::print_line;
 use council_game::{push_decimal, push_joined};
 use std::io::Print;
 
-/// Tells the answer of a call that makes a game: what is shown of the game here, or want of memory.
+/// Prints the answer of a call that makes a game: what is shown of it, or out of memory.
 fn tells_game<R: Abort + Print>(
     rt: &R,
     alloc: Global,
@@ -68,7 +68,7 @@ fn writes_notation(rt: HostRuntime) {
     assert_same(&rt, out.as_slice(), b"x[51; 50, 49, 1]", "notation");
 }
 
-/// Tells the answer of a call on a file that has this fault: the fault, or want of memory.
+/// Prints the answer of a call on a file that has this fault: the fault, or out of memory.
 fn tells_fault<R: Abort + Print>(rt: &R, answer: Result<Game, GameFault>, wanted: GameFault) {
     match answer.err() {
         Some(GameFault::Memory) => print_line(rt, "out of memory"),
@@ -159,7 +159,7 @@ fn reads_too_much(rt: HostRuntime) {
     tells_fault(&rt, answer, GameFault::TooLong);
 }
 
-/// Puts numbers behind a text: where a growth is refused, the text still stands in front.
+/// Puts numbers after a text: if a growth is refused, the text is still in front.
 #[test]
 fn puts_numbers(rt: HostRuntime) {
     let mut text = Vec::new(rt.alloc());

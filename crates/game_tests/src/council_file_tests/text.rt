@@ -1,4 +1,4 @@
-//! Numbers put behind a text, one by one and in a row.
+//! Numbers put after a text, one by one and in a row.
 use super::assert_same;
 use council_game::{push_decimal, push_joined};
 

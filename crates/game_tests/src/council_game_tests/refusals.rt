@@ -3,7 +3,7 @@
 use super::*;
 
 /// Tells the answer of a call that makes a game: the game with these minimal winning coalitions, or
-/// want of memory.
+/// out of memory.
 fn tells_game<R: Abort + Print>(
     rt: &R,
     alloc: Global,
@@ -40,7 +40,7 @@ fn makes_a_game_of_two_rules(rt: HostRuntime) {
     tells_game(&rt, rt.alloc(), answer, &[14, 13, 11, 7]);
 }
 
-/// The list of a game, or want of memory.
+/// The list of a game, or out of memory.
 fn tells_list<R: Abort + Print>(rt: &R, alloc: Global, game: &Game) {
     assert!(rt; game.members() <= 20);
     print_line(rt, "call");

@@ -5,7 +5,7 @@ use super::*;
 use crate::helpers::print_line;
 use std::io::Print;
 
-/// Tells the answer of a report: what the writer took, or want of memory, and then it took nothing.
+/// Prints the answer of a report: what the writer took, or out of memory and nothing taken.
 fn tells<R: Abort + Print>(rt: &R, answer: Result<u64, ReportFault>, writer: &Asked) {
     let taken = writer.bytes;
     if answer == Err(ReportFault::Memory) {

@@ -55,9 +55,9 @@ fn random_statutes_by_every_subset(rt: HostRuntime) {
     }
 }
 
-/// Of 16 members the last alone is the one minimal winning coalition. Sought by 16 visits at a time
-/// it is not met twice, and takes 41 visits. Of a game of one rule each coalition is met, however
-/// few visits are asked for.
+/// Of 16 members only the last is in the one minimal winning coalition. Sought by 16 visits at a
+/// time it is not met twice, and takes 41 visits. Of a game of one rule each coalition is met,
+/// however few visits are asked for.
 #[test]
 fn seeks_within_so_many_visits(rt: HostRuntime) {
     let late = game_by_groups(&rt, rt.alloc(), &[0, 1, 2], &LATE);

@@ -55,7 +55,7 @@ pub(super) fn counts(rt: &impl Abort, game: &Game, coalitions: u64, visits: u64)
 }
 
 /// A statute, how many coalitions it has, and by how many visits a walk gives them, with its places
-/// by contribution, in whatever order its rules stand.
+/// by contribution, whatever the order of its rules.
 type Row = (Statute, u64, u64);
 
 /// The orders of four rules. Those of two or three are the ones that leave the others at the end.
@@ -113,7 +113,7 @@ fn check(rt: &impl Abort, alloc: Global, rows: &[Row]) {
 
 /// Three and four groups of which one member each is needed; a chair who must agree, by the second
 /// rule or by the first; two houses; a president, a senate of seven and a house of eleven; one
-/// coalition of the last member alone, who is a vetoer.
+/// coalition of only the last member, who is a vetoer.
 #[test]
 fn visits_under_several_rules(rt: HostRuntime) {
     let rows: [Row; 8] = [
@@ -188,10 +188,10 @@ fn visits_of_slices_under_several_rules(rt: HostRuntime) {
 }
 
 /// Statutes of 40 members: two signatures, or four, and half of the shares, of which an owner has
-/// most; two of three large owners; two classes of shares; vetoers behind many members; joint
+/// most; two of three large owners; two classes of shares; vetoers lighter than many members; joint
 /// owners; three heads and 90 percent of the people, of whom two states have most; two chambers and
-/// a budget; a member who alone has what the rules ask for. And the Security Council of the United
-/// Nations: nine of fifteen members, with all five who are permanent.
+/// a budget; a member who has what the rules ask for without others. And the Security Council of
+/// the United Nations: nine of fifteen members, with all five who are permanent.
 #[test]
 fn visits_of_natural_statutes(rt: HostRuntime) {
     let rows: [Row; 10] = [
@@ -221,7 +221,7 @@ fn visits_of_natural_statutes(rt: HostRuntime) {
 }
 
 /// Statutes of many coalitions: six signatures and half of the shares, of which an owner has most;
-/// 8 vetoers behind 32 other members, with 14 heads.
+/// 8 vetoers lighter than 32 other members, with 14 heads.
 #[test]
 fn visits_of_statutes_of_many_coalitions(rt: HostRuntime) {
     let rows: [Row; 2] = [

@@ -16,7 +16,7 @@ use std::thread::Threads;
 #[derive(Drop)]
 struct Seen {
     of: [AtomicU64; 1024],
-    /// One more than the slice, and 0 where the worker passed none.
+    /// One more than the slice, and 0 if the worker passed none.
     first: [AtomicU64; 16],
     /// How often another number came.
     other: AtomicU64,

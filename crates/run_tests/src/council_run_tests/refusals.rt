@@ -57,7 +57,7 @@ fn tells<R: Abort + Print>(
     }
 }
 
-/// Runs on the file, or tallies it, and tells its answer.
+/// Runs on the file, or tallies it, and prints its answer.
 fn runs<R: Abort + Print + Threads + Wait + Sync>(
     rt: &R,
     alloc: Global,

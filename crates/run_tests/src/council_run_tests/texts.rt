@@ -6,7 +6,7 @@ use mwc_pipe::{Refused, Unfinished};
 use mwc_tally::TallyFault;
 use std::fmt::Display;
 
-/// What the program prints behind its name, as docs/FORMATS.md has it.
+/// What the program prints after its name, as docs/FORMATS.md has it.
 #[test]
 fn texts(rt: HostRuntime) {
     let rows = [

@@ -14,7 +14,7 @@ struct Seen {
     by: [AtomicU64; 64],
     other: AtomicU64,
     prefixes: AtomicU64,
-    /// The most prefixes that one call told of.
+    /// The most prefixes that one call reported.
     most_at_once: AtomicU64,
     found: AtomicU64,
 }
@@ -32,7 +32,7 @@ impl Seen {
         }
     }
 
-    /// How many coalitions all calls of `inform` told of.
+    /// How many coalitions all calls of `inform` reported.
     fn found(&self) -> u64 {
         self.found.load(Ordering::SeqCst)
     }

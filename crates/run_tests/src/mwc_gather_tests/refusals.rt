@@ -30,7 +30,7 @@ fn gathers(rt: HostRuntime) {
     lists(&rt, rt.alloc(), &game, &NoGate, 2, 3, &FIVE);
 }
 
-/// Where the list is too long and something is refused, the refusal is told.
+/// If the list is too long and something is refused, the refusal is reported.
 #[test]
 fn gathers_too_many(rt: HostRuntime) {
     let game = five(&rt, rt.alloc());

@@ -184,7 +184,7 @@ fn moves_words_between_threads(rt: HostRuntime) {
     }
 }
 
-/// Puts all words in, in order, by rows of at most `most`, and closes the ring; it gives up where
+/// Puts all words in, in order, by rows of at most `most`, and closes the ring; it gives up if
 /// it found no room too often.
 fn put_all_rows(to: RingIn, most: u32) -> Result<Closed, Unfinished>
     requires { most ≤ 64 }

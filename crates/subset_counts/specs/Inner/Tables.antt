@@ -13,8 +13,7 @@ pub record HasRows (rows : List (List ℕ)) : Type 0 where
 pub record AreOfKeys (key : Subset → ℕ) (f : ℕ → Subset → ℕ) (xs : List Subset) (rows : List (List ℕ)) : Type 0 where
   pub each : (k s : ℕ) → s ≤ MEMBERS → slice_index (slice_index_or rows k []) s ≡ sum_by (λ x. if key x == k then f s x else 0) xs
 
--- what fits has been counted in the row of a key, by size, where it stands behind a set of this
--- size
+-- what fits has been counted in the row of a key, by size, each after a subset of this size
 pub record IsCounted (key size : ℕ) (here : List ℕ) (old new : List (List ℕ)) : Type 0 where
   pub long : length new ≡ length old
   pub row : (k s : ℕ) → s ≤ MEMBERS → slice_index (slice_index_or new k []) s
