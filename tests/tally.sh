@@ -241,8 +241,8 @@ END
 fi
 
 # ---- one rule, or a rule and heads, of weights that have nothing in common: the figures of another
-# program, which keeps a table of what fits for each member random MEMBERS MOST: as many weights up
-# to that, in `weights`, and their total
+# program, which keeps a table of what fits for each member
+# random MEMBERS MOST: as many weights up to that, in `weights`, and their total
 random() {
     local x=7 member draw weight
     weights=()
