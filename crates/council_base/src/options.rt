@@ -9,8 +9,9 @@ use crate::report_lines::ReportLines;
 pub struct Options {
     /// The number of worker threads, 1 to 16.
     pub workers: u8,
-    /// How many of the heaviest members are fixed in each slice, 0 to 10. A game with fewer members
-    /// fixes all of them.
+    /// How many of the heaviest members are fixed in each slice, 0 to 10.
+    ///
+    /// A game with fewer members fixes all of them.
     pub bits: u8,
     /// The greatest number of minimal winning coalitions that a run keeps, 1 to 4,000,000.
     pub most: u32,

@@ -12,8 +12,9 @@ const USUAL: u32 = 1_000_000;
 #[repr(C)]
 #[derive(Clone, Copy)]
 pub struct CouncilOptions {
-    /// The greatest number of minimal winning coalitions that are kept, 1 to 4,000,000; 0 means
-    /// 1,000,000.
+    /// The most minimal winning coalitions that are kept, 1 to 4,000,000.
+    ///
+    /// 0 means 1,000,000.
     pub most: u32,
     /// Count the coalitions, any number, and keep none; not with `list` or `most`.
     pub tally: bool,

@@ -7,7 +7,9 @@ ghost use Rattle.subset_counts.specs.Inner.Rows.{AreChoices};
 use council_base::{Memory, limits};
 use std::alloc::Global;
 
-/// Returns the row for one member more: each number and the one before it, added (Pascal 1654).
+/// Returns the row for one more member (Pascal 1654).
+///
+/// Each number is that of the row and the one before it, added.
 #[tactic(auto, using(std::proofs::lemmas::Grind::common_steps, crate::proofs::Taking::chosen))]
 fn next_row(row: &[u64; limits::SIZES], of: usize) -> [u64; limits::SIZES]
     requires few { of ≤ MEMBERS }

@@ -41,6 +41,8 @@ pub(crate) struct Groups {
 }
 
 impl Groups {
+    /// Counts the pairs of a list and the other subsets.
+    ///
     /// Both lists are by weight: while the need falls, more and more of the others meet it, and
     /// each comes in once.
     pub(crate) fn new(
