@@ -47,16 +47,15 @@ const FORMS: &str = "A game file has one of two forms:
   name = \"C\"
   weight = 1
 
-A coalition wins that reaches or passes the quota: more than half of 100 is 51.
-The first form is TOML; a title, and up to 4 rules by quotas and weights, may
-stand in it, and then a coalition wins that meets each quota. The second names
-the members 1, 2, 3. There are 1 to 40 members, and weights from 0 to
-1000000000000.
+A coalition wins if it reaches or passes the quota: more than half of 100 is 51.
+The first form is TOML. It may have a title, and up to 4 rules by quotas and
+weights; then a coalition wins if it meets each quota. The second form names the
+members 1, 2, 3. There are 1 to 40 members, and weights from 0 to 1000000000000.
 
 The report has these lines, whose fields are separated by one TAB. Under several
 rules a quota, a total or a weight has one value for each rule, with / between.
 
-  title      the title, where the file has one
+  title      the title, if the file has one
   members    the number of members
   quota      the quota
   total      the total of the weights
@@ -71,18 +70,17 @@ rules a quota, a total or a weight has one value for each rule, with / between.
              good index likewise
 
 With --tally a game may have any number of coalitions: they are counted, and
-none is kept. Where it has one rule, two of which one gives each member the
-same weight, or rules that share no member but those that can veto, they are
-counted by sums or by halves, and --workers and --bits then have no effect.
+none is kept. If it has one rule, two of which one gives each member the same
+weight, or rules that share no member but those that can veto, they are counted
+by sums or by halves, and --workers and --bits then have no effect.
 
-With --explain the one line that says why a game is refused is followed by
-others, which begin with blanks: the line of the file, what stands there, and
-what is allowed.
+With --explain the line that says why a game is refused is followed by others:
+the line of the file, what it has, and what is allowed. They begin with blanks.
 
-The status is 0 where the report was written, 1 where the game file cannot be
-opened or read, 2 where the command line is wrong, 3 where the file has no game,
-4 where the game has more than --most coalitions, 5 where memory, a thread or
-the output failed.";
+The status is 0 if the report was written, 1 if the game file cannot be opened
+or read, 2 if the command line is wrong, 3 if the file has no game, 4 if the
+game has more than --most coalitions, 5 if memory ran out, a thread could not be
+started, or the output failed.";
 
 /// An option that takes a number.
 ///
@@ -136,11 +134,7 @@ const FLAGS: &[(&str, &str, &[&str])] = &[
         "Counts the coalitions, any number of them, and keeps none",
         &["list", "most"],
     ),
-    (
-        "explain",
-        "Where a game is refused, lines that say where and why",
-        &[],
-    ),
+    ("explain", "If a game is refused, says where and why", &[]),
 ];
 
 fn number_option<'a>(alloc: Global, number: &Number) -> Arg<'a> {
