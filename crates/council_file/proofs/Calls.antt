@@ -3,13 +3,7 @@ use Rattle.std.proofs.Common.{◌≡◌, ◌<◌, ◌≤◌, ◌++◌, ℕ, List
 use Rattle.std.specs.declared.io.Error.{Error}
 use Rattle.council_game.specs.declared.fault.GameFault.{GameFault, TheVariants.Read, TheVariants.Memory}
 use Rattle.council_file.specs.{Inner.Reads.Given, Inner.Reads.IsStop, Reads.Reading, Reads.Reads}
-use Rattle.council_file.specs.Reads.{gave, ended, failed, not_kept}
-
--- a reading is stopped by no other faults
-abbrev StopsReading : GameFault → Type 0
-StopsReading Read = Unit {0}
-StopsReading Memory = Unit {0}
-StopsReading fault = ⊥
+use Rattle.council_file.specs.Reads.{gave, ended, failed}
 
 module _ {R : Type 0} (is_read : R → List ℕ → Result ℕ Error → R → List ℕ → Type 0) where
   pub reading-more : (r s last : R) (old new : List ℕ) (n : ℕ) (end : Result (List ℕ) GameFault) → length old ≤ 65536 → 0 < n
@@ -24,19 +18,10 @@ module _ {R : Type 0} (is_read : R → List ℕ → Result ℕ Error → R → L
       subst (λ b. Reading is_read r old (Ok b) s) (sym same)
       (ended r s old given.buffer given.filled few (subst (λ (k : ℕ). is_read r given.buffer (Ok k) s given.filled) none given.read) given.room)
 
-  pub reading-stops : (r s : R) (bytes : List ℕ) (fault : GameFault) → length bytes ≤ 65536 → IsStop is_read r s fault
-      → Reading is_read r bytes (Err fault) s
-  reading-stops r s bytes Read few h = failed r s bytes h.0 h.1 h.2 few h.3
-  reading-stops r s bytes Memory few h = not_kept r s bytes h.0 h.1 h.2 few h.3
-  reading-stops r s bytes fault few h = absurd h
-
-  stops : {r last : R} {bytes : List ℕ} {fault : GameFault} → Reading is_read r bytes (Err fault) last → StopsReading fault
-  stops (gave _ _ _ _ _ _ _ _ _ _ _ rest) = stops rest
-  stops (failed _ _ _ _ _ _ _ _) = tt
-  stops (not_kept _ _ _ _ _ _ _ _) = tt
-
-  pub reading-fails : (left : R → Option (List ℕ)) (first last : R) (fault : GameFault) → Reading is_read first [] (Err fault) last
-      → Reads left is_read first last (Err fault)
-  reading-fails left first last Read reading = reading
-  reading-fails left first last Memory reading = tt
-  reading-fails left first last fault reading = absurd (stops reading)
+  -- a read failed, or memory ran out
+  pub reading-stops : (left : R → Option (List ℕ)) (first r s : R) (bytes : List ℕ) (fault : GameFault) → length bytes ≤ 65536
+      → ((end : Result (List ℕ) GameFault) (last : R) → Reading is_read r bytes end last → Reading is_read first [] end last)
+      → IsStop is_read r s fault → Reads left is_read first s (Err fault)
+  reading-stops left first r s bytes Read few goes-on h = goes-on (Err Read) s (failed r s bytes h.0 h.1 h.2 few h.3)
+  reading-stops left first r s bytes Memory few goes-on h = tt
+  reading-stops left first r s bytes fault few goes-on h = absurd h

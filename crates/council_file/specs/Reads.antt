@@ -29,19 +29,12 @@ pub data Reading {R : Type 0} (is_read : R → List ℕ → Result ℕ Error →
   too_long : (r : R) (bytes : List ℕ) → FILE_BYTES < length bytes → Reading is_read r bytes (Ok bytes) r
   failed : (r s : R) (bytes buffer filled : List ℕ) (e : Error) → length bytes ≤ FILE_BYTES
       → is_read r buffer (Err e) s filled → Reading is_read r bytes (Err Read) s
-  -- there was no memory for what a read gave
-  not_kept : (r s : R) (bytes buffer filled : List ℕ) (n : ℕ) → length bytes ≤ FILE_BYTES
-      → is_read r buffer (Ok n) s filled → Reading is_read r bytes (Err Memory) s
 
--- the reader gave these bytes, by these reads
-pub record HasGiven {R : Type 0} (left : R → Option (List ℕ)) (is_read : R → List ℕ → Result ℕ Error → R → List ℕ → Type 0)
-    (first last : R) (bytes : List ℕ) : Type 0 where
-  pub gave : Gave (left first) (left last) bytes
-  pub reads : Reading is_read first [] (Ok bytes) last
-
--- The game of the bytes that the reader gave, or their first fault; or a read failed, or memory ran out.
+-- The game of the bytes that the reader gave, or their first fault; or a read failed, or memory ran out. `left` has the bytes that a
+-- reader has left, if they are known.
 abbrev pub Reads : {R : Type 0} → (R → Option (List ℕ)) → (R → List ℕ → Result ℕ Error → R → List ℕ → Type 0) → R → R
     → Result GameView GameFault → Type 0
 Reads left is_read first last (Err Memory) = Unit {0}
 Reads left is_read first last (Err Read) = Reading is_read first [] (Err Read) last
-Reads {R} left is_read first last answer = (bytes : List ℕ) × HasGiven left is_read first last bytes × (game_of bytes ≡ answer)
+Reads left is_read first last answer =
+    (bytes : List ℕ) × Gave (left first) (left last) bytes × Reading is_read first [] (Ok bytes) last × (game_of bytes ≡ answer)

@@ -39,7 +39,7 @@ fn read_bytes<R: Source>(alloc: Global, reader: &mut R) -> Result<Vec<u8>, GameF
     ensures gave { IfOk result (λ v. Gave (R.left reader.old) (R.left reader.new) v.items) }
     ensures reads { MatchResult result
         (λ v. Reading R.is_read reader.old [] (Ok v.items) reader.new)
-        (λ fault. Reading R.is_read reader.old [] (Err fault) reader.new) }
+        (λ fault. Reads R.left R.is_read reader.old reader.new (Err fault)) }
 {
     let mut bytes: Vec<u8> = Vec::new(alloc);
     while bytes.len() <= limits::FILE_BYTES {

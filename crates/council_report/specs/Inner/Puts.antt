@@ -1,8 +1,7 @@
 -- A text that is told through a block, line by line.
-use Rattle.std.specs.Prelude.{◌≡◌, ◌++◌, ◌+◌, ℕ, List, [], length, false, Result, Ok, Err, OnOk, IfErr}
+use Rattle.std.specs.Prelude.{◌≡◌, ◌<◌, ◌⊎◌, ◌++◌, ◌+◌, ℕ, List, [], length, false, Result, Ok, Err, OnOk, IfErr}
 use Rattle.council_report.specs.Inner.Told.{Calls, Progress, progress_of, Tells, HasStopped, StopsIn}
 use Rattle.council_report.specs.Inner.Ready.{HasRoom, IsReady}
-use Rattle.council_report.specs.Sending.{IsBlock}
 use Rattle.council_report.specs.declared.output.Block.{Block}
 use Rattle.council_report.specs.declared.output.WriteFault.{WriteFault}
 
@@ -11,6 +10,10 @@ abbrev pub TakesWhole : {W : Type 0} → Calls W → List ℕ → W → W → Re
 TakesWhole {W} S bytes first last (Ok _) = (rest : List ℕ) (count : ℕ) (end : Result ℕ ℕ) (w : W)
     → S last [] rest (count + length bytes) end w → S first bytes rest count end w
 TakesWhole S bytes first last (Err fault) = (rest : List ℕ) (count : ℕ) → S first bytes rest count (Err (count + fault.written)) last
+
+-- A block may go out if it is large, or nothing follows it.
+abbrev pub IsBlock : List ℕ → List ℕ → Type 0
+IsBlock block rest = (61440 < length block) ⊎ (rest ≡ [])
 
 -- all of a block was written, or writing stopped in it; a block may go out if it is large enough for what follows
 abbrev pub Drains : {W : Type 0} → Calls W → W → Block → W → Block → Result (Unit {0}) WriteFault → Type 0

@@ -26,7 +26,6 @@ returns-clause-reads g c = c.loop-bytes.invariant.reads _ _ (too_long c.loop-byt
 pub returns-in_err-read_some-clause-reads : goal.returns-in_err-read_some-clause-reads
 returns-in_err-read_some-clause-reads g c =
     let failed = err_from_is_err_and c.from_residual.result c.from_residual.ensures.1 in
-    let reads = c.loop-bytes.invariant.reads _ _
-    (reading-stops g.R.Source.is_read c.loop-bytes.reader c.read_some.new.reader c.loop-bytes.bytes.items c.in_err-read_some.field-0.0
-    (omega arith) c.in_err-read_some.ensures.stop) in
+    let reads = reading-stops g.R.Source.is_read g.R.Source.left c.args.reader.now c.loop-bytes.reader c.read_some.new.reader
+    c.loop-bytes.bytes.items c.in_err-read_some.field-0.0 (omega arith) c.loop-bytes.invariant.reads c.in_err-read_some.ensures.stop in
     rw (failed.1, failed.2) reads
