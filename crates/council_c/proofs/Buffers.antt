@@ -29,5 +29,6 @@ shows-beginning begin text room after n few is full shown =
 pub part-written : {W : Type 0} {held : W → Option (List ℕ)} {is_write : W → List ℕ → Result ℕ Error → W → Type 0}
     {is_flush : W → Result (Unit {0}) Error → W → Type 0} {text : List ℕ} {first last : W} (fault : ReportFault) (n : ℕ) → fault ≡ Write n
     → Writes held is_write is_flush text first last (Err fault) → (n ≤ length text) × Appends (held first) (held last) (take n text)
-part-written {held = held} {is_write} {is_flush} {text} {first} {last} fault n is writes =
-    let w = subst (λ (f : ReportFault). Writes held is_write is_flush text first last (Err f)) is writes in (w.0, w.1)
+part-written {W} {held} {is_write} {is_flush} {text} {first} {last} fault n is writes =
+    let P : ReportFault → Type 0 = λ f. Writes held is_write is_flush text first last (Err f) in
+    let w : P (Write n) = subst P is writes in (w.0, w.1)
