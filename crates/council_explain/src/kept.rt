@@ -1,8 +1,8 @@
 //! What a run reads, kept for an explanation.
 ghost use Rattle.std.specs.Prelude.{◌≡◌, Some, None, [], if◌then◌else◌, option_map};
-ghost use Rattle.council_explain.specs.Inner.Came.{came, KeepsAll};
+ghost use Rattle.council_explain.specs.Inner.Came.{bytes_read, KeepsAll};
 
-use coalitions::Source;
+use council_base::Source;
 use std::alloc::Global;
 use std::io;
 
@@ -41,8 +41,8 @@ impl<'a, I: Source> Source for Kept<'a, I> {
 
     ghost is_read = { λ old buffer result new filled.
         I.is_read old.reader.now buffer result new.reader.now filled
-        × KeepsAll (option_map (λ v. v.items) old.bytes) (came result filled)
-            (option_map (λ v. v.items) new.bytes) };
+        × KeepsAll (option_map (λ v. v.items) old.bytes) (bytes_read result filled)
+        (option_map (λ v. v.items) new.bytes) };
 
     fn read_once(&mut self, buffer: &mut [u8]) -> io::Result<usize> {
         let count = self.reader.read_once(buffer)?;

@@ -5,7 +5,7 @@ ghost use Rattle.council_file.specs.Reads.{Gave, Reading, Reads};
 ghost use Rattle.council_file.specs.Inner.Reads.{Given, GrewBy, IsStop};
 
 use crate::parse_game;
-use coalitions::Source;
+use council_base::Source;
 use council_game::{Game, GameFault, limits};
 use std::alloc::Global;
 

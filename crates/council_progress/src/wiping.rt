@@ -1,5 +1,5 @@
 //! A writer that has a line wiped before it writes.
-use coalitions::Sink;
+use council_base::Sink;
 use std::io;
 
 /// A line that may stand on a terminal.

@@ -1,7 +1,7 @@
 -- A row of texts told one after another: one more, and where it stops.
 use Rattle.council_report.proofs.Imports.{◌≡◌, ◌<◌, ◌≤◌, ◌+◌, ◌^◌, ◌++◌, ℕ, List, length, get_or, take, drop, Option, sym, ap, ◌∙◌, subst}
 use Rattle.council_report.proofs.Imports.{range_with_len, flat_map-append, common_steps, take_all, take-append-drop, StopsIn, [], ◌∷◌}
-use Rattle.council_report.proofs.Imports.{get_or-range_with_len, length-range_with_len, nat_tests, Progress, Tells, Calls, count_of, arith, flat_map, length-append}
+use Rattle.council_report.proofs.Imports.{get_or-range_with_len, length-range_with_len, nat_tests, Progress, Advances, Calls, count_of, arith, flat_map, length-append}
 use Rattle.council_report.proofs.Imports.{append-nil}
 use Rattle.std.proofs.lemmas.List.{take_more, Folds.length-flat_map-take}
 use Rattle.council_report.proofs.Telling.{tells-then, stopped-first, stopped-next}
@@ -29,12 +29,12 @@ all-numbers : (f : ℕ → List ℕ) (from n i : ℕ) → n ≤ i → flat_map f
 all-numbers f from n i le = grind (arith, nat_tests, take_all, length-range_with_len)
 
 module _ {W : Type 0} (S : Calls W) {X : Type 0} (f : X → List ℕ) where
-  pub turn-told : {a b c : Progress W} {xs : List X} {i : ℕ} {x : X} → IsNext xs i x → Tells S a b (flat_map f (take i xs))
-      → Tells S b c (f x) → Tells S a c (flat_map f (take (i + 1) xs))
-  turn-told {a} {b} {c} next before more = subst (Tells S a c) (sym (with-next f next)) (tells-then S a b c _ _ before more)
+  pub turn-told : {a b c : Progress W} {xs : List X} {i : ℕ} {x : X} → IsNext xs i x → Advances S a b (flat_map f (take i xs))
+      → Advances S b c (f x) → Advances S a c (flat_map f (take (i + 1) xs))
+  turn-told {a} {b} {c} next before more = subst (Advances S a c) (sym (with-next f next)) (tells-then S a b c _ _ before more)
 
   pub turn-stopped : {a b : Progress W} {xs : List X} {i : ℕ} {x : X} {last : W} {n : ℕ}
-      → IsNext xs i x → Tells S a b (flat_map f (take i xs)) → StopsIn S b (f x) last n → StopsIn S a (flat_map f xs) last n
+      → IsNext xs i x → Advances S a b (flat_map f (take i xs)) → StopsIn S b (f x) last n → StopsIn S a (flat_map f xs) last n
   turn-stopped {a} {b} {xs} {i} {x} {last} {n} next before stopped =
       let first : List ℕ = flat_map f (take i xs) in
       let rest : List ℕ = flat_map f (drop (i + 1) xs) in
@@ -45,11 +45,11 @@ module _ {W : Type 0} (S : Calls W) {X : Type 0} (f : X → List ℕ) where
       (stopped-first S a (first ++ f x) rest last n (stopped-next S a b first (f x) last n before stopped))
 
   -- the number of bytes told so far and of the next text is no greater than with all the texts
-  pub turn-counts : {a b : Progress W} {xs : List X} {i : ℕ} {x : X} → IsNext xs i x → Tells S a b (flat_map f (take i xs))
+  pub turn-counts : {a b : Progress W} {xs : List X} {i : ℕ} {x : X} → IsNext xs i x → Advances S a b (flat_map f (take i xs))
       → count_of a + length (flat_map f xs) < 2 ^ 64 → count_of b + length (f x) < 2 ^ 64
   turn-counts {a} {b} {xs} {i} {x} next before few =
       omega (arith, before.count, length-flat_map-take f xs i x next.below, ap (λ (y : X). length (f y)) next.is, few)
 
 pub numbers-told : {W : Type 0} (S : Calls W) {a b : Progress W} (f : ℕ → List ℕ) (from n i : ℕ) → n ≤ i
-    → Tells S a b (flat_map f (take i (range_with_len from n))) → Tells S a b (flat_map f (range_with_len from n))
-numbers-told S {a} {b} f from n i le tells = subst (Tells S a b) (all-numbers f from n i le) tells
+    → Advances S a b (flat_map f (take i (range_with_len from n))) → Advances S a b (flat_map f (range_with_len from n))
+numbers-told S {a} {b} f from n i le tells = subst (Advances S a b) (all-numbers f from n i le) tells

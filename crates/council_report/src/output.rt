@@ -1,11 +1,11 @@
 //! The block through which a report goes to its writer.
 ghost use Rattle.std.specs.Prelude.{◌≡◌, ◌≤◌, ◌<◌, ◌+◌, [], false, length, IfErr, IfOk, OnOk};
 ghost use Rattle.std.specs.Vec.{vec_capacity};
-ghost use Rattle.council_report.specs.Inner.Puts.{TakesWhole};
+ghost use Rattle.council_report.specs.Inner.Writing.{TakesWhole};
 ghost use Rattle.council_report.specs.Sending.{Sending};
 ghost use Rattle.council_report.specs.declared.output.TheConstants.{LINE, ROOM};
 
-use coalitions::Sink;
+use council_base::Sink;
 use std::alloc::{AllocError, Global};
 
 /// The bytes of a block.
@@ -57,9 +57,9 @@ pub(crate) struct Block {
 }
 
 impl Block {
-    ghost use Rattle.council_report.specs.Inner.Told.{Ends, progress_of};
-    ghost use Rattle.council_report.specs.Inner.Ready.{HasRoom, CanCount, Takes};
-    ghost use Rattle.council_report.specs.Inner.Puts.{Drains, Settles, end_of};
+    ghost use Rattle.council_report.specs.Inner.Written.{Ends, progress_of};
+    ghost use Rattle.council_report.specs.Inner.Ready.{HasRoom, CanCount, AppendsInRoom};
+    ghost use Rattle.council_report.specs.Inner.Writing.{Drains, MakesRoom, end_of};
 
     /// An empty block with all its room.
     pub(crate) fn new(alloc: Global) -> Result<Block, AllocError>
@@ -77,7 +77,7 @@ impl Block {
 
     /// Pushes bytes behind those that are there.
     pub(crate) fn push(&mut self, bytes: &[u8])
-        ensures { Takes self.old self.new bytes.now }
+        ensures { AppendsInRoom self.old self.new bytes.now }
     {
         // memory: what was refused is noted, and a clause says when it is not
         self.refused |= self.bytes.extend_from_slice(bytes).is_err();
@@ -109,7 +109,7 @@ impl Block {
     /// Makes ready for a line: if the next might not fit, all bytes go to the writer.
     pub(crate) fn settle<W: Sink>(&mut self, writer: &mut W) -> Result<(), WriteFault>
         requires { CanCount self.old [] }
-        ensures { Settles (Sending W.is_write W.is_flush) writer.old self.old writer.new self.new result }
+        ensures { MakesRoom (Sending W.is_write W.is_flush) writer.old self.old writer.new self.new result }
     {
         if self.bytes.len() + LINE <= ROOM {
             return Ok(());

@@ -1,16 +1,16 @@
 //! A report, written whole.
 ghost use Rattle.std.specs.Prelude.{◌≡◌, ◌+◌, ◌≤◌, ◌^◌, true, false, ℕ, List, length, IfOk, IfErr, OnOk};
-ghost use Rattle.coalitions.specs.Lists.{joined};
-ghost use Rattle.coalitions.specs.declared.limits.TheConstants.{MEMBERS, COALITIONS};
+ghost use Rattle.council_base.specs.Lists.{joined};
+ghost use Rattle.council_base.specs.declared.limits.TheConstants.{MEMBERS, COALITIONS};
 ghost use Rattle.council_game.specs.Game.{votes_of, AreNonemptyCoalitions, IsGame};
 ghost use Rattle.council_game.specs.Votes.{minimal_coalitions};
 ghost use Rattle.power_index.specs.Tables.{AreCounts};
 ghost use Rattle.council_report.specs.Inner.Lines.{lines_of, lines_of_sizes};
 ghost use Rattle.council_report.specs.Report.{coalition_lines, report, report_over};
 ghost use Rattle.council_report.specs.Inner.SharedLine.{IsReadyLine};
-ghost use Rattle.council_report.specs.Inner.Told.{Ends, progress_of};
+ghost use Rattle.council_report.specs.Inner.Written.{Ends, progress_of};
 ghost use Rattle.council_report.specs.Inner.Ready.{HasRoom, IsReady, CanCount};
-ghost use Rattle.council_report.specs.Inner.Puts.{Puts, end_of};
+ghost use Rattle.council_report.specs.Inner.Writing.{WritesText, end_of};
 ghost use Rattle.council_report.specs.Outcome.{Writes};
 ghost use Rattle.council_report.specs.Sending.{Sending};
 
@@ -21,7 +21,7 @@ use crate::heading::push_heading;
 use crate::output::{Block, WriteFault};
 use crate::shared_line::SharedLine;
 use crate::stream::{put_members, put_pieces, put_sizes};
-use coalitions::Sink;
+use council_base::Sink;
 use council_game::{Coalition, Game};
 use power_index::Counts;
 use power_index::laws::minimal_coalitions_can_be_counted;
@@ -40,7 +40,7 @@ fn put_shown_coalitions<W: Sink>(
     requires line { IsReadyLine game.now line.old }
     requires ready { IsReady block.old }
     requires counted { CanCount block.old (coalition_lines shown game.now (joined pieces.now)) }
-    ensures { Puts (Sending W.is_write W.is_flush) (coalition_lines shown game.now (joined pieces.now))
+    ensures { WritesText (Sending W.is_write W.is_flush) (coalition_lines shown game.now (joined pieces.now))
         writer.old block.old writer.new block.new result }
 {
     if shown.list {
@@ -59,7 +59,7 @@ fn put_shown_sizes<W: Sink>(
 ) -> Result<(), WriteFault>
     requires ready { IsReady block.old }
     requires counted { CanCount block.old (lines_of_sizes shown counted.now) }
-    ensures { Puts (Sending W.is_write W.is_flush) (lines_of_sizes shown counted.now)
+    ensures { WritesText (Sending W.is_write W.is_flush) (lines_of_sizes shown counted.now)
         writer.old block.old writer.new block.new result }
 {
     if shown.sizes {
@@ -83,7 +83,7 @@ fn put_lines<W: Sink>(
     requires line { IsReadyLine counted.now.game.now line.old }
     requires ready { IsReady block.old }
     requires counted { CanCount block.old (lines_of shown counted.now (joined pieces.now)) }
-    ensures { Puts (Sending W.is_write W.is_flush) (lines_of shown counted.now (joined pieces.now))
+    ensures { WritesText (Sending W.is_write W.is_flush) (lines_of shown counted.now (joined pieces.now))
         writer.old block.old writer.new block.new result }
 {
     put_shown_coalitions(block, writer, counted.game, pieces, line, shown)?;

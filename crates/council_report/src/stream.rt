@@ -6,14 +6,14 @@ ghost use Rattle.council_report.specs.Lines.{coalition_line};
 ghost use Rattle.council_report.specs.Inner.Lines.{line_of_size, line_of_member, lines_of_members};
 ghost use Rattle.council_report.specs.Inner.SharedLine.{IsReadyLine};
 ghost use Rattle.council_report.specs.Inner.Ready.{IsReady, CanCount};
-ghost use Rattle.council_report.specs.Inner.Puts.{Puts};
+ghost use Rattle.council_report.specs.Inner.Writing.{WritesText};
 ghost use Rattle.council_report.specs.Sending.{Sending};
 
 use crate::counted::Counted;
 use crate::counted_lines::{push_member, push_size};
 use crate::output::{Block, WriteFault};
 use crate::shared_line::SharedLine;
-use coalitions::Sink;
+use council_base::Sink;
 use council_game::{Coalition, Game};
 
 /// A line for each coalition, in the order of the list, whichever that is.
@@ -28,7 +28,7 @@ pub(crate) fn put_coalitions<W: Sink>(
     requires line { IsReadyLine game.now line.old }
     requires ready { IsReady block.old }
     requires counted { CanCount block.old (flat_map (coalition_line game.now) list.now) }
-    ensures puts { Puts (Sending W.is_write W.is_flush) (flat_map (coalition_line game.now) list.now)
+    ensures puts { WritesText (Sending W.is_write W.is_flush) (flat_map (coalition_line game.now) list.now)
         writer.old block.old writer.new block.new result }
     ensures line { OnOk result (IsReadyLine game.now line.new) }
 {
@@ -53,7 +53,7 @@ pub(crate) fn put_pieces<W: Sink>(
     requires ready { IsReady block.old }
     requires counted { CanCount block.old
         (flat_map (λ p. flat_map (coalition_line game.now) p.now) pieces.now) }
-    ensures { Puts (Sending W.is_write W.is_flush) (flat_map (λ p. flat_map (coalition_line game.now) p.now) pieces.now)
+    ensures { WritesText (Sending W.is_write W.is_flush) (flat_map (λ p. flat_map (coalition_line game.now) p.now) pieces.now)
         writer.old block.old writer.new block.new result }
 {
     for piece in pieces {
@@ -71,7 +71,7 @@ pub(crate) fn put_sizes<W: Sink>(
     requires ready { IsReady block.old }
     requires counted { CanCount block.old
         (flat_map (line_of_size counted.now) (range_with_len 1 counted.now.members)) }
-    ensures { Puts (Sending W.is_write W.is_flush) (flat_map (line_of_size counted.now) (range_with_len 1 counted.now.members))
+    ensures { WritesText (Sending W.is_write W.is_flush) (flat_map (line_of_size counted.now) (range_with_len 1 counted.now.members))
         writer.old block.old writer.new block.new result }
 {
     for size in 1..counted.members + 1 {
@@ -89,7 +89,7 @@ pub(crate) fn put_members<W: Sink>(
 ) -> Result<(), WriteFault>
     requires ready { IsReady block.old }
     requires counted { CanCount block.old (lines_of_members counted.now) }
-    ensures { Puts (Sending W.is_write W.is_flush) (lines_of_members counted.now)
+    ensures { WritesText (Sending W.is_write W.is_flush) (lines_of_members counted.now)
         writer.old block.old writer.new block.new result }
 {
     for member in 0..counted.members {

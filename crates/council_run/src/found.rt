@@ -1,6 +1,6 @@
 //! What a report is made from.
 ghost use Rattle.std.specs.Prelude.{◌≡◌, IfOk};
-ghost use Rattle.coalitions.specs.Lists.{joined};
+ghost use Rattle.council_base.specs.Lists.{joined};
 ghost use Rattle.council_game.specs.Game.{votes_of};
 ghost use Rattle.council_game.specs.Votes.{minimal_coalitions};
 ghost use Rattle.council_report.specs.Outcome.{Writes};
@@ -8,7 +8,7 @@ ghost use Rattle.council_report.specs.Report.{report};
 ghost use Rattle.council_run.specs.Found.{HoldAll, IsFound};
 ghost use Rattle.power_index.specs.Tables.{AreCountsOfGame};
 
-use coalitions::{Coalition, Memory, ReportLines, Sink};
+use council_base::{Coalition, Memory, ReportLines, Sink};
 use council_game::Game;
 use council_report::{ReportFault, write_report_of, write_tally};
 use mwc_gather::Gathered;

@@ -1,6 +1,6 @@
 //! Runs: from the bytes of a game to its report.
 ghost use Rattle.std.specs.Prelude.{◌≡◌, IfErr, None, Some};
-ghost use Rattle.coalitions.specs.Options.{lines_of, without_list};
+ghost use Rattle.council_base.specs.Options.{lines_of, without_list};
 ghost use Rattle.council_file.specs.Reads.{Reads};
 ghost use Rattle.council_report.specs.Outcome.{Writes};
 ghost use Rattle.council_report.specs.Report.{report};
@@ -12,7 +12,7 @@ ghost use Rattle.mwc_gather.specs.declared.fault.GatherFault.TheVariants as gath
 use crate::counting::count_by_workers;
 use crate::fault::RunFault;
 use crate::listing::list_by_workers;
-use coalitions::{Gate, Options, Sink, Source};
+use council_base::{Gate, Options, Sink, Source};
 use council_file::read_game;
 use std::alloc::Global;
 use std::sync::Wait;

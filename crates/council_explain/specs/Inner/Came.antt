@@ -2,9 +2,9 @@
 use Rattle.std.specs.Prelude.{◌≡◌, ℕ, List, [], ◌++◌, take, Option, Some, None, Result, Ok, Err}
 
 -- the bytes that a read gave: none where it failed
-abbrev pub came : {E : Type 0} → Result ℕ E → List ℕ → List ℕ
-came (Ok n) buffer = take n buffer
-came (Err _) _ = []
+abbrev pub bytes_read : {E : Type 0} → Result ℕ E → List ℕ → List ℕ
+bytes_read (Ok n) buffer = take n buffer
+bytes_read (Err _) _ = []
 
 -- where bytes are kept, these are those that were kept before, and then those that came
 abbrev pub KeepsAll : Option (List ℕ) → List ℕ → Option (List ℕ) → Type 0

@@ -1,5 +1,5 @@
 use Rattle.council_report.proofs.Imports.{append-nil, err_from_is_err_and, Ends, Err, flat_map, List, lines_of, progress_of, subst, ℕ, []}
-use Rattle.council_report.specs.Inner.Puts.{end_of}
+use Rattle.council_report.specs.Inner.Writing.{end_of}
 use Rattle.council_report.specs.Sending.{Sending}
 use Rattle.council_report.proofs.Telling.{tells-then, stopped-next}
 use Rattle.council_report.proofs.report.send.Goals as goal

@@ -1,4 +1,4 @@
-use Rattle.council_report.proofs.Imports.{arith, err_from_is_err_and, flat_map, line_of_size, progress_of, range_with_len, subst, take, Tells, ℕ, ◌≡◌, ◌+◌, ◌-◌}
+use Rattle.council_report.proofs.Imports.{arith, err_from_is_err_and, flat_map, line_of_size, progress_of, range_with_len, subst, take, Advances, ℕ, ◌≡◌, ◌+◌, ◌-◌}
 use Rattle.council_report.proofs.{Bounds.size-fits, Lasting.line-counts, Lasting.puts-line}
 use Rattle.council_report.proofs.Turns.{next-number, numbers-told, turn-told, turn-counts, turn-stopped}
 use Rattle.council_report.specs.Sending.{Sending}
@@ -31,7 +31,7 @@ loop-size-preserved g c =
     let same : c.loop-size.size - 1 + 1 ≡ c.loop-size.size + 1 - 1 = omega arith in
     let told = turn-told S (line_of_size c.args.counted.now) next c.loop-size.invariant.tells lasts.tells in
     record {
-      tells = subst (λ (k : ℕ). Tells S (progress_of c.args.writer.now c.args.block.now) (progress_of c.settle.new.writer c.settle.new.self) (flat_map (line_of_size c.args.counted.now) (take k (range_with_len 1 c.args.counted.now.members)))) same told;
+      tells = subst (λ (k : ℕ). Advances S (progress_of c.args.writer.now c.args.block.now) (progress_of c.settle.new.writer c.settle.new.self) (flat_map (line_of_size c.args.counted.now) (take k (range_with_len 1 c.args.counted.now.members)))) same told;
       ready = lasts.ready;
     }
 

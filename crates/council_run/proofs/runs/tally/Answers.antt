@@ -1,7 +1,7 @@
 use Rattle.std.proofs.Common.{◌≡◌, ◌∙◌, List, None, Ok, Option, Some, ap, refl, subst, ℕ}
 use Rattle.std.proofs.lemmas.Result.{err_from_is_err_and}
-use Rattle.coalitions.specs.Options.{lines_of, without_list}
-use Rattle.coalitions.specs.declared.report_lines.ReportLines.{ReportLines}
+use Rattle.council_base.specs.Options.{lines_of, without_list}
+use Rattle.council_base.specs.declared.report_lines.ReportLines.{ReportLines}
 use Rattle.council_file.specs.Reads.{Reads}
 use Rattle.council_report.specs.{Outcome.Writes, Report.report}
 use Rattle.council_run.proofs.Outcomes.{stops-found, stops-game, stops-report}
