@@ -2,11 +2,14 @@
 //! indices that rest on them.
 #![tactic(auto)]
 
+ghost use Rattle.std.specs.Prelude.{◌≡◌};
+ghost use Rattle.council_file.specs.Reads.{Reads};
+ghost use Rattle.council_report.specs.Outcome.{Writes};
 ghost use Rattle.council_report.specs.Report.{report};
-ghost use Rattle.council_run.specs.Run.{IsOutcome, Reads};
+ghost use Rattle.council_run.specs.Run.{IsOutcome};
 ghost use Rattle.council.specs.Inner.Wants.{limit_wanted, lines_wanted};
 
-use council_base::{Gate, sanitize};
+use council_base::{Gate, Sink, Source, sanitize};
 use council_explain::{Kept, explain, remark};
 use council_game::GameFault;
 use council_progress::{Line, Progress, Wiping};
@@ -79,7 +82,7 @@ fn not_opened(
 }
 
 /// Executes what the arguments ask for: a run or a tally.
-fn execute<R: AllocGlobal + Threads + Wait + Sync, I: io::Read, G: Gate + Sync, W: io::Write>(
+fn execute<R: AllocGlobal + Threads + Wait + Sync, I: Source, G: Gate + Sync, W: Sink>(
     rt: &R,
     arguments: &Arguments<'_>,
     reader: &mut I,
@@ -87,8 +90,9 @@ fn execute<R: AllocGlobal + Threads + Wait + Sync, I: io::Read, G: Gate + Sync, 
     writer: &mut W,
 ) -> Result<u64, RunFault>
     ensures { IsOutcome (report (lines_wanted arguments.now)) (limit_wanted arguments.now)
-        (Reads (I.remaining reader.old) (I.remaining reader.new))
-        (W.contents writer.old) (W.contents writer.new) result }
+        (Reads I.left I.is_read reader.old reader.new)
+        (λ text. Writes W.held W.is_write W.is_flush text writer.old writer.new)
+        (writer.new ≡ writer.old) result }
 {
     let alloc = rt.alloc();
     let options = &arguments.options;
@@ -137,9 +141,9 @@ fn slices_of(arguments: &Arguments<'_>) -> u16 {
     }
 }
 
-/// Runs on what is read, and writes to standard output; `terminal` tells whether standard error is
-/// a terminal.
-fn run_on<R: AllocGlobal + Print + Eprint + Clock + Threads + Wait + Sync, I: io::Read>(
+/// Runs on what is read, and writes to standard output; `terminal` tells whether standard error is a
+/// terminal.
+fn run_on<R: AllocGlobal + Print + Eprint + Clock + Threads + Wait + Sync, I: Source>(
     rt: &R,
     arguments: &Arguments<'_>,
     terminal: bool,

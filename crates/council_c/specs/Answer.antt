@@ -1,5 +1,5 @@
 -- What a call answers.
-use Rattle.std.specs.Prelude.{◌≡◌, ℕ, List, ◌++◌, length, take, drop, ◌⊎◌, true, Ok, Option, None}
+use Rattle.std.specs.Prelude.{◌≡◌, ℕ, List, ◌++◌, length, take, drop, ◌⊎◌, true, Ok, Option}
 use Rattle.council_game.specs.declared.fault.GameFault.TheVariants as game
 use Rattle.council_game.specs.Game.{GameView}
 use Rattle.council_report.specs.Report.{report}
@@ -25,10 +25,10 @@ FillsBy text limit bytes before after len =
 abbrev pub Reports : CouncilOptions → List ℕ → List ℕ → List ℕ → ℕ → Type 0
 Reports o bytes before after len = FillsBy (report (lines_of_call o)) (limit_of o) bytes before after len
 
--- a run on these bytes stops so, before anything was written; a read that fails is no cause
+-- a run on these bytes stops so, before anything was written; a read or a write that fails is no cause
 abbrev pub StopsOn : (GameView → List ℕ) → Option ℕ → List ℕ → Cause → Type 0
 StopsOn text limit bytes (cause.Game game.Read) = ⊥
-StopsOn text limit bytes why = Stops text limit (Holds bytes) None None why 0
+StopsOn text limit bytes why = Stops text limit (Holds bytes) (λ _ _. ⊥) (Unit {0}) why 0
 
 -- Why there is none: the options are wrong, or a run on these bytes stops so.
 abbrev pub StopsCall : CouncilOptions → List ℕ → Fault → Type 0

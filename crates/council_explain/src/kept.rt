@@ -1,16 +1,13 @@
 //! What a run reads, kept for an explanation.
 ghost use Rattle.std.specs.Prelude.{◌≡◌, Some, None, [], if◌then◌else◌, option_map};
-ghost use Rattle.std.specs.Io.{ReadsAtMost};
-ghost use Rattle.std.specs.Io.KnownBytes.{ReadConsumes};
-ghost use Rattle.council_explain.specs.Kept.{bytes_read, KeepsAll};
+ghost use Rattle.council_explain.specs.Inner.Came.{bytes_read, KeepsAll};
 
 use council_base::Source;
 use std::alloc::Global;
 use std::io;
-use std::io::Read;
 
-/// A reader that gives what another gives, and keeps it, where it is to. Each read is handed on
-/// once, unchanged, and its bytes are those of the reader inside.
+/// A reader that gives what another gives, and keeps it if it is asked to. A read of it is one read of
+/// the reader inside, with the same bytes and the same result.
 #[derive(Drop)]
 pub struct Kept<'a, I> {
     reader: &'a mut I,
@@ -18,7 +15,7 @@ pub struct Kept<'a, I> {
     bytes: Option<Vec<u8>>,
 }
 
-impl<'a, I: Read> Kept<'a, I> {
+impl<'a, I: Source> Kept<'a, I> {
     /// Nothing was read yet; what will be is kept where `keeps` says so.
     pub fn new(alloc: Global, reader: &'a mut I, keeps: bool) -> Kept<'a, I>
         ensures inside { result.reader.now ≡ reader.old }
@@ -39,23 +36,25 @@ impl<'a, I: Read> Kept<'a, I> {
     }
 }
 
-impl<'a, I: Source> Read for Kept<'a, I> {
-    ghost remaining = { λ kept. I.left kept.reader.now };
+impl<'a, I: Source> Source for Kept<'a, I> {
+    ghost left = { λ kept. I.left kept.reader.now };
 
-    fn read(&mut self, buffer: &mut [u8]) -> io::Result<usize>
-        ensures bound { ReadsAtMost result buffer.new }
-        ensures bytes { ReadConsumes (I.left self.old.reader.now) (I.left self.new.reader.now) result buffer.new }
-        ensures once { I.is_read self.old.reader.now buffer.old result self.new.reader.now buffer.new }
-        ensures kept { KeepsAll (option_map (λ v. v.items) self.old.bytes) (bytes_read result buffer.new)
-            (option_map (λ v. v.items) self.new.bytes) }
-    {
+    ghost is_read = { λ old buffer result new filled.
+        I.is_read old.reader.now buffer result new.reader.now filled
+        × KeepsAll (option_map (λ v. v.items) old.bytes) (bytes_read result filled)
+        (option_map (λ v. v.items) new.bytes) };
+
+    fn read_once(&mut self, buffer: &mut [u8]) -> io::Result<usize> {
         let count = self.reader.read_once(buffer)?;
         if let Some(bytes) = &mut self.bytes
-            // memory: if there is no room nothing is kept, and the run goes on
+            // memory: where there is no room nothing is kept, and the run goes on
             && bytes.extend_from_slice(&buffer[..count]).is_err()
         {
             self.bytes = None;
         }
         Ok(count)
     }
+
+    ghost reads = { λ old new buffer filled result is.
+        I.reads old.reader.now new.reader.now buffer filled result is.0 };
 }

@@ -6,3 +6,4 @@ mod Named
 pub mod ReadsBack
 mod NeverRead
 pub mod Given
+mod Calls

@@ -1,27 +1,31 @@
 //! The bytes of a reader, and their game.
-ghost use Rattle.std.specs.Prelude.{◌≡◌, ◌≤◌, ◌<◌, ℕ, List, IfOk, IfErr, MatchResult, Ok};
+ghost use Rattle.std.specs.Prelude.{◌≡◌, ◌≤◌, ◌<◌, [], Err, IfErr, IfOk, MatchResult, Ok};
 ghost use Rattle.std.specs.Io.KnownBytes.{IsAtEnd};
-ghost use Rattle.council_file.specs.File.{game_of};
-ghost use Rattle.council_file.specs.Reads.{Gave, FailsWith};
-ghost use Rattle.council_file.specs.Inner.Reads.{GrewBy, IsStop};
+ghost use Rattle.council_file.specs.Reads.{Gave, Reading, Reads};
+ghost use Rattle.council_file.specs.Inner.Reads.{Given, GrewBy, IsStop};
 
 use crate::parse_game;
+use council_base::Source;
 use council_game::{Game, GameFault, limits};
 use std::alloc::Global;
-use std::io::Read;
 
-/// One read of at most `room` bytes, put at the end. It answers how many came.
-fn read_some<R: Read>(reader: &mut R, bytes: &mut Vec<u8>, room: usize) -> Result<usize, GameFault>
+/// Reads at most `room` bytes, once, puts them at the end of the others, and returns how many came.
+fn read_some<R: Source>(
+    reader: &mut R,
+    bytes: &mut Vec<u8>,
+    room: usize,
+) -> Result<usize, GameFault>
     requires { 0 < room }
-    ensures grew { IfOk result (λ n. GrewBy (R.remaining reader.old) (R.remaining reader.new)
+    ensures once { IfOk result (Given R.is_read reader.old reader.new bytes.old.items bytes.new.items) }
+    ensures grew { IfOk result (λ n. GrewBy (R.left reader.old) (R.left reader.new)
         bytes.old.items bytes.new.items n) }
-    ensures end { IfOk result (λ n. n ≡ 0 → IsAtEnd (R.remaining reader.new)) }
+    ensures end { IfOk result (λ n. n ≡ 0 → IsAtEnd (R.left reader.new)) }
     ensures bound { IfOk result (λ n. n ≤ room) }
-    ensures stop { IfErr result IsStop }
+    ensures stop { IfErr result (IsStop R.is_read reader.old reader.new) }
 {
     let mut chunk = [0u8; 4096];
     let most = room.min(4096);
-    match reader.read(&mut chunk[..most]) {
+    match reader.read_once(&mut chunk[..most]) {
         Ok(n) => {
             bytes.extend_from_slice(&chunk[..n])?;
             Ok(n)
@@ -30,12 +34,12 @@ fn read_some<R: Read>(reader: &mut R, bytes: &mut Vec<u8>, room: usize) -> Resul
     }
 }
 
-/// The bytes up to the end, or more than 65,536 of them. Each read that goes on gives at least one
-/// byte.
-fn read_bytes<R: Read>(alloc: Global, reader: &mut R) -> Result<Vec<u8>, GameFault>
-    ensures gave { IfOk result
-        (λ v. Gave (R.remaining reader.old) (R.remaining reader.new) v.items) }
-    ensures stop { IfErr result IsStop }
+/// Reads up to the end, or until more than 65,536 bytes have come. Each read but the last gives some.
+fn read_bytes<R: Source>(alloc: Global, reader: &mut R) -> Result<Vec<u8>, GameFault>
+    ensures gave { IfOk result (λ v. Gave (R.left reader.old) (R.left reader.new) v.items) }
+    ensures reads { MatchResult result
+        (λ v. Reading R.is_read reader.old [] (Ok v.items) reader.new)
+        (λ fault. Reads R.left R.is_read reader.old reader.new (Err fault)) }
 {
     let mut bytes: Vec<u8> = Vec::new(alloc);
     while bytes.len() <= limits::FILE_BYTES {
@@ -47,19 +51,17 @@ fn read_bytes<R: Read>(alloc: Global, reader: &mut R) -> Result<Vec<u8>, GameFau
     Ok(bytes)
 }
 
-/// The game of the bytes that the reader gives, or the first fault. It reads up to the end, or
-/// until 65,537 bytes have come.
+/// Returns the game of the bytes that the reader gives, up to its end. No read is made after one that
+/// fails or gives none, or once 65,537 bytes have come; so there are at most 65,537 reads.
 ///
 /// # Errors
 ///
-/// TooLong where 65,537 bytes came; Read where a read failed before that, for whatever cause, an
-/// interruption too; else those of `parse_game` over the bytes.
-#[tactic(auto, using(crate::proofs::Given::stop_fails))]
-pub fn read_game<R: Read>(alloc: Global, reader: &mut R) -> Result<Game, GameFault>
+/// `TooLong` if 65,537 bytes came; `Read` if a read failed before that, for whatever cause, also if it
+/// was interrupted; else the errors of `parse_game` for the bytes.
+pub fn read_game<R: Source>(alloc: Global, reader: &mut R) -> Result<Game, GameFault>
     ensures { MatchResult result
-        (λ game. (bytes : List ℕ) × Gave (R.remaining reader.old) (R.remaining reader.new) bytes
-        × (game_of bytes ≡ Ok game))
-        (λ fault. FailsWith (R.remaining reader.old) (R.remaining reader.new) fault) }
+        (λ game. Reads R.left R.is_read reader.old reader.new (Ok game))
+        (λ fault. Reads R.left R.is_read reader.old reader.new (Err fault)) }
 {
     match read_bytes(alloc, reader) {
         Ok(bytes) => parse_game(alloc, &bytes),

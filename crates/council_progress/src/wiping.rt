@@ -1,10 +1,6 @@
 //! A writer that has a line wiped before it writes.
-ghost use Rattle.std.specs.Io.{WritesAtMost};
-ghost use Rattle.std.specs.Io.KnownBytes.{Keeps, WriteAppends};
-
 use council_base::Sink;
 use std::io;
-use std::io::Write;
 
 /// A line that may stand on a terminal.
 pub trait Wipe {
@@ -12,30 +8,31 @@ pub trait Wipe {
     fn wipe(&self);
 }
 
-/// A writer that has a line wiped before it writes. Each write and each flush is handed on once,
-/// unchanged, and its bytes are those of the writer inside.
+/// A writer that has a line wiped before it writes. A write or a flush of it is one write or flush of
+/// the writer inside, with the same bytes and the same result.
 #[derive(Drop)]
 pub struct Wiping<L, W> {
     pub line: L,
     pub writer: W,
 }
 
-impl<L: Wipe, W: Sink> Write for Wiping<L, W> {
-    ghost contents = { λ wiping. W.held wiping.writer };
+impl<L: Wipe, W: Sink> Sink for Wiping<L, W> {
+    ghost held = { λ wiping. W.held wiping.writer };
 
-    fn write(&mut self, bytes: &[u8]) -> io::Result<usize>
-        ensures bound { WritesAtMost result bytes.now }
-        ensures bytes { WriteAppends (W.held self.old.writer) (W.held self.new.writer) result bytes.now }
-        ensures once { W.is_write self.old.writer bytes.now result self.new.writer }
-    {
+    ghost is_write = { λ old bytes result new. W.is_write old.writer bytes result new.writer };
+
+    ghost is_flush = { λ old result new. W.is_flush old.writer result new.writer };
+
+    fn write_once(&mut self, bytes: &[u8]) -> io::Result<usize> {
         self.line.wipe();
         self.writer.write_once(bytes)
     }
 
-    fn flush(&mut self) -> io::Result<()>
-        ensures bytes { Keeps (W.held self.old.writer) (W.held self.new.writer) }
-        ensures once { W.is_flush self.old.writer result self.new.writer }
-    {
+    fn flush_once(&mut self) -> io::Result<()> {
         self.writer.flush_once()
     }
+
+    ghost writes = { λ old new bytes result is. W.writes old.writer new.writer bytes result is };
+
+    ghost flushes = { λ old new result is. W.flushes old.writer new.writer result is };
 }

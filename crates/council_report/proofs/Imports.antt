@@ -6,13 +6,13 @@ pub use Rattle.council_report.specs.{Inner.Lines.line_of_member, Inner.Lines.lin
 pub use Rattle.council_report.specs.{Inner.Ready.AppendsInRoom, Lines.names_of, Lines.with_tab, Report.coalition_lines, declared.output.Block.Block}
 pub use Rattle.council_report.specs.Inner.Writing.{KeepsReady}
 pub use Rattle.council_report.specs.Inner.SharedLine.{AreSeats, HasNoneFrom, IsLine, IsReadyLine, IsSeat, SameBefore}
-pub use Rattle.council_report.specs.Inner.Written.{HasStopped, HoldsBut, Progress, StopsIn, Advances, progress_of}
+pub use Rattle.council_report.specs.Inner.Written.{Calls, Ends, HasStopped, Progress, StopsIn, Advances, count_of, progress_of}
 pub use Rattle.power_index.proofs.Shared.Members.{few-members}
 pub use Rattle.power_index.specs.Tables.{table_of_member_size}
 pub use Rattle.std.proofs.Common.{subst, suc, sym, take, take-append-drop, take_all, true, w64, zero, ℕ, ◌++◌, ◌+◌, ◌-◌, ◌<◌, ◌^◌, ◌∙◌, ◌∷◌}
 pub use Rattle.std.proofs.Common.{false, flat_map, get_or, inl, inr, length, length-append, length-set, map, option_map, refl, slice_index}
 pub use Rattle.std.proofs.Common.{Bool, List, None, Option, Some, [], ap, append-nil, append_assoc, arith, bit_xor, cond, decimal, drop}
-pub use Rattle.std.proofs.Common.{◌≡◌, ◌≤◌}
+pub use Rattle.std.proofs.Common.{Err, Ok, Result, ◌≡◌, ◌≤◌}
 pub use Rattle.std.proofs.lemmas.{List.FromFn.get_or-range_with_len, List.FromFn.length-range_with_len, Result.err_from_is_err_and}
 pub use Rattle.std.proofs.lemmas.{Bool.cases_lt, Bool.cond-true, Bool.Decides.nat_tests, Grind.common_steps, Grind.flat_map-append}
 pub use Rattle.std.proofs.{Math.Seq.take-append-add, lemmas.List.length-map}

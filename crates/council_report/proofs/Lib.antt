@@ -1,5 +1,6 @@
 mod Bounds
 mod Telling
+mod Sends
 mod Turns
 mod Wholes
 mod Lasting

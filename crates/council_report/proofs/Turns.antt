@@ -1,7 +1,7 @@
 -- A row of texts told one after another: one more, and where it stops.
 use Rattle.council_report.proofs.Imports.{◌≡◌, ◌<◌, ◌≤◌, ◌+◌, ◌^◌, ◌++◌, ℕ, List, length, get_or, take, drop, Option, sym, ap, ◌∙◌, subst}
 use Rattle.council_report.proofs.Imports.{range_with_len, flat_map-append, common_steps, take_all, take-append-drop, StopsIn, [], ◌∷◌}
-use Rattle.council_report.proofs.Imports.{get_or-range_with_len, length-range_with_len, nat_tests, Progress, Advances, arith, flat_map}
+use Rattle.council_report.proofs.Imports.{get_or-range_with_len, length-range_with_len, nat_tests, Progress, Advances, Calls, count_of, arith, flat_map, length-append}
 use Rattle.council_report.proofs.Imports.{append-nil}
 use Rattle.std.proofs.lemmas.List.{take_more, Folds.length-flat_map-take}
 use Rattle.council_report.proofs.Telling.{tells-then, stopped-first, stopped-next}
@@ -24,26 +24,32 @@ with-next : {X : Type 0} (f : X → List ℕ) {xs : List X} {i : ℕ} {x : X} �
     → flat_map f (take (i + 1) xs) ≡ flat_map f (take i xs) ++ f x
 with-next f {xs} {i} {x} next = grind (arith, nat_tests, common_steps, take_more, rows-more)
 
-pub turn-told : {X : Type 0} {a b c : Progress} (f : X → List ℕ) {xs : List X} {i : ℕ} {x : X}
-    → IsNext xs i x → Advances a b (flat_map f (take i xs)) → Advances b c (f x) → Advances a c (flat_map f (take (i + 1) xs))
-turn-told {a = a} {b = b} {c = c} f {xs} {i} {x} next before more = grind (arith, nat_tests, common_steps, with-next, tells-then)
-
-pub turn-stopped : {X : Type 0} {a b : Progress} (f : X → List ℕ) {xs : List X} {i : ℕ} {x : X} {held : Option (List ℕ)} {n : ℕ}
-    → IsNext xs i x → Advances a b (flat_map f (take i xs)) → StopsIn b (f x) held n → StopsIn a (flat_map f xs) held n
-turn-stopped {a = a} {b = b} f {xs} {i} {x} {held} {n} next before stopped =
-    let first : List ℕ = flat_map f (take i xs) in
-    let rest : List ℕ = flat_map f (drop (i + 1) xs) in
-    let whole : (first ++ f x) ++ rest ≡ flat_map f xs =
-    ap (λ (t : List ℕ). t ++ rest) (sym (with-next f next))
-    ∙ sym (flat_map-append f (take (i + 1) xs) (drop (i + 1) xs)) ∙ ap (flat_map f) (take-append-drop (i + 1) xs) in
-    subst (λ t. StopsIn a t held n) whole (stopped-first a (first ++ f x) rest held n (stopped-next a b first (f x) held n before stopped))
-
--- the number of bytes told so far and of the next text is no greater than with all the texts
-pub turn-counts : {X : Type 0} {a b : Progress} (f : X → List ℕ) {xs : List X} {i : ℕ} {x : X}
-    → IsNext xs i x → Advances a b (flat_map f (take i xs)) → a.count + length (flat_map f xs) < 2 ^ 64 → b.count + length (f x) < 2 ^ 64
-turn-counts f {xs} {i} {x} next before few = grind (arith, nat_tests, length-flat_map-take)
-
 -- all of the numbers from a on
-pub numbers-told : {a b : Progress} (f : ℕ → List ℕ) (from n i : ℕ) → n ≤ i
-    → Advances a b (flat_map f (take i (range_with_len from n))) → Advances a b (flat_map f (range_with_len from n))
-numbers-told {a} {b} f from n i le tells = grind (arith, nat_tests, take_all, length-range_with_len)
+all-numbers : (f : ℕ → List ℕ) (from n i : ℕ) → n ≤ i → flat_map f (take i (range_with_len from n)) ≡ flat_map f (range_with_len from n)
+all-numbers f from n i le = grind (arith, nat_tests, take_all, length-range_with_len)
+
+module _ {W : Type 0} (S : Calls W) {X : Type 0} (f : X → List ℕ) where
+  pub turn-told : {a b c : Progress W} {xs : List X} {i : ℕ} {x : X} → IsNext xs i x → Advances S a b (flat_map f (take i xs))
+      → Advances S b c (f x) → Advances S a c (flat_map f (take (i + 1) xs))
+  turn-told {a} {b} {c} next before more = subst (Advances S a c) (sym (with-next f next)) (tells-then S a b c _ _ before more)
+
+  pub turn-stopped : {a b : Progress W} {xs : List X} {i : ℕ} {x : X} {last : W} {n : ℕ}
+      → IsNext xs i x → Advances S a b (flat_map f (take i xs)) → StopsIn S b (f x) last n → StopsIn S a (flat_map f xs) last n
+  turn-stopped {a} {b} {xs} {i} {x} {last} {n} next before stopped =
+      let first : List ℕ = flat_map f (take i xs) in
+      let rest : List ℕ = flat_map f (drop (i + 1) xs) in
+      let whole : (first ++ f x) ++ rest ≡ flat_map f xs =
+      ap (λ (t : List ℕ). t ++ rest) (sym (with-next f next))
+      ∙ sym (flat_map-append f (take (i + 1) xs) (drop (i + 1) xs)) ∙ ap (flat_map f) (take-append-drop (i + 1) xs) in
+      subst (λ t. StopsIn S a t last n) whole
+      (stopped-first S a (first ++ f x) rest last n (stopped-next S a b first (f x) last n before stopped))
+
+  -- the number of bytes told so far and of the next text is no greater than with all the texts
+  pub turn-counts : {a b : Progress W} {xs : List X} {i : ℕ} {x : X} → IsNext xs i x → Advances S a b (flat_map f (take i xs))
+      → count_of a + length (flat_map f xs) < 2 ^ 64 → count_of b + length (f x) < 2 ^ 64
+  turn-counts {a} {b} {xs} {i} {x} next before few =
+      omega (arith, before.count, length-flat_map-take f xs i x next.below, ap (λ (y : X). length (f y)) next.is, few)
+
+pub numbers-told : {W : Type 0} (S : Calls W) {a b : Progress W} (f : ℕ → List ℕ) (from n i : ℕ) → n ≤ i
+    → Advances S a b (flat_map f (take i (range_with_len from n))) → Advances S a b (flat_map f (range_with_len from n))
+numbers-told S {a} {b} f from n i le tells = subst (Advances S a b) (all-numbers f from n i le) tells

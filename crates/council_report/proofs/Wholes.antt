@@ -1,45 +1,96 @@
--- A report as a heading and the lines after it.
-use Rattle.council_report.proofs.Imports.{◌≡◌, ◌≤◌, ◌+◌, ◌-◌, ◌++◌, ℕ, List, [], length, take, Option, Some, None, option_map, refl, ap}
-use Rattle.council_report.proofs.Imports.{◌∙◌, arith, append_assoc, length-append, Appends, take-append-add, nat_tests, common_steps}
-use Rattle.council_report.proofs.Imports.{progress_of, HoldsBut, StopsIn, Block}
-use Rattle.std.proofs.lemmas.List.{take-append-le}
+-- What a writer holds after the calls that a text takes.
+use Rattle.council_report.proofs.Imports.{◌≡◌, ◌≤◌, ◌+◌, ◌-◌, ◌++◌, ℕ, List, [], length, take, drop, Option, Some, None, Result, Ok, Err, refl, ap}
+use Rattle.council_report.proofs.Imports.{◌∙◌, sym, subst, arith, append_assoc, append-nil, length-append, Appends, take-append-add, take-append-drop, Block, Calls, Ends, progress_of}
+use Rattle.std.proofs.Common.{length-drop, length-take-le}
+use Rattle.std.specs.{Io.WritesAtMost, Io.KnownBytes.Keeps, Io.KnownBytes.WriteAppends, declared.io.Error.Error}
+use Rattle.council_report.specs.{Outcome.Writes, declared.fault.ReportFault.TheVariants.Write}
+use Rattle.council_report.specs.Sending.{Sending, begins, takes, takes_none, fails, flushed, flush_fails}
 
 pub after-none : {a b c : List ℕ} → c ≡ a ++ b → a ≡ [] → c ≡ b
 after-none {b = b} more none = more ∙ ap (λ (t : List ℕ). t ++ b) none
 
-pub counts-whole : (count : ℕ) (block : Block) (heading lines : List ℕ) → block.written ≡ 0 → block.bytes.items ≡ heading
-    → count ≡ block.written + length block.bytes.items + length lines → count ≡ length (heading ++ lines)
-counts-whole count block heading lines none is told = grind (arith, nat_tests, length-append)
+appends-then : (a b c : Option (List ℕ)) (x y : List ℕ) → Appends a b x → Appends b c y → Appends a c (x ++ y)
+appends-then None b c x y first next = tt
+appends-then (Some xs) None c x y first next = absurd first
+appends-then (Some xs) (Some ys) None x y first next = absurd next
+appends-then (Some xs) (Some ys) (Some zs) x y first next = next ∙ ap (λ (t : List ℕ). t ++ y) first ∙ append_assoc xs x y
 
--- the block held the heading, and the writer what it held before
-appends-heading : (contents : Option (List ℕ)) (heading : List ℕ) → Appends contents (option_map (λ held. held ++ heading) contents) heading
-appends-heading None heading = tt
-appends-heading (Some held) heading = refl
+appends-none : (a b : Option (List ℕ)) → Keeps a b → Appends a b []
+appends-none None b keeps = tt
+appends-none (Some xs) None keeps = absurd keeps
+appends-none (Some xs) (Some ys) keeps = keeps ∙ sym (append-nil xs)
 
-pub appends-whole : (before after : Option (List ℕ)) (block : Block) (heading lines : List ℕ) → block.bytes.items ≡ heading
-    → Appends (progress_of before block).bytes after lines → Appends before after (heading ++ lines)
-appends-whole before after block heading lines is rest = grind (arith, nat_tests, common_steps, appends-heading)
+-- the writer holds the text, or so many bytes of it as it says
+abbrev HoldsEnd : Option (List ℕ) → Option (List ℕ) → List ℕ → ℕ → Result ℕ ℕ → Type 0
+HoldsEnd before after text count (Ok all) = (all ≡ count + length text) × Appends before after text
+HoldsEnd before after text count (Err some) = (count ≤ some) × (some ≤ count + length text) × Appends before after (take (some - count) text)
 
--- the writer holds the first n bytes of the heading and the front
-held-part : (w heading front t h : List ℕ) (n k : ℕ) → t ≡ (w ++ heading) ++ front → n ≤ length heading + length front
-    → k ≡ length heading + length front - n → h ≡ take (length t - k) t → h ≡ w ++ take n (heading ++ front)
-held-part w heading front t h n k all within but holds =
-    let text : t ≡ w ++ (heading ++ front) = all ∙ append_assoc w heading front in
-    let long = ap (λ (x : List ℕ). length x) text ∙ length-append w (heading ++ front) in
-    let here : length t - k ≡ length w + n = omega (arith, long, length-append heading front, but, within) in
-    holds ∙ ap (λ (m : ℕ). take m t) here ∙ ap (take (length w + n)) text ∙ take-append-add w (heading ++ front) n
+-- no more bytes were taken
+holds-none : (before after : Option (List ℕ)) (text : List ℕ) (count : ℕ) → Appends before after [] → HoldsEnd before after text count (Err count)
+holds-none before after text count same =
+    let none : count - count ≡ 0 = omega arith in
+    (omega arith, omega arith, subst (λ (n : ℕ). Appends before after (take n text)) (sym none) same)
 
-appends-part : (before at held : Option (List ℕ)) (heading front : List ℕ) (n k : ℕ)
-    → Appends (option_map (λ h. h ++ heading) before) at front → n ≤ length heading + length front → k ≡ length heading + length front - n
-    → HoldsBut at held k → Appends before held (take n (heading ++ front))
-appends-part None at held heading front n k tells within but holds = tt
-appends-part (Some w) None held heading front n k tells within but holds = absurd tells
-appends-part (Some w) (Some t) None heading front n k tells within but holds = absurd holds
-appends-part (Some w) (Some t) (Some h) heading front n k tells within but holds = held-part w heading front t h n k tells within but holds
+-- n bytes of a block were taken, and then what follows
+holds-more : (a b c : Option (List ℕ)) (block rest : List ℕ) (count n : ℕ) (end : Result ℕ ℕ) → n ≤ length block → Appends a b (take n block)
+    → HoldsEnd b c (drop n block ++ rest) (count + n) end → HoldsEnd a c (block ++ rest) count end
+holds-more a b c block rest count n end few first next =
+    let whole : take n block ++ (drop n block ++ rest) ≡ block ++ rest =
+    sym (append_assoc (take n block) (drop n block) rest) ∙ ap (λ (t : List ℕ). t ++ rest) (take-append-drop n block) in
+    let long : length block ≡ n + length (drop n block) = omega (arith, length-drop n block, few) in
+    let sizes : length (block ++ rest) ≡ n + length (drop n block ++ rest) =
+    omega (arith, long, length-append block rest, length-append (drop n block) rest) in
+    elim end as (λ (e : Result ℕ ℕ). HoldsEnd b c (drop n block ++ rest) (count + n) e → HoldsEnd a c (block ++ rest) count e) [
+      | Ok all ↦ λ h. (
+        omega (arith, h.0, sizes),
+        subst (Appends a c) whole (appends-then a b c (take n block) (drop n block ++ rest) first h.1),
+      )
+      | Err some ↦ λ h.
+          let k : some - count ≡ n + (some - (count + n)) = omega (arith, h.0) in
+          let front : take (some - count) (block ++ rest) ≡ take n block ++ take (some - (count + n)) (drop n block ++ rest) =
+          ap (λ (m : ℕ). take m (block ++ rest)) (k ∙ ap (λ (m : ℕ). m + (some - (count + n))) (sym (length-take-le n block few)))
+          ∙ ap (take (length (take n block) + (some - (count + n)))) (sym whole)
+          ∙ take-append-add (take n block) (drop n block ++ rest) (some - (count + n)) in (
+            omega (arith, h.0),
+            omega (arith, h.1, sizes),
+            subst (Appends a c) (sym front)
+                (appends-then a b c (take n block) (take (some - (count + n)) (drop n block ++ rest)) first h.2),
+          )
+    ] next
 
-pub stopped-whole : (before held : Option (List ℕ)) (block : Block) (heading lines : List ℕ) (n : ℕ) → block.written ≡ 0
-    → block.bytes.items ≡ heading → StopsIn (progress_of before block) lines held n → (n ≤ length (heading ++ lines))
-    × Appends before held (take n (heading ++ lines))
-stopped-whole before held block heading lines n none is s =
-    let tells : Appends (option_map (λ h. h ++ heading) before) s.at.bytes s.front = grind (arith) in
-    grind (arith, common_steps, length-append, appends-part, append_assoc, take-append-le)
+module _ {W : Type 0} (held : W → Option (List ℕ)) (is_write : W → List ℕ → Result ℕ Error → W → Type 0)
+    (is_flush : W → Result (Unit {0}) Error → W → Type 0)
+    (writes : (old new : W) (bytes : List ℕ) (result : Result ℕ Error) → is_write old bytes result new
+    → WritesAtMost result bytes × WriteAppends (held old) (held new) result bytes)
+    (flushes : (old new : W) (result : Result (Unit {0}) Error) → is_flush old result new → Keeps (held old) (held new)) where
+  pub sent : {w last : W} {block rest : List ℕ} {count : ℕ} {end : Result ℕ ℕ} → Sending is_write is_flush w block rest count end last
+      → HoldsEnd (held w) (held last) (block ++ rest) count end
+  sent (begins w last block rest count end is next) = sent next
+  sent (takes w v last block rest count n end is some next) =
+      let law = writes w v block (Ok n) is in
+      holds-more (held w) (held v) (held last) block rest count n end law.0 law.1 (sent next)
+  sent (takes_none w last block rest count some is) =
+      holds-none (held w) (held last) (block ++ rest) count (writes w last block (Ok 0) is).1
+  sent (fails w last block rest count e some is) =
+      holds-none (held w) (held last) (block ++ rest) count (appends-none (held w) (held last) (writes w last block (Err e) is).1)
+  sent (flushed w last count is) = (omega arith, appends-none (held w) (held last) (flushes w last (Ok tt) is))
+  sent (flush_fails w last count e is) = holds-none (held w) (held last) [] count (appends-none (held w) (held last) (flushes w last (Err e) is))
+
+  pub writes-whole : (text : List ℕ) (first last : W) (n : ℕ) → Sending is_write is_flush first [] text 0 (Ok n) last
+      → Writes held is_write is_flush text first last (Ok n)
+  writes-whole text first last n calls =
+      let h = sent calls in (omega (arith, h.0), h.1, calls)
+
+  pub writes-part : (text : List ℕ) (first last : W) (n : ℕ) → Sending is_write is_flush first [] text 0 (Err n) last
+      → Writes held is_write is_flush text first last (Err (Write n))
+  writes-part text first last n calls =
+      let h = sent calls in
+      let all : n - 0 ≡ n = omega arith in
+      (omega (arith, h.1), subst (λ (k : ℕ). Appends (held first) (held last) (take k text)) all h.2, calls)
+
+-- a text that begins with what a fresh block holds
+pub from-block : {W : Type 0} (S : Calls W) (first last : W) (block : Block) (heading lines : List ℕ) (end : Result ℕ ℕ) → block.written ≡ 0
+    → block.bytes.items ≡ heading → Ends S (progress_of first block) lines end last → S first [] (heading ++ lines) 0 end last
+from-block S first last block heading lines end none is ends =
+    subst (λ (t : List ℕ). S first [] (t ++ lines) 0 end last) is
+    (subst (λ (n : ℕ). S first [] (block.bytes.items ++ lines) n end last) none ends)

@@ -1,11 +1,12 @@
 //! The block through which a report goes to its writer.
-ghost use Rattle.std.specs.Prelude.{◌≡◌, ◌≤◌, ◌<◌, ◌+◌, [], false, length, take, IfOk, IfErr, OnOk};
+ghost use Rattle.std.specs.Prelude.{◌≡◌, ◌≤◌, ◌<◌, ◌+◌, [], false, length, IfErr, IfOk, OnOk};
 ghost use Rattle.std.specs.Vec.{vec_capacity};
-ghost use Rattle.std.specs.Io.KnownBytes.{Appends, Keeps};
+ghost use Rattle.council_report.specs.Inner.Writing.{TakesWhole};
+ghost use Rattle.council_report.specs.Sending.{Sending};
 ghost use Rattle.council_report.specs.declared.output.TheConstants.{LINE, ROOM};
 
+use council_base::Sink;
 use std::alloc::{AllocError, Global};
-use std::io::Write;
 
 /// The bytes of a block.
 const ROOM: usize = 65_536;
@@ -26,17 +27,15 @@ pub struct WriteFault {
     pub written: u64,
 }
 
-/// Hands the bytes to the writer, and asks it again for those that are left where it takes fewer. A
-/// write that takes none or fails, whatever the cause, is the end.
-fn write_whole<W: Write>(writer: &mut W, bytes: &[u8]) -> Result<(), WriteFault>
-    ensures ok { OnOk result (Appends (W.contents writer.old) (W.contents writer.new) bytes.now) }
+/// Writes all bytes. If the writer takes fewer than it is given, it is asked again for those that are
+/// left. A write that takes none or fails, whatever the cause, is the last call.
+fn write_whole<W: Sink>(writer: &mut W, bytes: &[u8]) -> Result<(), WriteFault>
+    ensures calls { TakesWhole (Sending W.is_write W.is_flush) bytes.now writer.old writer.new result }
     ensures within { IfErr result (λ fault. fault.written ≤ length bytes.now) }
-    ensures err { IfErr result (λ fault. Appends (W.contents writer.old) (W.contents writer.new)
-        (take fault.written bytes.now)) }
 {
     let mut written = 0;
     while written < bytes.len() {
-        match writer.write(&bytes[written..]) {
+        match writer.write_once(&bytes[written..]) {
             Ok(0) | Err(_) => {
                 return Err(WriteFault {
                     written: written as u64,
@@ -48,8 +47,8 @@ fn write_whole<W: Write>(writer: &mut W, bytes: &[u8]) -> Result<(), WriteFault>
     Ok(())
 }
 
-/// Bytes on their way to a writer, whether memory for some was refused, and the number of those
-/// that the writer took before.
+/// Bytes on their way to a writer, whether memory for some was refused, and the number of those that
+/// the writer took before.
 #[derive(Drop)]
 pub(crate) struct Block {
     pub(crate) bytes: Vec<u8>,
@@ -58,9 +57,9 @@ pub(crate) struct Block {
 }
 
 impl Block {
-    ghost use Rattle.council_report.specs.Inner.Written.{progress_of, Advances, HasStopped};
+    ghost use Rattle.council_report.specs.Inner.Written.{Ends, progress_of};
     ghost use Rattle.council_report.specs.Inner.Ready.{HasRoom, CanCount, AppendsInRoom};
-    ghost use Rattle.council_report.specs.Inner.Writing.{MakesRoom};
+    ghost use Rattle.council_report.specs.Inner.Writing.{Drains, MakesRoom, end_of};
 
     /// An empty block with all its room.
     pub(crate) fn new(alloc: Global) -> Result<Block, AllocError>
@@ -84,17 +83,14 @@ impl Block {
         self.refused |= self.bytes.extend_from_slice(bytes).is_err();
     }
 
-    /// Hands all bytes to the writer.
-    fn drain<W: Write>(&mut self, writer: &mut W) -> Result<(), WriteFault>
+    /// Writes all bytes, and leaves the block empty.
+    fn drain<W: Sink>(&mut self, writer: &mut W) -> Result<(), WriteFault>
         requires { CanCount self.old [] }
-        ensures ok { OnOk result (Advances (progress_of (W.contents writer.old) self.old)
-            (progress_of (W.contents writer.new) self.new) []) }
+        ensures calls { Drains (Sending W.is_write W.is_flush) writer.old self.old writer.new self.new result }
         ensures empty { OnOk result (self.new.bytes.items ≡ []) }
+        ensures count { OnOk result (self.new.written ≡ self.old.written + length self.old.bytes.items) }
         ensures capacity { vec_capacity self.new.bytes ≡ vec_capacity self.old.bytes }
         ensures refused { self.new.refused ≡ self.old.refused }
-        ensures err { IfErr result (λ fault.
-            HasStopped (progress_of (W.contents writer.old) self.old)
-            (W.contents writer.new) fault.written) }
     {
         let before = self.written;
         let after = before + self.bytes.len() as u64;
@@ -111,9 +107,9 @@ impl Block {
     }
 
     /// Makes ready for a line: if the next might not fit, all bytes go to the writer.
-    pub(crate) fn settle<W: Write>(&mut self, writer: &mut W) -> Result<(), WriteFault>
+    pub(crate) fn settle<W: Sink>(&mut self, writer: &mut W) -> Result<(), WriteFault>
         requires { CanCount self.old [] }
-        ensures { MakesRoom (W.contents writer.old) self.old (W.contents writer.new) self.new result }
+        ensures { MakesRoom (Sending W.is_write W.is_flush) writer.old self.old writer.new self.new result }
     {
         if self.bytes.len() + LINE <= ROOM {
             return Ok(());
@@ -121,16 +117,13 @@ impl Block {
         self.drain(writer)
     }
 
-    /// Hands the last bytes to the writer, and flushes it once.
-    pub(crate) fn finish<W: Write>(mut self, writer: &mut W) -> Result<u64, WriteFault>
+    /// Writes the last bytes, and flushes the writer once.
+    pub(crate) fn finish<W: Sink>(mut self, writer: &mut W) -> Result<u64, WriteFault>
         requires { CanCount self [] }
-        ensures ok { IfOk result (λ count. (count ≡ self.written + length self.bytes.items)
-            × Keeps (progress_of (W.contents writer.old) self).bytes (W.contents writer.new)) }
-        ensures err { IfErr result (λ fault. HasStopped (progress_of (W.contents writer.old) self)
-            (W.contents writer.new) fault.written) }
+        ensures { Ends (Sending W.is_write W.is_flush) (progress_of writer.old self) [] (end_of result) writer.new }
     {
         self.drain(writer)?;
-        match writer.flush() {
+        match writer.flush_once() {
             Ok(()) => Ok(self.written),
             Err(_) => Err(WriteFault {
                 written: self.written,

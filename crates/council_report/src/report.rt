@@ -1,6 +1,5 @@
 //! A report, written whole.
 ghost use Rattle.std.specs.Prelude.{◌≡◌, ◌+◌, ◌≤◌, ◌^◌, true, false, ℕ, List, length, IfOk, IfErr, OnOk};
-ghost use Rattle.std.specs.Io.KnownBytes.{Appends};
 ghost use Rattle.council_base.specs.Lists.{joined};
 ghost use Rattle.council_base.specs.declared.limits.TheConstants.{MEMBERS, COALITIONS};
 ghost use Rattle.council_game.specs.Game.{votes_of, AreNonemptyCoalitions, IsGame};
@@ -9,10 +8,11 @@ ghost use Rattle.power_index.specs.Tables.{AreCounts};
 ghost use Rattle.council_report.specs.Inner.Lines.{lines_of, lines_of_sizes};
 ghost use Rattle.council_report.specs.Report.{coalition_lines, report, report_over};
 ghost use Rattle.council_report.specs.Inner.SharedLine.{IsReadyLine};
-ghost use Rattle.council_report.specs.Inner.Written.{progress_of, StopsIn};
+ghost use Rattle.council_report.specs.Inner.Written.{Ends, progress_of};
 ghost use Rattle.council_report.specs.Inner.Ready.{HasRoom, IsReady, CanCount};
-ghost use Rattle.council_report.specs.Inner.Writing.{WritesText};
-ghost use Rattle.council_report.specs.Outcome.{StopsPartWay};
+ghost use Rattle.council_report.specs.Inner.Writing.{WritesText, end_of};
+ghost use Rattle.council_report.specs.Outcome.{Writes};
+ghost use Rattle.council_report.specs.Sending.{Sending};
 
 use crate::ReportLines;
 use crate::counted::Counted;
@@ -21,14 +21,14 @@ use crate::heading::push_heading;
 use crate::output::{Block, WriteFault};
 use crate::shared_line::SharedLine;
 use crate::stream::{put_members, put_pieces, put_sizes};
+use council_base::Sink;
 use council_game::{Coalition, Game};
 use power_index::Counts;
 use power_index::laws::minimal_coalitions_can_be_counted;
 use std::alloc::Global;
-use std::io::Write;
 
 /// A line for each coalition, where they are shown.
-fn put_shown_coalitions<W: Write>(
+fn put_shown_coalitions<W: Sink>(
     block: &mut Block,
     writer: &mut W,
     game: &Game,
@@ -40,8 +40,8 @@ fn put_shown_coalitions<W: Write>(
     requires line { IsReadyLine game.now line.old }
     requires ready { IsReady block.old }
     requires counted { CanCount block.old (coalition_lines shown game.now (joined pieces.now)) }
-    ensures { WritesText (coalition_lines shown game.now (joined pieces.now))
-        (W.contents writer.old) block.old (W.contents writer.new) block.new result }
+    ensures { WritesText (Sending W.is_write W.is_flush) (coalition_lines shown game.now (joined pieces.now))
+        writer.old block.old writer.new block.new result }
 {
     if shown.list {
         put_pieces(block, writer, game, pieces, line)
@@ -51,7 +51,7 @@ fn put_shown_coalitions<W: Write>(
 }
 
 /// A line for each size, where they are shown.
-fn put_shown_sizes<W: Write>(
+fn put_shown_sizes<W: Sink>(
     block: &mut Block,
     writer: &mut W,
     counted: &Counted<'_>,
@@ -59,8 +59,8 @@ fn put_shown_sizes<W: Write>(
 ) -> Result<(), WriteFault>
     requires ready { IsReady block.old }
     requires counted { CanCount block.old (lines_of_sizes shown counted.now) }
-    ensures { WritesText (lines_of_sizes shown counted.now)
-        (W.contents writer.old) block.old (W.contents writer.new) block.new result }
+    ensures { WritesText (Sending W.is_write W.is_flush) (lines_of_sizes shown counted.now)
+        writer.old block.old writer.new block.new result }
 {
     if shown.sizes {
         put_sizes(block, writer, counted)
@@ -71,7 +71,7 @@ fn put_shown_sizes<W: Write>(
 
 /// The lines after the heading.
 #[tactic(auto, unfolding(crate::specs::Inner::Lines::lines_of))]
-fn put_lines<W: Write>(
+fn put_lines<W: Sink>(
     block: &mut Block,
     writer: &mut W,
     counted: &Counted<'_>,
@@ -83,8 +83,8 @@ fn put_lines<W: Write>(
     requires line { IsReadyLine counted.now.game.now line.old }
     requires ready { IsReady block.old }
     requires counted { CanCount block.old (lines_of shown counted.now (joined pieces.now)) }
-    ensures { WritesText (lines_of shown counted.now (joined pieces.now))
-        (W.contents writer.old) block.old (W.contents writer.new) block.new result }
+    ensures { WritesText (Sending W.is_write W.is_flush) (lines_of shown counted.now (joined pieces.now))
+        writer.old block.old writer.new block.new result }
 {
     put_shown_coalitions(block, writer, counted.game, pieces, line, shown)?;
     put_shown_sizes(block, writer, counted, shown)?;
@@ -92,7 +92,7 @@ fn put_lines<W: Write>(
 }
 
 /// The lines after the heading, and the flush.
-fn send<W: Write>(
+fn send<W: Sink>(
     mut block: Block,
     writer: &mut W,
     counted: &Counted<'_>,
@@ -105,23 +105,18 @@ fn send<W: Write>(
     requires room { HasRoom block }
     requires kept { block.refused ≡ false }
     requires counted { CanCount block (lines_of shown counted.now (joined pieces.now)) }
-    ensures count { IfOk result (λ count. count ≡ (progress_of (W.contents writer.old) block).count
-        + length (lines_of shown counted.now (joined pieces.now))) }
-    ensures ok { OnOk result (Appends (progress_of (W.contents writer.old) block).bytes
-        (W.contents writer.new) (lines_of shown counted.now (joined pieces.now))) }
-    ensures err { IfErr result (λ fault. StopsIn (progress_of (W.contents writer.old) block)
-        (lines_of shown counted.now (joined pieces.now))
-        (W.contents writer.new) fault.written) }
+    ensures { Ends (Sending W.is_write W.is_flush) (progress_of writer.old block)
+        (lines_of shown counted.now (joined pieces.now)) (end_of result) writer.new }
 {
     block.settle(writer)?;
     put_lines(&mut block, writer, counted, pieces, line, shown)?;
     block.finish(writer)
 }
 
-/// Writes the report of a game over a list of its coalitions with these counts. The list need be
-/// there, in pieces, only where it is shown. The lines are made from the counts; that they are
-/// those of the list is shown here.
-fn write_over<W: Write>(
+/// Writes the report of a game over a list of its coalitions with these counts. The list need be there,
+/// in pieces, only where it is shown. The lines are made from the counts; that they are those of the
+/// list is shown here.
+fn write_over<W: Sink>(
     alloc: Global,
     game: &Game,
     pieces: &[&[Coalition]],
@@ -134,11 +129,8 @@ fn write_over<W: Write>(
     requires pieces { shown.list ≡ true → joined pieces.now ≡ list }
     requires coalitions { AreNonemptyCoalitions game.now (joined pieces.now) }
     requires counts { AreCounts game.now list counts.now }
-    ensures count { IfOk result (λ count. count ≡ length (report_over shown game.now list)) }
-    ensures ok { OnOk result (Appends (W.contents writer.old) (W.contents writer.new)
-        (report_over shown game.now list)) }
-    ensures err { IfErr result (StopsPartWay (W.contents writer.old) (W.contents writer.new)
-        (report_over shown game.now list)) }
+    ensures { Writes W.held W.is_write W.is_flush (report_over shown game.now list)
+        writer.old writer.new result }
 {
     let mut block = Block::new(alloc)?;
     push_heading(&mut block, game, counts.wide_total(), shown);
@@ -169,7 +161,7 @@ fn write_over<W: Write>(
 /// # Errors
 ///
 /// As for `write_report`.
-pub fn write_report_of<W: Write>(
+pub fn write_report_of<W: Sink>(
     alloc: Global,
     game: &Game,
     pieces: &[&[Coalition]],
@@ -181,24 +173,21 @@ pub fn write_report_of<W: Write>(
     requires few { length (joined pieces.now) ≤ 2 ^ MEMBERS }
     requires coalitions { AreNonemptyCoalitions game.now (joined pieces.now) }
     requires counts { AreCounts game.now (joined pieces.now) counts.now }
-    ensures count { IfOk result (λ count. count ≡ length (report_over shown game.now (joined pieces.now))) }
-    ensures ok { OnOk result (Appends (W.contents writer.old) (W.contents writer.new)
-        (report_over shown game.now (joined pieces.now))) }
-    ensures err { IfErr result (StopsPartWay (W.contents writer.old) (W.contents writer.new)
-        (report_over shown game.now (joined pieces.now))) }
+    ensures { Writes W.held W.is_write W.is_flush (report_over shown game.now (joined pieces.now))
+        writer.old writer.new result }
 {
     write_over(alloc, game, pieces, counts, shown, writer)
 }
 
-/// Writes the report of a game, with no line for a coalition, only from the counts of its minimal
-/// winning coalitions, however many these are, and flushes once. The answer is the number of bytes.
+/// Writes the report of a game, with no line for a coalition, from the counts of its minimal winning
+/// coalitions alone, however many these are, and flushes once. The answer is the number of bytes.
 ///
 /// No byte goes out before all memory is there.
 ///
 /// # Errors
 ///
 /// As for `write_report`.
-pub fn write_tally<W: Write>(
+pub fn write_tally<W: Sink>(
     alloc: Global,
     game: &Game,
     counts: &Counts,
@@ -207,27 +196,23 @@ pub fn write_tally<W: Write>(
 ) -> Result<u64, ReportFault>
     requires without_list { shown.list ≡ false }
     requires counts { AreCounts game.now (minimal_coalitions (votes_of game.now)) counts.now }
-    ensures count { IfOk result (λ count. count ≡ length (report shown game.now)) }
-    ensures ok { OnOk result (Appends (W.contents writer.old) (W.contents writer.new)
-        (report shown game.now)) }
-    ensures err { IfErr result (StopsPartWay (W.contents writer.old) (W.contents writer.new)
-        (report shown game.now)) }
+    ensures { Writes W.held W.is_write W.is_flush (report shown game.now)
+        writer.old writer.new result }
 {
     minimal_coalitions_can_be_counted();
     write_over(alloc, game, &[], counts, shown, writer)
 }
 
-/// Writes the report of a game over a list of 1 to 4,000,000 of its coalitions, none of them empty,
-/// and flushes once. The answer is the number of bytes.
+/// Writes the report of a game over a list of 1 to 4,000,000 of its coalitions, none of them empty, and
+/// flushes once. The answer is the number of bytes.
 ///
 /// No byte goes out before all memory is there.
 ///
 /// # Errors
 ///
-/// Memory where a growth was refused; nothing was written then. Write where a write or the flush
-/// failed, or a write took nothing; it tells how many bytes the writer took, which are the first
-/// ones of the report.
-pub fn write_report<W: Write>(
+/// Memory where a growth was refused; nothing was written then. Write where a write or the flush failed,
+/// or a write took nothing; it tells how many bytes the writer took, which are the first ones of the report.
+pub fn write_report<W: Sink>(
     alloc: Global,
     game: &Game,
     list: &[Coalition],
@@ -237,11 +222,8 @@ pub fn write_report<W: Write>(
     requires some { 1 ≤ length list.now }
     requires few { length list.now ≤ COALITIONS }
     requires coalitions { AreNonemptyCoalitions game.now list.now }
-    ensures count { IfOk result (λ count. count ≡ length (report_over shown game.now list.now)) }
-    ensures ok { OnOk result (Appends (W.contents writer.old) (W.contents writer.new)
-        (report_over shown game.now list.now)) }
-    ensures err { IfErr result (StopsPartWay (W.contents writer.old) (W.contents writer.new)
-        (report_over shown game.now list.now)) }
+    ensures { Writes W.held W.is_write W.is_flush (report_over shown game.now list.now)
+        writer.old writer.new result }
 {
     let counts = Counts::of(game, list);
     write_report_of(alloc, game, &[list], &counts, shown, writer)

@@ -7,16 +7,17 @@ ghost use Rattle.council_report.specs.Inner.Lines.{line_of_size, line_of_member,
 ghost use Rattle.council_report.specs.Inner.SharedLine.{IsReadyLine};
 ghost use Rattle.council_report.specs.Inner.Ready.{IsReady, CanCount};
 ghost use Rattle.council_report.specs.Inner.Writing.{WritesText};
+ghost use Rattle.council_report.specs.Sending.{Sending};
 
 use crate::counted::Counted;
 use crate::counted_lines::{push_member, push_size};
 use crate::output::{Block, WriteFault};
 use crate::shared_line::SharedLine;
+use council_base::Sink;
 use council_game::{Coalition, Game};
-use std::io::Write;
 
 /// A line for each coalition, in the order of the list, whichever that is.
-pub(crate) fn put_coalitions<W: Write>(
+pub(crate) fn put_coalitions<W: Sink>(
     block: &mut Block,
     writer: &mut W,
     game: &Game,
@@ -27,8 +28,8 @@ pub(crate) fn put_coalitions<W: Write>(
     requires line { IsReadyLine game.now line.old }
     requires ready { IsReady block.old }
     requires counted { CanCount block.old (flat_map (coalition_line game.now) list.now) }
-    ensures puts { WritesText (flat_map (coalition_line game.now) list.now)
-        (W.contents writer.old) block.old (W.contents writer.new) block.new result }
+    ensures puts { WritesText (Sending W.is_write W.is_flush) (flat_map (coalition_line game.now) list.now)
+        writer.old block.old writer.new block.new result }
     ensures line { OnOk result (IsReadyLine game.now line.new) }
 {
     for coalition in list {
@@ -40,7 +41,7 @@ pub(crate) fn put_coalitions<W: Write>(
 }
 
 /// A line for each coalition, piece after piece.
-pub(crate) fn put_pieces<W: Write>(
+pub(crate) fn put_pieces<W: Sink>(
     block: &mut Block,
     writer: &mut W,
     game: &Game,
@@ -52,8 +53,8 @@ pub(crate) fn put_pieces<W: Write>(
     requires ready { IsReady block.old }
     requires counted { CanCount block.old
         (flat_map (λ p. flat_map (coalition_line game.now) p.now) pieces.now) }
-    ensures { WritesText (flat_map (λ p. flat_map (coalition_line game.now) p.now) pieces.now)
-        (W.contents writer.old) block.old (W.contents writer.new) block.new result }
+    ensures { WritesText (Sending W.is_write W.is_flush) (flat_map (λ p. flat_map (coalition_line game.now) p.now) pieces.now)
+        writer.old block.old writer.new block.new result }
 {
     for piece in pieces {
         put_coalitions(block, writer, game, piece, line)?;
@@ -62,7 +63,7 @@ pub(crate) fn put_pieces<W: Write>(
 }
 
 /// A line for each size that some coalition has.
-pub(crate) fn put_sizes<W: Write>(
+pub(crate) fn put_sizes<W: Sink>(
     block: &mut Block,
     writer: &mut W,
     counted: &Counted<'_>,
@@ -70,8 +71,8 @@ pub(crate) fn put_sizes<W: Write>(
     requires ready { IsReady block.old }
     requires counted { CanCount block.old
         (flat_map (line_of_size counted.now) (range_with_len 1 counted.now.members)) }
-    ensures { WritesText (flat_map (line_of_size counted.now) (range_with_len 1 counted.now.members))
-        (W.contents writer.old) block.old (W.contents writer.new) block.new result }
+    ensures { WritesText (Sending W.is_write W.is_flush) (flat_map (line_of_size counted.now) (range_with_len 1 counted.now.members))
+        writer.old block.old writer.new block.new result }
 {
     for size in 1..counted.members + 1 {
         push_size(block, counted, size);
@@ -81,15 +82,15 @@ pub(crate) fn put_sizes<W: Write>(
 }
 
 /// A line for each member.
-pub(crate) fn put_members<W: Write>(
+pub(crate) fn put_members<W: Sink>(
     block: &mut Block,
     writer: &mut W,
     counted: &Counted<'_>,
 ) -> Result<(), WriteFault>
     requires ready { IsReady block.old }
     requires counted { CanCount block.old (lines_of_members counted.now) }
-    ensures { WritesText (lines_of_members counted.now)
-        (W.contents writer.old) block.old (W.contents writer.new) block.new result }
+    ensures { WritesText (Sending W.is_write W.is_flush) (lines_of_members counted.now)
+        writer.old block.old writer.new block.new result }
 {
     for member in 0..counted.members {
         push_member(block, counted, member);

@@ -1,22 +1,20 @@
 //! What a report is made from.
-ghost use Rattle.std.specs.Prelude.{◌≡◌, IfErr, IfOk, OnOk, length};
-ghost use Rattle.std.specs.Io.KnownBytes.{Appends};
+ghost use Rattle.std.specs.Prelude.{◌≡◌, IfOk};
 ghost use Rattle.council_base.specs.Lists.{joined};
 ghost use Rattle.council_game.specs.Game.{votes_of};
 ghost use Rattle.council_game.specs.Votes.{minimal_coalitions};
-ghost use Rattle.council_report.specs.Outcome.{StopsPartWay};
+ghost use Rattle.council_report.specs.Outcome.{Writes};
 ghost use Rattle.council_report.specs.Report.{report};
 ghost use Rattle.council_run.specs.Found.{HoldAll, IsFound};
 ghost use Rattle.power_index.specs.Tables.{AreCountsOfGame};
 
-use council_base::{Coalition, Memory, ReportLines};
+use council_base::{Coalition, Memory, ReportLines, Sink};
 use council_game::Game;
 use council_report::{ReportFault, write_report_of, write_tally};
 use mwc_gather::Gathered;
 use power_index::Counts;
 use power_index::laws::minimal_coalitions_can_be_counted;
 use std::alloc::Global;
-use std::io::Write;
 
 /// The minimal winning coalitions of a game, if they were kept.
 #[derive(Drop)]
@@ -58,7 +56,7 @@ pub(crate) fn pieces<'a>(
 }
 
 /// Writes a report with the coalitions in these pieces.
-fn write_pieces<W: Write>(
+fn write_pieces<W: Sink>(
     alloc: Global,
     game: &Game,
     pieces: &[&[Coalition]],
@@ -68,11 +66,7 @@ fn write_pieces<W: Write>(
 ) -> Result<u64, ReportFault>
     requires pieces { joined pieces.now ≡ minimal_coalitions (votes_of game.now) }
     requires counts { AreCountsOfGame game.now counts.now }
-    ensures count { IfOk result (λ count. count ≡ length (report lines game.now)) }
-    ensures ok { OnOk result
-        (Appends (W.contents writer.old) (W.contents writer.new) (report lines game.now)) }
-    ensures err { IfErr result
-        (StopsPartWay (W.contents writer.old) (W.contents writer.new) (report lines game.now)) }
+    ensures { Writes W.held W.is_write W.is_flush (report lines game.now) writer.old writer.new result }
 {
     game.was_checked();
     minimal_coalitions_can_be_counted();
@@ -85,7 +79,7 @@ impl Found {
     /// # Errors
     ///
     /// As for `council_report::write_report`.
-    pub fn write<W: Write>(
+    pub fn write<W: Sink>(
         &self,
         alloc: Global,
         game: &Game,
@@ -93,11 +87,7 @@ impl Found {
         writer: &mut W,
     ) -> Result<u64, ReportFault>
         requires { IsFound game.now lines self.now }
-        ensures count { IfOk result (λ count. count ≡ length (report lines game.now)) }
-        ensures ok { OnOk result
-            (Appends (W.contents writer.old) (W.contents writer.new) (report lines game.now)) }
-        ensures err { IfErr result
-            (StopsPartWay (W.contents writer.old) (W.contents writer.new) (report lines game.now)) }
+        ensures { Writes W.held W.is_write W.is_flush (report lines game.now) writer.old writer.new result }
     {
         match &self.coalitions {
             Coalitions::Counted => write_tally(alloc, game, &self.counts, lines, writer),

@@ -1,49 +1,29 @@
 //! Runs: from the bytes of a game to its report.
-ghost use Rattle.std.specs.Prelude.{◌≡◌, ℕ, Err, IfErr, IfOk, List, None, Ok, Option, Some};
+ghost use Rattle.std.specs.Prelude.{◌≡◌, IfErr, None, Some};
 ghost use Rattle.council_base.specs.Options.{lines_of, without_list};
+ghost use Rattle.council_file.specs.Reads.{Reads};
+ghost use Rattle.council_report.specs.Outcome.{Writes};
 ghost use Rattle.council_report.specs.Report.{report};
-ghost use Rattle.council_run.specs.Found.{Finds, IsFound};
-ghost use Rattle.council_run.specs.Run.{IsOutcome, Reads};
+ghost use Rattle.council_run.specs.Run.{IsOutcome};
 ghost use Rattle.council_run.specs.declared.fault.Cause.TheVariants as cause;
 ghost use Rattle.mwc_gather.specs.declared.fault.GatherFault.{GatherFault};
 ghost use Rattle.mwc_gather.specs.declared.fault.GatherFault.TheVariants as gather;
 
 use crate::counting::count_by_workers;
 use crate::fault::RunFault;
-use crate::found::Found;
 use crate::listing::list_by_workers;
-use council_base::{Gate, Options, ReportLines};
+use council_base::{Gate, Options, Sink, Source};
 use council_file::read_game;
-use council_game::Game;
 use std::alloc::Global;
-use std::io::{Read, Write};
 use std::sync::Wait;
 use std::thread::Threads;
-
-/// Writes the report of a game that was read, if its coalitions were found.
-fn report_found<W: Write>(
-    alloc: Global,
-    game: &Game,
-    found: Result<Found, RunFault>,
-    lines: ReportLines,
-    writer: &mut W,
-) -> Result<u64, RunFault>
-    requires { IfOk found (IsFound game.now lines) }
-    ensures outcome { (limit : Option ℕ) (unread left : Option (List ℕ)) → Finds limit lines game.now found
-        → Reads unread left (Ok game.now) → IsOutcome (report lines) limit (Reads unread left)
-        (W.contents writer.old) (W.contents writer.new) result }
-    ensures fault { IfErr result (λ fault. (why : GatherFault) → fault.cause ≡ cause.Gather why
-        → found ≡ Err fault) }
-{
-    let found = found?;
-    Ok(found.write(alloc, game, lines, writer)?)
-}
 
 /// Reads a game, lists its minimal winning coalitions by worker threads, and writes its report and
 /// nothing else. It returns the number of bytes written. It may wait for its workers.
 ///
-/// If the writer takes fewer bytes than it is given, it is asked again for those that are left.
-/// There is one flush, after the last byte.
+/// The contract says which calls the reader and the writer got, whatever they are: no read after one
+/// that failed or gave nothing; each write gets what is left of a block of the report, and blocks are
+/// large; one flush, after the last byte, and no call after one that failed.
 ///
 /// # Errors
 ///
@@ -53,7 +33,7 @@ fn report_found<W: Write>(
 /// before all memory is there: after each fault but `Write` the writer took nothing, and after
 /// `Write` it has the first bytes of the report. A write that takes no byte or fails, whatever the
 /// cause, is `Write`, and so is a flush that fails.
-pub fn run<T: Threads + Wait + Sync, R: Read, W: Write, G: Gate + Sync>(
+pub fn run<T: Threads + Wait + Sync, R: Source, W: Sink, G: Gate + Sync>(
     rt: &T,
     alloc: Global,
     reader: &mut R,
@@ -62,12 +42,13 @@ pub fn run<T: Threads + Wait + Sync, R: Read, W: Write, G: Gate + Sync>(
     writer: &mut W,
 ) -> Result<u64, RunFault>
     ensures { IsOutcome (report (lines_of options.now)) (Some options.now.most)
-        (Reads (R.remaining reader.old) (R.remaining reader.new))
-        (W.contents writer.old) (W.contents writer.new) result }
+        (Reads R.left R.is_read reader.old reader.new)
+        (λ text. Writes W.held W.is_write W.is_flush text writer.old writer.new)
+        (writer.new ≡ writer.old) result }
 {
     let game = read_game(alloc, reader)?;
-    let found = list_by_workers(rt, alloc, &game, options, gate);
-    report_found(alloc, &game, found, options.lines(), writer)
+    let found = list_by_workers(rt, alloc, &game, options, gate)?;
+    Ok(found.write(alloc, &game, options.lines(), writer)?)
 }
 
 /// Reads a game, counts its minimal winning coalitions, however many there are, and writes its
@@ -81,7 +62,7 @@ pub fn run<T: Threads + Wait + Sync, R: Read, W: Write, G: Gate + Sync>(
 /// # Errors
 ///
 /// As for `run`, but there are never too many coalitions, and of the gathering only Start can come.
-pub fn tally<T: Threads + Wait + Sync, R: Read, W: Write, G: Gate + Sync>(
+pub fn tally<T: Threads + Wait + Sync, R: Source, W: Sink, G: Gate + Sync>(
     rt: &T,
     alloc: Global,
     reader: &mut R,
@@ -90,12 +71,13 @@ pub fn tally<T: Threads + Wait + Sync, R: Read, W: Write, G: Gate + Sync>(
     writer: &mut W,
 ) -> Result<u64, RunFault>
     ensures outcome { IsOutcome (report (without_list (lines_of options.now))) None
-        (Reads (R.remaining reader.old) (R.remaining reader.new))
-        (W.contents writer.old) (W.contents writer.new) result }
+        (Reads R.left R.is_read reader.old reader.new)
+        (λ text. Writes W.held W.is_write W.is_flush text writer.old writer.new)
+        (writer.new ≡ writer.old) result }
     ensures threads { IfErr result (λ fault. (why : GatherFault) →
         fault.cause ≡ cause.Gather why → why ≡ gather.Start) }
 {
     let game = read_game(alloc, reader)?;
-    let found = count_by_workers(rt, alloc, &game, options, gate);
-    report_found(alloc, &game, found, options.lines().without_list(), writer)
+    let found = count_by_workers(rt, alloc, &game, options, gate)?;
+    Ok(found.write(alloc, &game, options.lines().without_list(), writer)?)
 }

@@ -1,41 +1,36 @@
--- What a writer was told: the bytes that it holds, and those of the block that are still to go.
-use Rattle.std.specs.Prelude.{◌≡◌, ◌≤◌, ◌+◌, ◌-◌, ◌++◌, ℕ, List, length, take, Option, Some, None, option_map}
-use Rattle.std.specs.Io.KnownBytes.{Appends}
+-- What a writer was told: the bytes that it has, and those of the block that are still to go.
+use Rattle.std.specs.Prelude.{◌≡◌, ◌+◌, ◌++◌, ℕ, List, [], length, Result, Err}
 use Rattle.council_report.specs.declared.output.Block.{Block}
 
--- all bytes told so far, where the writer's are known, and the number of those of this report
-pub record Progress : Type 0 where
-  pub bytes : Option (List ℕ)
-  pub count : ℕ
+-- which calls a writer gets with the rest of a block and of a text, after so many bytes; see `Sending`
+abbrev pub Calls : Type 0 → Type 1
+Calls W = W → List ℕ → List ℕ → ℕ → Result ℕ ℕ → W → Type 0
 
-abbrev pub progress_of : Option (List ℕ) → Block → Progress
-progress_of contents block = record {
-  bytes = option_map (λ held. held ++ block.bytes.items) contents;
-  count = block.written + length block.bytes.items;
-}
+-- the writer, the bytes of the block, and the number of bytes that the writer has taken
+pub record Progress (W : Type 0) : Type 0 where
+  pub writer : W
+  pub bytes : List ℕ
+  pub written : ℕ
 
--- the same, and this text after it
-pub record Advances (before after : Progress) (text : List ℕ) : Type 0 where
-  pub bytes : Appends before.bytes after.bytes text
-  pub count : after.count ≡ before.count + length text
+abbrev pub progress_of : {W : Type 0} → W → Block → Progress W
+progress_of writer block = record { writer = writer; bytes = block.bytes.items; written = block.written }
 
--- the writer holds what was told but for its last bytes, n of them
-abbrev pub HoldsBut : Option (List ℕ) → Option (List ℕ) → ℕ → Type 0
-HoldsBut None held n = Unit {0}
-HoldsBut (Some told) None n = ⊥
-HoldsBut (Some told) (Some held) n = held ≡ take (length told - n) told
+abbrev pub count_of : {W : Type 0} → Progress W → ℕ
+count_of at = at.written + length at.bytes
 
--- Writing stopped: of what was told so far the writer holds as much as it says.
-pub record HasStopped (before : Progress) (held : Option (List ℕ)) (written : ℕ) : Type 0 where
-  pub within : written ≤ before.count
-  pub holds : HoldsBut before.bytes held (before.count - written)
+-- with this text after the block, it ends so
+abbrev pub Ends : {W : Type 0} → Calls W → Progress W → List ℕ → Result ℕ ℕ → W → Type 0
+Ends S at text end last = S at.writer [] (at.bytes ++ text) at.written end last
 
--- it stopped somewhere in this text: after its front was told
-pub record StopsIn (before : Progress) (text : List ℕ) (held : Option (List ℕ)) (written : ℕ)
-    : Type 0 where
-  pub front : List ℕ
-  pub rest : List ℕ
-  pub at : Progress
-  pub whole : front ++ rest ≡ text
-  pub tells : Advances before at front
-  pub stopped : HasStopped at held written
+-- a text was told: whatever follows, it ends as if that followed the text
+pub record Advances {W : Type 0} (S : Calls W) (before after : Progress W) (text : List ℕ) : Type 0 where
+  pub ends : (rest : List ℕ) (end : Result ℕ ℕ) (last : W) → Ends S after rest end last → Ends S before (text ++ rest) end last
+  pub count : count_of after ≡ count_of before + length text
+
+-- Writing stopped somewhere in this text, whatever was to follow.
+abbrev pub StopsIn : {W : Type 0} → Calls W → Progress W → List ℕ → W → ℕ → Type 0
+StopsIn S before text last written = (rest : List ℕ) → Ends S before (text ++ rest) (Err written) last
+
+-- Writing stopped in what was told so far.
+abbrev pub HasStopped : {W : Type 0} → Calls W → Progress W → W → ℕ → Type 0
+HasStopped S before last written = (rest : List ℕ) → Ends S before rest (Err written) last

@@ -1,8 +1,8 @@
-use Rattle.std.proofs.Common.{ℕ, List, Some, subst, ap, arith, length}
-use Rattle.council_report.specs.{Outcome.StopsPartWay, Report.report, declared.fault.ReportFault.ReportFault}
+use Rattle.std.proofs.Common.{ℕ, List, subst, ap, arith, length}
+use Rattle.council_report.specs.Report.{report}
 use Rattle.council_c.specs.Answer.{Shows}
 use Rattle.council_c.proofs.filled.put_report.Goals.{in-Ok, in-Err-Write+in_ok-length-in-Err-Write}
-use Rattle.council_c.proofs.Buffers.{shows-beginning}
+use Rattle.council_c.proofs.Buffers.{part-written, shows-beginning}
 use Rattle.council_c.proofs.filled.put_report.Goals as goal
 
 pub returns-clause-text : goal.returns-clause-text
@@ -10,10 +10,9 @@ returns-clause-text c =
     let shown = subst (λ (l : List ℕ). Shows l c.args.room.now c.put.new.room) c.bytes-2.ensures c.put.ensures in
     elim c.match-write.branch [
       | in-Ok w ↦ subst (λ (l : List ℕ). Shows l c.args.room.now c.put.new.room)
-          (rw c.new-page.ensures.bytes at w.in-Ok.ensures.ok) shown
+          (rw c.new-page.ensures.bytes at w.in-Ok.ensures.1) shown
       | in-Err-Write+in_ok-length-in-Err-Write w ↦
-          let fell = subst (λ (fault : ReportFault). StopsPartWay (Some c.new-page.result.bytes.items) (Some c.write.new.writer.bytes.items)
-          (report c.args.lines c.args.game.now) fault) w.in-Err-Write.field-0-is w.in-Err-Write.ensures.err in
+          let fell = part-written _ _ w.in-Err-Write.field-0-is w.in-Err-Write.ensures in
           shows-beginning _ (report c.args.lines c.args.game.now) c.args.room.now c.put.new.room _ fell.0
           (rw c.new-page.ensures.bytes at fell.1)
           (omega (arith, w.if-bytes-room.true, ap (λ (l : List ℕ). length l) w.bytes.ensures)) shown

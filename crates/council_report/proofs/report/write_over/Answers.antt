@@ -1,7 +1,7 @@
-use Rattle.council_report.proofs.Imports.{◌≡◌, ◌∙◌, ℕ, List, length, ap, arith, Appends}
-use Rattle.council_report.specs.{Outcome.StopsPartWay, declared.fault.ReportFault.TheVariants.Write}
+use Rattle.council_report.proofs.Imports.{◌∙◌, Err, List, Ok, ap, arith, length, ℕ}
+use Rattle.council_report.specs.{Outcome.Writes, Sending.Sending, declared.fault.ReportFault.TheVariants.Write}
 use Rattle.council_report.proofs.{Bounds.lines-count, FromCounts.from-counts}
-use Rattle.council_report.proofs.Wholes.{after-none, counts-whole, appends-whole, stopped-whole}
+use Rattle.council_report.proofs.Wholes.{after-none, from-block, writes-part, writes-whole}
 use Rattle.council_report.proofs.report.write_over.Goals as goal
 
 pub send-requires-clause-counted : goal.send-requires-clause-counted
@@ -12,26 +12,24 @@ send-requires-clause-counted g c =
     (let bytes = c.push_heading.new.out.bytes in
     omega (arith, bytes.ok, bytes.small, c.push_heading.ensures.written, c.in_ok-block.ensures.empty.1))
 
-pub returns-in-Ok-clause-count : goal.returns-in-Ok-clause-count
-returns-in-Ok-clause-count g c =
+pub returns-in-Ok : goal.returns-in-Ok
+returns-in-Ok g c =
     let is = after-none (c.push_heading.ensures.items c.if-block.false) c.in_ok-block.ensures.empty.0 in
     let none = c.push_heading.ensures.written ∙ c.in_ok-block.ensures.empty.1 in
-    from-counts (λ t. c.in-Ok.count ≡ length t) c.args.shown _ _ g.list c.wide_total.result
-    (counts-whole c.in-Ok.count c.push_heading.new.out _ _ none is c.in-Ok.ensures.count)
-    c.requires.1.1.1.1 (c.wide_total.ensures.total ∙ c.requires.1.1.1.1.total) c.requires.1.1.0
-
-pub returns-in-Ok-clause-ok : goal.returns-in-Ok-clause-ok
-returns-in-Ok-clause-ok g c =
-    let is = after-none (c.push_heading.ensures.items c.if-block.false) c.in_ok-block.ensures.empty.0 in
-    from-counts (Appends (g.W.Write.contents c.args.writer.now) (g.W.Write.contents c.send.new.writer)) c.args.shown _ _ g.list
-    c.wide_total.result (appends-whole _ _ c.push_heading.new.out _ _ is c.in-Ok.ensures.ok)
-    c.requires.1.1.1.1 (c.wide_total.ensures.total ∙ c.requires.1.1.1.1.total) c.requires.1.1.0
-
-pub returns-clause-err : goal.returns-clause-err
-returns-clause-err g c =
-    let is = after-none (c.push_heading.ensures.items c.if-block.false) c.in_ok-block.ensures.empty.0 in
-    let none = c.push_heading.ensures.written ∙ c.in_ok-block.ensures.empty.1 in
-    from-counts (λ t. StopsPartWay (g.W.Write.contents c.args.writer.now) (g.W.Write.contents c.send.new.writer) t (Write c.in-Err.fault.written))
+    let calls = from-block (Sending g.W.Sink.is_write g.W.Sink.is_flush) c.args.writer.now c.send.new.writer c.push_heading.new.out _ _
+    (Ok c.in-Ok.count) none is c.in-Ok.ensures in
+    from-counts (λ t. Writes g.W.Sink.held g.W.Sink.is_write g.W.Sink.is_flush t c.args.writer.now c.send.new.writer (Ok c.in-Ok.count))
     c.args.shown _ _ g.list c.wide_total.result
-    (stopped-whole _ _ c.push_heading.new.out _ _ c.in-Err.fault.written none is c.in-Err.ensures.err)
+    (writes-whole g.W.Sink.held g.W.Sink.is_write g.W.Sink.is_flush g.met.W.Sink.writes g.met.W.Sink.flushes _ _ _ c.in-Ok.count calls)
+    c.requires.1.1.1.1 (c.wide_total.ensures.total ∙ c.requires.1.1.1.1.total) c.requires.1.1.0
+
+pub returns : goal.returns
+returns g c =
+    let is = after-none (c.push_heading.ensures.items c.if-block.false) c.in_ok-block.ensures.empty.0 in
+    let none = c.push_heading.ensures.written ∙ c.in_ok-block.ensures.empty.1 in
+    let calls = from-block (Sending g.W.Sink.is_write g.W.Sink.is_flush) c.args.writer.now c.send.new.writer c.push_heading.new.out _ _
+    (Err c.in-Err.fault.written) none is c.in-Err.ensures in
+    from-counts (λ t. Writes g.W.Sink.held g.W.Sink.is_write g.W.Sink.is_flush t c.args.writer.now c.send.new.writer
+    (Err (Write c.in-Err.fault.written))) c.args.shown _ _ g.list c.wide_total.result
+    (writes-part g.W.Sink.held g.W.Sink.is_write g.W.Sink.is_flush g.met.W.Sink.writes g.met.W.Sink.flushes _ _ _ c.in-Err.fault.written calls)
     c.requires.1.1.1.1 (c.wide_total.ensures.total ∙ c.requires.1.1.1.1.total) c.requires.1.1.0

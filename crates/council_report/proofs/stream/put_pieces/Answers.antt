@@ -1,15 +1,31 @@
 use Rattle.council_report.proofs.Imports.{flat_map, err_from_is_err_and, common_steps, arith, coalition_line}
-use Rattle.council_report.proofs.Turns.{IsNext, turn-counts, turn-stopped}
+use Rattle.council_report.proofs.Turns.{IsNext, turn-counts, turn-stopped, turn-told}
+use Rattle.council_report.specs.Sending.{Sending}
 use Rattle.council_report.proofs.stream.put_pieces.Goals as goal
 
 pub put_coalitions-requires-clause-counted : goal.put_coalitions-requires-clause-counted
 put_coalitions-requires-clause-counted g c =
+    let S = Sending g.W.Sink.is_write g.W.Sink.is_flush in
     let next : IsNext c.args.pieces.now c.loop-piece.piece-index c.piece-item.result = grind (arith, common_steps) in
-    turn-counts (λ p. flat_map (coalition_line c.args.game.now) p.now) next c.loop-piece.invariant.lasts.tells c.requires.counted
+    turn-counts S (λ p. flat_map (coalition_line c.args.game.now) p.now) next c.loop-piece.invariant.lasts.tells c.requires.counted
 
 pub returns-in_err-put_coalitions : goal.returns-in_err-put_coalitions
 returns-in_err-put_coalitions g c =
+    let S = Sending g.W.Sink.is_write g.W.Sink.is_flush in
     let next : IsNext c.args.pieces.now c.loop-piece.piece-index c.piece-item.result = grind (arith, common_steps) in
     let failed = err_from_is_err_and c.from_residual.result c.from_residual.ensures.1 in
-    rw (failed.1, failed.2) (turn-stopped (λ p. flat_map (coalition_line c.args.game.now) p.now) next c.loop-piece.invariant.lasts.tells
+    rw (failed.1, failed.2) (turn-stopped S (λ p. flat_map (coalition_line c.args.game.now) p.now) next c.loop-piece.invariant.lasts.tells
     c.in_err-put_coalitions.ensures.puts)
+
+pub loop-piece-preserved : goal.loop-piece-preserved
+loop-piece-preserved g c =
+    let S = Sending g.W.Sink.is_write g.W.Sink.is_flush in
+    let next : IsNext c.args.pieces.now c.loop-piece.piece-index c.piece-item.result = grind (arith, common_steps) in
+    record {
+      lasts = record {
+        tells = turn-told S (λ p. flat_map (coalition_line c.args.game.now) p.now) next c.loop-piece.invariant.lasts.tells
+            c.in_ok-put_coalitions.ensures.puts.tells;
+        ready = c.in_ok-put_coalitions.ensures.puts.ready;
+      };
+      line = c.in_ok-put_coalitions.ensures.line;
+    }
