@@ -1,7 +1,7 @@
 //! What a fault says of bytes.
 use crate::said::Said;
 use crate::source::bare;
-use council_file::{bracket_rule, is_bracket};
+use council_file::bracket_rule;
 use council_game::{GameFault, Memory, Rule};
 use std::alloc::Global;
 use toml::Table;
@@ -37,8 +37,12 @@ fn say_fault(
 ) -> Result<(), Memory> {
     match fault {
         GameFault::Read => said.line(READ),
-        GameFault::TooLong => said.line(TOO_LONG),
-        GameFault::Text => said.say_no_toml(bytes, error, is_bracket(bytes)),
+        GameFault::TooLong => {
+            if !said.say_spreadsheet(bytes) {
+                said.line(TOO_LONG);
+            }
+        }
+        GameFault::Text => return said.say_no_toml(alloc, bytes, error),
         GameFault::UnknownKey => said.say_unknown_key(),
         GameFault::Title => said.say_title(),
         GameFault::Rules => said.say_rules(),
