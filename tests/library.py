@@ -4,7 +4,7 @@ is whole. Its tables of laws have each law of these crates and no other, and eac
 
     tests/library.py
 
-Blank lines do not count. tests/pages.sh runs it.
+Blank lines do not count. tests/documents.sh runs it.
 """
 import glob
 import os

@@ -1,6 +1,6 @@
 //! What is said of a text that is not TOML.
-use crate::said::{Said, short};
-use coalitions::Memory;
+use crate::explanation::{Explanation, short};
+use council_base::Memory;
 use council_file::{bracket_rule, is_bracket};
 use std::alloc::Global;
 use toml::de::Error;
@@ -8,10 +8,10 @@ use toml::de::Error;
 /// What stands between the columns of a table, as a spreadsheet writes it.
 const SEPARATORS: &[(char, &str)] = &[('\t', "TABs"), (';', "semicolons"), (',', "commas")];
 
-impl Said<'_> {
+impl Explanation<'_> {
     /// Says that the text looks like a table, where a line of several columns stands before those of a game file; whether
     /// it does.
-    fn say_table(&mut self) -> bool {
+    fn explain_table(&mut self) -> bool {
         for (index, line) in self.text.lines().enumerate() {
             if line.starts_with(['#', '[']) || line.contains('=') {
                 break;
@@ -31,7 +31,7 @@ impl Said<'_> {
     }
 
     /// Says that the text lacks only the brackets of a bracket text; whether it does.
-    fn say_no_brackets(&mut self, alloc: Global) -> Result<bool, Memory> {
+    fn explain_no_brackets(&mut self, alloc: Global) -> Result<bool, Memory> {
         let inside = self.text.trim();
         let inside = inside.trim_start_matches(['(', '{', '<', '[']);
         let inside = inside.trim_end_matches([')', '}', '>', ']']);
@@ -44,7 +44,7 @@ impl Said<'_> {
     }
 
     /// Says that the text looks like JSON; whether it does.
-    fn say_json(&mut self) -> bool {
+    fn explain_json(&mut self) -> bool {
         let text = self.text.trim_start();
         let inside = text.trim_start_matches('[').trim_start();
         if !inside.starts_with('{') {
@@ -57,7 +57,7 @@ impl Said<'_> {
     }
 
     /// Says that the bytes are those of a spreadsheet or an archive; whether they are.
-    pub fn say_spreadsheet(&mut self, bytes: &[u8]) -> bool {
+    pub fn explain_spreadsheet(&mut self, bytes: &[u8]) -> bool {
         if !bytes.starts_with(b"PK\x03\x04") && !bytes.starts_with(b"\xD0\xCF\x11\xE0") {
             return false;
         }
@@ -68,38 +68,40 @@ impl Said<'_> {
     }
 
     /// Says where the text is no TOML; `is_bracket` says whether it begins as a bracket text.
-    fn say_error(&mut self, error: &Error, is_bracket: bool) {
+    fn explain_error(&mut self, error: &Error, is_bracket: bool) {
         let place = error.span().map_or(self.text.len(), |span| span.start);
-        self.say_place(place);
+        self.explain_place(place);
         self.line(error.message());
         if is_bracket {
             self.line("a byte order mark stands before the bracket: save the file without one");
         } else {
-            self.say_remedy_at(place);
-            self.say_slip(place, error.message());
+            self.explain_remedy_at(place);
+            self.explain_slip(place, error.message());
         }
     }
 
     /// Says which bytes are no text, or else why the text of them is not TOML.
-    pub fn say_no_toml(
+    pub fn explain_no_toml(
         &mut self,
         alloc: Global,
         bytes: &[u8],
         error: Option<&Error>,
     ) -> Result<(), Memory> {
-        if self.say_spreadsheet(bytes) {} else if bytes.starts_with(b"\xFF\xFE")
+        if self.explain_spreadsheet(bytes) {} else if bytes.starts_with(b"\xFF\xFE")
             || bytes.starts_with(b"\xFE\xFF")
         {
             self.line("the file is saved as UTF-16: save it as UTF-8");
         } else if let Err(error) = str::from_utf8(bytes) {
-            self.say_place(error.valid_up_to());
+            self.explain_place(error.valid_up_to());
             self.line("a byte there is not UTF-8: save the file as UTF-8");
         } else if let Some(error) = error {
             let is_bracket = is_bracket(bytes);
             if is_bracket
-                || !(self.say_no_brackets(alloc)? || self.say_json() || self.say_table())
+                || !(self.explain_no_brackets(alloc)?
+                    || self.explain_json()
+                    || self.explain_table())
             {
-                self.say_error(error, is_bracket);
+                self.explain_error(error, is_bracket);
             }
         }
         Ok(())

@@ -1,5 +1,5 @@
 //! What helps where a game file in TOML breaks off at a common slip.
-use crate::said::{Said, short};
+use crate::explanation::{Explanation, short};
 use crate::values::is_digit;
 
 /// How each member begins.
@@ -44,13 +44,13 @@ fn first_row(text: &str) -> &str {
     row
 }
 
-impl Said<'_> {
+impl Explanation<'_> {
     /// Says what helps with a number that has separators.
-    fn say_separators(&mut self, number: &str) {
+    fn explain_separators(&mut self, number: &str) {
         let (count, is_thousands) = separators(number);
         if number.contains(',') && (count == 1 || !is_thousands) {
             self.line("a number may have no comma");
-            self.say_factor(self.text, ',');
+            self.explain_factor(self.text, ',');
         } else if is_thousands {
             self.line("write a number without separators between thousands, as in 1200000");
         } else {
@@ -59,11 +59,11 @@ impl Said<'_> {
     }
 
     /// Says what helps with a quota or a weight: its number, and what comes after it.
-    fn say_numeral(&mut self, number: &str, after: &str) {
+    fn explain_numeral(&mut self, number: &str, after: &str) {
         if number.is_empty() {
             self.line("a quota or a weight is a whole number, in digits, without quotes");
         } else if number.contains(is_separator) {
-            self.say_separators(number);
+            self.explain_separators(number);
         } else if after.starts_with(';') {
             self.line("a line ends without a semicolon");
         } else if number.len() > 1 && number.starts_with('0') {
@@ -79,7 +79,7 @@ impl Said<'_> {
 
     /// Says what helps with a quota or a weight whose value breaks off at a place, after this
     /// front of it.
-    fn say_number_slip(&mut self, front: &str, place: usize) {
+    fn explain_number_slip(&mut self, front: &str, place: usize) {
         let begun = front
             .len()
             .saturating_sub(front.trim_end_matches(is_numeral).len());
@@ -88,12 +88,12 @@ impl Said<'_> {
         let after = from.trim_start_matches(is_numeral);
         let number = from.strip_suffix(after).unwrap_or("");
         if !number.contains(", ") {
-            self.say_numeral(number.trim_end_matches(is_separator), after);
+            self.explain_numeral(number.trim_end_matches(is_separator), after);
         }
     }
 
     /// Says what helps with a name or a title whose value breaks off after this front of it.
-    fn say_text_slip(&mut self, front: &str) {
+    fn explain_text_slip(&mut self, front: &str) {
         if front.trim_start().starts_with(['"', '\'']) {
             self.line("write \\\" for a quote inside the quotes");
         } else {
@@ -102,26 +102,26 @@ impl Said<'_> {
     }
 
     /// Says what helps if the value of a key breaks off at a place, after this front of it.
-    fn say_value_slip(&mut self, key: &str, front: &str, place: usize) {
+    fn explain_value_slip(&mut self, key: &str, front: &str, place: usize) {
         let rest = first_row(self.text.get(place..).unwrap_or(""));
         let key = key.trim_end();
         if rest.contains('=') && !key.contains('{') {
             self.line("each key begins a line of its own");
         } else if key.ends_with("name") || key.ends_with("title") {
-            self.say_text_slip(front);
+            self.explain_text_slip(front);
         } else if key.ends_with("quota") || key.ends_with("weight") {
-            self.say_number_slip(front, place);
+            self.explain_number_slip(front, place);
         }
     }
 
     /// Says what helps where the text is no TOML from a place on, if that is a common slip.
-    pub fn say_slip(&mut self, place: usize, message: &str) {
+    pub fn explain_slip(&mut self, place: usize, message: &str) {
         let (front, rest) = self.text.split_at_checked(place).unwrap_or((self.text, ""));
         let (_, row) = front.rsplit_once('\n').unwrap_or(("", front));
         if rest.starts_with(is_curly) && !row.ends_with(is_digit) {
             self.line("write straight quotes: \" or '");
         } else if let Some((key, front)) = row.rsplit_once('=') {
-            self.say_value_slip(key, front, place);
+            self.explain_value_slip(key, front, place);
         } else if message == "duplicate key" && row.trim().is_empty() {
             let key = rest.trim_start_matches(['[', ' ']);
             if key.starts_with("member") || key.starts_with("name") || key.starts_with("weight") {

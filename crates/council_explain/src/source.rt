@@ -1,6 +1,6 @@
 //! Places in the text of a game file.
-use crate::said::{Said, short};
-use coalitions::Memory;
+use crate::explanation::{Explanation, short};
+use council_base::Memory;
 use std::alloc::Global;
 
 /// What a letter of TOML is in.
@@ -168,9 +168,9 @@ fn is_key_header(row: &str, key: &str) -> bool {
     }
 }
 
-impl Said<'_> {
+impl Explanation<'_> {
     /// Says the line and the column of a place, and what the line has; the column is in characters.
-    pub fn say_place(&mut self, place: usize) {
+    pub fn explain_place(&mut self, place: usize) {
         let front = self.text.get(..place).unwrap_or(self.text);
         let (_, last) = front.rsplit_once('\n').unwrap_or(("", front));
         let ends = front.matches('\n').count();
@@ -181,15 +181,15 @@ impl Said<'_> {
     }
 
     /// Says a line, and what it has.
-    fn say_line(&mut self, line: usize) {
+    fn explain_line(&mut self, line: usize) {
         let row = self.text.lines().nth(line.saturating_sub(1)).unwrap_or("");
         self.line(format_args!("line {line}: {}", short(row.trim())));
     }
 
     /// Says which line has a key of the top.
-    pub fn say_key(&mut self, key: &str) {
+    pub fn explain_key(&mut self, key: &str) {
         if let Some(line) = line_of_key(self.bare, key) {
-            self.say_line(line);
+            self.explain_line(line);
         }
     }
 
@@ -232,14 +232,14 @@ impl Said<'_> {
     }
 
     /// Says which line has a key of a member, or else which the member.
-    pub fn say_key_of(&mut self, member: usize, key: &str) {
+    pub fn explain_key_of(&mut self, member: usize, key: &str) {
         let wanted = if self.value_of(member, key).is_some() {
             Some(key)
         } else {
             None
         };
         if let Some(line) = self.line_of_member(member, wanted) {
-            self.say_line(line);
+            self.explain_line(line);
         }
     }
 }

@@ -1,5 +1,5 @@
 //! Values of a file, as an explanation shows them, and what turns a number that is not whole into one that is.
-use crate::said::{Said, short};
+use crate::explanation::{Explanation, short};
 use toml::Value;
 
 /// What is said of a percentage and of a fraction.
@@ -57,16 +57,16 @@ fn most_decimals(text: &str, sign: char, zeros: bool) -> usize {
     most
 }
 
-impl Said<'_> {
+impl Explanation<'_> {
     /// Says what a value is, and what is wanted in its place.
-    pub(crate) fn say_value(&mut self, value: &Value, wanted: &str) {
+    pub(crate) fn explain_value(&mut self, value: &Value, wanted: &str) {
         self.line(format_args!("{} is {}: {wanted}", short(value), kind(value)));
     }
 
     /// Says what is wrong with what is to be a text on one line: what it is, what it has, or else how long it is.
-    pub(crate) fn say_text(&mut self, value: &Value, wanted: &str) {
+    pub(crate) fn explain_text(&mut self, value: &Value, wanted: &str) {
         let Value::String(text) = value else {
-            return self.say_value(value, wanted);
+            return self.explain_value(value, wanted);
         };
         if text.as_bytes().iter().any(u8::is_ascii_control) {
             let has = "a TAB, the end of a line or another control character";
@@ -77,27 +77,27 @@ impl Said<'_> {
     }
 
     /// Says what a value is that is no whole number, what is wanted instead, and what helps.
-    pub(crate) fn say_number(&mut self, value: &Value, wanted: &str) {
-        self.say_value(value, wanted);
+    pub(crate) fn explain_number(&mut self, value: &Value, wanted: &str) {
+        self.explain_value(value, wanted);
         match value {
-            Value::Float(number) => self.say_float(*number),
+            Value::Float(number) => self.explain_float(*number),
             Value::String(text) if text.contains(['%', '/']) => self.line(STATUTES),
             _ => {}
         }
     }
 
     /// Says what helps with a number that has a point or an exponent.
-    fn say_float(&mut self, number: f64) {
+    fn explain_float(&mut self, number: f64) {
         let is_whole = number.fract() == 0.0 && 0.0 <= number && number <= 1e12;
         if is_whole && most_decimals(self.bare, '.', false) == 0 {
             self.line(format_args!("write {number}"));
         }
-        self.say_factor(self.bare, '.');
+        self.explain_factor(self.bare, '.');
     }
 
     /// Says by which power of ten the decimals of a text become whole numbers, unless it has none,
     /// or more than the greatest weight has zeros. And that three decimals may be thousands.
-    pub fn say_factor(&mut self, text: &str, sign: char) {
+    pub fn explain_factor(&mut self, text: &str, sign: char) {
         let decimals = most_decimals(text, sign, false);
         if 0 < decimals
             && let Some(factor) = "1000000000000".get(..=decimals)
@@ -110,10 +110,10 @@ impl Said<'_> {
     }
 
     /// Says what helps where the text can't be read on from a place.
-    pub fn say_remedy_at(&mut self, place: usize) {
+    pub fn explain_remedy_at(&mut self, place: usize) {
         match self.text.as_bytes().get(place) {
             Some(b'%' | b'/') => self.line(STATUTES),
-            Some(b'.') => self.say_factor(self.text, '.'),
+            Some(b'.') => self.explain_factor(self.text, '.'),
             _ => {}
         }
     }

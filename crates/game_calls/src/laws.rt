@@ -4,7 +4,7 @@
 //! ```text
 //! game_calls::laws::lowest_terms_add_up();
 //! ```
-ghost use Rattle.coalitions.specs.Coalitions.{has};
+ghost use Rattle.council_base.specs.Coalitions.{has};
 ghost use Rattle.council_game.specs.Game.{GameView, IsGame, AreNonemptyCoalitions, total};
 ghost use Rattle.council_game.specs.Votes.{Votes, IsVotes, wins, rule_at};
 ghost use Rattle.game_calls.specs.Quotas.{at_quota};

@@ -1,6 +1,6 @@
 -- Counts do not depend on the places of the members.
 use Rattle.power_index.proofs.Imports.{◌≡◌, ◌∙◌, ◌==◌, ◌&&◌, ℕ, ◌<◌, List, length, Bool, true, refl, sym, ap, arith, filter}
-use Rattle.coalitions.proofs.Shared.Lists.{filter-all}
+use Rattle.council_base.proofs.Shared.Lists.{filter-all}
 use Rattle.council_game.specs.{Game.GameView, Game.IsGame, Game.votes_of, Votes.minimal_coalitions}
 use Rattle.council_game.proofs.Shared.Sets.{same-by-members}
 use Rattle.power_index.specs.{Counting.contains, Counting.size_of, Tables.Tables, Tables.AreCountsOfGame}

@@ -4,5 +4,5 @@ pub mod Counting
 pub mod Tables
 pub mod Fractions
 pub mod Indices
-pub mod Both
+pub mod MemberIndices
 pub mod Inner
