@@ -173,7 +173,9 @@ installs() {
         return
     fi
     as_user "$root/bin/council" "$here/examples/board.toml" >"$temp/out" 2>"$temp/err"
-    if ! cmp -s "$temp/out" "$top/examples/board.tsv" || [ ! -s "$root/share/man/man1/council.1" ] || [ ! -s "$root/share/doc/council/docs/GUIDE.md" ]; then
+    if ! cmp -s "$temp/out" "$top/examples/board.tsv" || [ ! -s "$root/share/man/man1/council.1" ] ||
+        [ ! -s "$root/share/man/man1/council-tools.1" ] || [ ! -s "$root/share/bash-completion/completions/council-tools" ] ||
+        [ ! -s "$root/share/doc/council/docs/GUIDE.md" ]; then
         failed "$name" "the program or a document is not in its place: $(head -n 1 "$temp/err")"
         return
     fi

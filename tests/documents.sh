@@ -46,24 +46,47 @@ if needs bash "completions/council.bash completes"; then
         failed "completions/council.bash completes" "$(cat "$temp/out" "$temp/err" | tr '\n' ' ')"
     fi
 fi
-if needs zsh "completions/_council is read by zsh"; then
-    if zsh -n "$top/completions/_council"; then ok "completions/_council is read by zsh"; else failed "completions/_council is read by zsh" "it is not"; fi
+if needs bash "completions/council-tools.bash completes"; then
+    # shellcheck disable=SC2016
+    bash -c '. "$1"; cd "$2"; completed() { COMP_WORDS=("$@"); COMP_CWORD=$(($# - 1)); _council_tools; echo "${COMPREPLY[*]}"; }
+        completed council-tools sw; completed council-tools bars --g; completed council-tools sweep --index p
+        completed council-tools export j; completed council-tools bars --game examples/board.to' \
+        bash "$top/completions/council-tools.bash" "$top" >"$temp/out" 2>"$temp/err"
+    if [ "$(tr '\n' ' ' <"$temp/out")" = "sweep --game public_good json examples/board.toml " ] && [ ! -s "$temp/err" ]; then
+        ok "completions/council-tools.bash completes"
+    else
+        failed "completions/council-tools.bash completes" "$(cat "$temp/out" "$temp/err" | tr '\n' ' ')"
+    fi
 fi
-if needs fish "completions/council.fish is read by fish"; then
-    if fish -n "$top/completions/council.fish"; then ok "completions/council.fish is read by fish"; else failed "completions/council.fish is read by fish" "it is not"; fi
+for command in council council-tools; do
+    name="completions/_$command is read by zsh"
+    if needs zsh "$name"; then
+        if zsh -n "$top/completions/_$command"; then ok "$name"; else failed "$name" "it is not"; fi
+    fi
+    name="completions/$command.fish is read by fish"
+    if needs fish "$name"; then
+        if fish -n "$top/completions/$command.fish"; then ok "$name"; else failed "$name" "it is not"; fi
+    fi
+    name="docs/$command.1 has no warnings"
+    if command -v mandoc >/dev/null; then
+        said=$(mandoc -T lint -W warning "$top/docs/$command.1" 2>&1)
+    elif command -v groff >/dev/null && command -v man >/dev/null; then
+        said=$(MANROFFSEQ='' man --warnings -E UTF-8 -l -Tutf8 -Z "$top/docs/$command.1" 2>&1 >/dev/null)
+    else
+        said=skipped
+    fi
+    case $said in
+    '') ok "$name" ;;
+    skipped) skipped "$name" "this machine has neither mandoc nor man with groff" ;;
+    *) failed "$name" "$(head -n 2 <<<"$said" | tr '\n' ' ')" ;;
+    esac
+done
+
+# ---- the pages of council-tools say what its tools say of themselves
+name="the manual page and the completions of council-tools"
+if needs python3 "$name"; then
+    if python3 "$top/tools/tool_pages.py" --check >"$temp/out" 2>&1; then ok "$name"; else failed "$name" "$(tail -n 1 "$temp/out")"; fi
 fi
-if command -v mandoc >/dev/null; then
-    said=$(mandoc -T lint -W warning "$top/docs/council.1" 2>&1)
-elif command -v groff >/dev/null && command -v man >/dev/null; then
-    said=$(MANROFFSEQ='' man --warnings -E UTF-8 -l -Tutf8 -Z "$top/docs/council.1" 2>&1 >/dev/null)
-else
-    said=skipped
-fi
-case $said in
-'') ok "docs/council.1 has no warnings" ;;
-skipped) skipped "docs/council.1 has no warnings" "this machine has neither mandoc nor man with groff" ;;
-*) failed "docs/council.1 has no warnings" "$(head -n 2 <<<"$said" | tr '\n' ' ')" ;;
-esac
 
 # ---- one version
 run --version </dev/null

@@ -68,7 +68,7 @@ else
     scripts="preview call_allocations program_allocations sizes tally too_many small_machine output using packages launcher examples workers prefixes documents tour"
     # these want the library
     callers="foreign archive wheel"
-    programs="random_games cases every_size reading style visibility memory_source gate_source"
+    programs="random_games cases explained every_size reading style visibility memory_source gate_source"
     command -v python3 >/dev/null || programs=
     # what one run may take is measured once, before anything else runs
     SECONDS_EACH=$(bash -c '. tests/common.sh; echo "$seconds"' common.sh "$program")
@@ -95,6 +95,7 @@ else
             ;;
         mutants_fit) keep mutants_fit bash tests/mutants.sh --fit & ;;
         random_games) keep $name python3 tests/random_games.py "$program" 150 1 & ;;
+        explained) keep $name python3 tests/explained.py "$program" 300 1 & ;;
         cases | every_size) keep $name python3 tests/$name.py "$program" & ;;
         reading | style | visibility | memory_source | gate_source) keep $name python3 tests/$name.py & ;;
         *) keep "$name" bash "tests/$name.sh" "$program" & ;;
@@ -108,7 +109,7 @@ else
         count "$name"
     done
     if [ -z "$programs" ]; then
-        for test in cases every_size memory_source gate_source reading style visibility fuzz statutes random_games; do
+        for test in cases explained every_size memory_source gate_source reading style visibility fuzz statutes random_games; do
             echo "skipped $test: this machine has no python3"
             skipped=$((skipped + 1))
         done

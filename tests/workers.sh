@@ -39,7 +39,8 @@ if needs python3 "a long run on a terminal" "a barren run on a terminal" "a late
     if timeout "$seconds" python3 - "$program" "$temp/long.toml" >"$temp/told" 2>&1 <<'END'
 import re, sys
 from terminal import run_slowly
-run, status = run_slowly([sys.argv[1], "--bits", "10", "--most", "4000000", sys.argv[2]], 2)
+# (no option for lines keeps the observer away)
+run, status = run_slowly([sys.argv[1], "--bits", "10", "--most", "4000000", "--sizes", "--notation", "--explain", sys.argv[2]], 2)
 assert status == 0, status
 lines = re.findall(rb"\rcouncil: ([0-9,]+) coalitions found, ([0-9]+) of 1024 slices done", run.told)
 assert len(lines) >= 2, run.told

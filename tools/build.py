@@ -71,7 +71,8 @@ GUESSED = 120
 # what ends a build
 SIGNALS = (signal.SIGTERM, signal.SIGINT, signal.SIGHUP)
 # the proofs under way, and whether they are to end
-PROOFS, STOPPED = [], []
+PROOFS: list = []
+STOPPED: list = []
 
 
 def say(text):

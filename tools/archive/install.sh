@@ -6,7 +6,7 @@
 #
 # PREFIX is ~/.local by default. If DESTDIR is set, everything goes below that folder, as packages
 # need it. The program and council-tools go to bin, the library for other languages to lib and
-# include, the manual page and the completions to share, the documents, the examples and the package
+# include, the manual pages and the completions to share, the documents, the examples and the package
 # for R to share/doc/council.
 #
 # The list share/doc/council/FILES names every file that was installed and, with a / at the end,
@@ -130,10 +130,12 @@ cd "$here"
 files=$(
     echo "council bin/council 755"
     echo "bin/council-tools bin/council-tools 755"
-    echo "docs/council.1 share/man/man1/council.1 644"
-    echo "completions/council.bash share/bash-completion/completions/council 644"
-    echo "completions/_council share/zsh/site-functions/_council 644"
-    echo "completions/council.fish share/fish/vendor_completions.d/council.fish 644"
+    for command in council council-tools; do
+        echo "docs/$command.1 share/man/man1/$command.1 644"
+        echo "completions/$command.bash share/bash-completion/completions/$command 644"
+        echo "completions/_$command share/zsh/site-functions/_$command 644"
+        echo "completions/$command.fish share/fish/vendor_completions.d/$command.fish 644"
+    done
     echo "install.sh $doc/install.sh 755"
     if [ -f lib/libcouncil.a ]; then
         echo "lib/libcouncil.a lib/libcouncil.a 644"
@@ -142,7 +144,7 @@ files=$(
         echo "include/council.h include/council.h 644"
     fi
     for file in README.md LICENSE CITATION.cff CHANGELOG.md PROVED \
-        $(find docs examples r reference -type f ! -name council.1 | LC_ALL=C sort); do
+        $(find docs examples r reference -type f ! -name '*.1' | LC_ALL=C sort); do
         echo "$file $doc/$file 644"
     done
 )

@@ -1,7 +1,7 @@
 //! What a fault says of bytes.
 use crate::explanation::Explanation;
 use crate::source::bare;
-use council_file::{bracket_rule, is_bracket};
+use council_file::bracket_rule;
 use council_game::{GameFault, Memory, Rule};
 use std::alloc::Global;
 use toml::Table;
@@ -38,8 +38,12 @@ fn explain_fault(
 ) -> Result<(), Memory> {
     match fault {
         GameFault::Read => explanation.line(READ),
-        GameFault::TooLong => explanation.line(TOO_LONG),
-        GameFault::Text => explanation.explain_no_toml(bytes, error, is_bracket(bytes)),
+        GameFault::TooLong => {
+            if !explanation.explain_spreadsheet(bytes) {
+                explanation.line(TOO_LONG);
+            }
+        }
+        GameFault::Text => return explanation.explain_no_toml(alloc, bytes, error),
         GameFault::UnknownKey => explanation.explain_unknown_key(),
         GameFault::Title => explanation.explain_title(),
         GameFault::Rules => explanation.explain_rules(),

@@ -16,9 +16,11 @@ mod members;
 mod no_toml;
 mod ranges;
 mod rules;
+mod slips;
 mod source;
 mod values;
 
 pub use bracket::remark;
 pub use explaining::explain;
 pub use kept::Kept;
+pub use ranges::remark_quota;

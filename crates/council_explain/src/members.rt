@@ -1,5 +1,6 @@
 //! What is wrong with the members of a file.
 use crate::explanation::{Explanation, short};
+use crate::slips::MEMBERS;
 use crate::values::{elements, kind};
 use council_base::limits;
 use toml::Value;
@@ -7,7 +8,7 @@ use toml::Value;
 impl Explanation<'_> {
     /// Says that there is no member, or too many, or what is in their place.
     pub fn explain_members(&mut self) {
-        let wanted = "each member begins with a line [[member]], with two brackets on each side";
+        let wanted = MEMBERS;
         match self.value_at("member") {
             None => self.line(format_args!("the file has no member: {wanted}")),
             Some(Value::Array(members)) => self.explain_elements(members.as_slice()),

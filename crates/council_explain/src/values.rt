@@ -1,10 +1,9 @@
-//! Values of a file, as an explanation shows them, and what turns a number that is not whole into
-//! one that is.
+//! Values of a file, as an explanation shows them, and what turns a number that is not whole into one that is.
 use crate::explanation::{Explanation, short};
 use toml::Value;
 
 /// What is said of a percentage and of a fraction.
-const GUIDE: &str = "docs/GUIDE.md says how percentages and fractions become whole numbers";
+const STATUTES: &str = "docs/STATUTES.md says how percentages and fractions become whole numbers";
 
 /// The elements of an array, and none of another value.
 pub fn elements(value: Option<&Value>) -> &[Value] {
@@ -32,15 +31,28 @@ pub fn is_digit(letter: char) -> bool {
     letter.is_ascii_digit()
 }
 
-/// The most decimals of a number in a text.
-fn most_decimals(text: &str) -> usize {
+/// How many digits a text begins with; zeros at the end of these count only if they are wanted.
+fn digits_in_front(text: &str, zeros: bool) -> usize {
+    let rest = text.trim_start_matches(is_digit);
+    let digits = text.strip_suffix(rest).unwrap_or("");
+    if zeros {
+        digits.len()
+    } else {
+        digits.trim_end_matches('0').len()
+    }
+}
+
+/// The most decimals of a number in a text, after a point or a comma, but not the comma of an array.
+fn most_decimals(text: &str, sign: char, zeros: bool) -> usize {
     let mut most = 0usize;
-    let mut has_digit = false;
-    for part in text.split('.') {
-        if has_digit {
-            most = most.max(part.bytes().take_while(u8::is_ascii_digit).count());
+    for line in text.lines() {
+        let mut has_digit = false;
+        for part in line.split(sign) {
+            if has_digit && (sign == '.' || !line.contains('[')) {
+                most = most.max(digits_in_front(part, zeros));
+            }
+            has_digit = part.ends_with(is_digit);
         }
-        has_digit = part.ends_with(is_digit);
     }
     most
 }
@@ -51,8 +63,7 @@ impl Explanation<'_> {
         self.line(format_args!("{} is {}: {wanted}", short(value), kind(value)));
     }
 
-    /// Says what is wrong with what is to be a text on one line: what it is, what it has, or else
-    /// how long it is.
+    /// Says what is wrong with what is to be a text on one line: what it is, what it has, or else how long it is.
     pub(crate) fn explain_text(&mut self, value: &Value, wanted: &str) {
         let Value::String(text) = value else {
             return self.explain_value(value, wanted);
@@ -65,32 +76,44 @@ impl Explanation<'_> {
         }
     }
 
-    /// Says what a value is that is no whole number, what is wanted in its place, and what helps.
+    /// Says what a value is that is no whole number, what is wanted instead, and what helps.
     pub(crate) fn explain_number(&mut self, value: &Value, wanted: &str) {
         self.explain_value(value, wanted);
         match value {
-            Value::Float(_) => self.explain_factor(self.bare),
-            Value::String(text) if text.contains(['%', '/']) => self.line(GUIDE),
+            Value::Float(number) => self.explain_float(*number),
+            Value::String(text) if text.contains(['%', '/']) => self.line(STATUTES),
             _ => {}
         }
     }
 
-    /// Says by which power of ten the decimals of a text become whole numbers; nothing where it has
-    /// none, or more than the greatest weight has zeros.
-    fn explain_factor(&mut self, text: &str) {
-        let decimals = most_decimals(text);
+    /// Says what helps with a number that has a point or an exponent.
+    fn explain_float(&mut self, number: f64) {
+        let is_whole = number.fract() == 0.0 && 0.0 <= number && number <= 1e12;
+        if is_whole && most_decimals(self.bare, '.', false) == 0 {
+            self.line(format_args!("write {number}"));
+        }
+        self.explain_factor(self.bare, '.');
+    }
+
+    /// Says by which power of ten the decimals of a text become whole numbers, unless it has none,
+    /// or more than the greatest weight has zeros. And that three decimals may be thousands.
+    pub fn explain_factor(&mut self, text: &str, sign: char) {
+        let decimals = most_decimals(text, sign, false);
         if 0 < decimals
             && let Some(factor) = "1000000000000".get(..=decimals)
         {
             self.line(format_args!("multiply all weights and the quota by {factor}"));
+        }
+        if most_decimals(text, sign, true) == 3 {
+            self.line("leave out a point or a comma that separates thousands");
         }
     }
 
     /// Says what helps where the text can't be read on from a place.
     pub fn explain_remedy_at(&mut self, place: usize) {
         match self.text.as_bytes().get(place) {
-            Some(b'%' | b'/') => self.line(GUIDE),
-            Some(b'.') => self.explain_factor(self.text),
+            Some(b'%' | b'/') => self.line(STATUTES),
+            Some(b'.') => self.explain_factor(self.text, '.'),
             _ => {}
         }
     }

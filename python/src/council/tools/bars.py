@@ -38,9 +38,9 @@ def draw(report: Report, places: int, units: Sequence[Unit]) -> Iterator[str]:
     wide = left + LONGEST + 20 + measure("0." + "0" * places, SMALL)
     title = report.heading()
     parts, y = [], 22
-    for it in wrap(title.split(" "), wide - 16, 14):
-        parts.append(write_text(8, y, it, 14, more=' font-weight="bold"'))
-        wide = max(wide, 16 + measure(it, 14))
+    for row in wrap(title.split(" "), wide - 16, 14):
+        parts.append(write_text(8, y, row, 14, more=' font-weight="bold"'))
+        wide = max(wide, 16 + measure(row, 14))
         y += 18
     for kind, color in kinds:
         parts.append(f'<rect class="key" x="8" y="{y - 9}" width="10" height="10" fill="{color}"/>' + write_text(22, y, kind))
@@ -63,7 +63,7 @@ def main(args: list[str]) -> None:
     add_report(reader)
     reader.add_argument("--decimals", metavar="N", type=int, choices=range(1, 13), default=4, help="decimals beside the bars, rounded; else four")
     reader.add_argument("--game", metavar="FILE", help="the game file of the report, for the names and units of its rules")
-    words = reader.parse_args(args)
+    words = reader.parse_words(args)
     report = read_report(words.report)
     _, units = read_comments(words.game, report)
     for line in draw(report, words.decimals, units):

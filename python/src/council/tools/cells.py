@@ -30,8 +30,8 @@ class Number:
         if self.grouped:
             digits = "".join(it for it in digits if it not in BLANKS + "'’")
         match = NUMBER.fullmatch(digits)
-        self.good = bool(match) and bool(match[1] or match[2]) and digits.isascii() and len(digits) <= 40
-        if self.good:
+        self.good = False
+        if match and (match[1] or match[2]) and digits.isascii() and len(digits) <= 40:
             self.whole, self.rest, self.power = match[1], match[2], int(match[3] or 0)
             self.good = self.is_valid_with(".") or self.is_valid_with(",")
 
@@ -86,13 +86,13 @@ class Table:
     """The rows of a table: for each the line that it begins in, and its cells."""
 
     def __init__(self, data: bytes, encoding: Optional[str]) -> None:
-        self.rows, self.delimiter = [], None
         text = decode(data, encoding)
         first, _, rest = text.partition("\n")
         said = re.fullmatch(r"sep=(.)\r?", first)
         self.skipped = 0
         if said:
-            self.skipped, self.delimiter, text = 1, said[1], rest
+            self.skipped, text = 1, rest
+            self.delimiter = str(said[1])
         else:
             self.delimiter = max("\t;,", key=lambda it: sum(len(row) > 1 for _, row in read_rows(text, it, quiet=True)))
         self.rows = [(line + self.skipped, row) for line, row in read_rows(text, self.delimiter, self.skipped)]

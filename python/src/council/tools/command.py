@@ -2,9 +2,10 @@
 from __future__ import annotations
 
 import argparse
+import io
 import os
 import sys
-from typing import Callable, Iterable, NoReturn, Optional, Sequence, TextIO, TypeVar
+from typing import Callable, Iterable, NoReturn, Optional, Sequence, TextIO, TypeVar, cast
 
 from ..engine import NotFound, Refused
 from ..game import GAME_FILE, Unit, check_same, find_comments, read_units
@@ -27,7 +28,7 @@ class Words(argparse.ArgumentParser):
     def __init__(self, name: str, about: str) -> None:
         super().__init__(prog=f"council-tools {name}", description=about, formatter_class=argparse.RawDescriptionHelpFormatter, allow_abbrev=False)
 
-    def parse_args(self, words: Sequence[str]) -> argparse.Namespace:
+    def parse_words(self, words: Sequence[str]) -> argparse.Namespace:
         """Reads the words, with options before, between and after the files."""
         return self.parse_intermixed_args(words)
 
@@ -47,9 +48,9 @@ def run(main: Callable[[list[str]], None], words: list[str]) -> int:
         sys.stdin = sys.stdin or open(os.devnull, encoding="utf-8")
         sys.stdout = sys.stdout or open(os.devnull, "r+", encoding="utf-8")
         sys.stderr = sys.stderr or open(os.devnull, "r+", encoding="utf-8")
-        sys.stdin.reconfigure(encoding="utf-8-sig")
-        sys.stdout.reconfigure(encoding="utf-8", newline="\n")
-        sys.stderr.reconfigure(errors="backslashreplace")
+        cast(io.TextIOWrapper, sys.stdin).reconfigure(encoding="utf-8-sig")
+        cast(io.TextIOWrapper, sys.stdout).reconfigure(encoding="utf-8", newline="\n")
+        cast(io.TextIOWrapper, sys.stderr).reconfigure(errors="backslashreplace")
         if any("\ud800" <= letter <= "\udfff" for it in words for letter in it):
             raise Fault("the command line is not UTF-8", 2)
         main(words)

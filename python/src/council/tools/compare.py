@@ -45,11 +45,11 @@ def make_matcher(text: str) -> difflib.SequenceMatcher[str]:
 
 def is_near(one: str, other: str) -> bool:
     """Returns whether two names may be of one member, as Czechia and Czech Republic."""
-    one, other = fold(one), fold(other)
-    short, long = sorted((" ".join(one), " ".join(other)), key=len)
+    its, others = fold(one), fold(other)
+    short, long = sorted((" ".join(its), " ".join(others)), key=len)
     if not short or short == long:
         return short == long
-    first, grown = sorted((one[0], other[0]), key=len)
+    first, grown = sorted((its[0], others[0]), key=len)
     begins = len(short) >= 4 and long.startswith(short)
     grows = 5 <= len(first) < len(grown) and grown.startswith(first)
     if begins or grows:
@@ -106,7 +106,7 @@ def write_table(games: Games) -> Iterator[str]:
     for at in range(2, len(games) + 1):
         over += [str(at), f"{at} - 1"]
     groups = [["weight", "DP", "PG"] if "-" not in it else ["DP", "PG"] for it in over]
-    rows = [["", groups]] + [[make_printable(name), list(make_cells(games, name))] for name in names]
+    rows: Sequence[tuple[str, Sequence[Sequence[str]]]] = [("", groups)] + [(make_printable(name), list(make_cells(games, name))) for name in names]
     # each group is as wide as its cells, whose columns are as wide as their longest text
     widths = [[max(measure(row[1][at][column]) for row in rows) for column in range(len(group))] for at, group in enumerate(groups)]
     first = max(measure(row[0]) for row in rows)
@@ -126,7 +126,7 @@ def main(args: list[str]) -> None:
     reader = Words("compare", __doc__)
     reader.add_argument("reports", metavar="REPORT", nargs="+", help="a report of council; - is standard input")
     reader.add_argument("--same", metavar=("NAME", "OTHER"), nargs=2, action="append", default=[], help="two names that are one member")
-    words = reader.parse_args(args)
+    words = reader.parse_words(args)
     if len(words.reports) < 2 or words.reports.count("-") > 1:
         raise Fault("name two reports or more", 2)
     reports = [read_report(it) for it in words.reports]

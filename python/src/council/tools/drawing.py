@@ -44,7 +44,7 @@ def measure(text: str, size: float) -> float:
 def wrap(words: Iterable[str], most: float, size: float, between: str = " ") -> list[str]:
     """Puts words into lines of at most this width. A wider word has a line of its own, and is not
     cut."""
-    lines = []
+    lines: list[str] = []
     for it in words:
         if lines and measure(lines[-1] + between + it, size) <= most:
             lines[-1] += between + it
@@ -81,7 +81,7 @@ def find_ticks(first: int, last: int, most: int, whole: bool = False) -> list[Fr
     if last == first:
         return [Fraction(first)]
     step = find_round_step(last - first, most)
-    step = max(step, 1) if whole else step
+    step = max(step, Fraction(1)) if whole else step
     return [step * it for it in range(math.ceil(first / step), math.floor(last / step) + 1)]
 
 

@@ -71,7 +71,7 @@ class Column:
             exact = getattr(member, kind + "_exact")
             return cut_off(exact) if places is None else round_half_up(exact, places)
         it = getattr(member, kind)
-        return it if kind == "name" else str(it) if kind == "coalitions" else write_fraction(it)
+        return str(it) if kind in ("name", "coalitions") else write_fraction(it)
 
 
 def choose_columns(report: Report, kinds: Iterable[str]) -> Iterator[Column]:
@@ -126,11 +126,11 @@ def write_latex(report: Report, columns: Sequence[Column], places: Optional[int]
     if report.title:
         yield f"% {report.title}"
     yield "% \\usepackage{booktabs}, and \\usepackage[T1]{fontenc} for letters with accents"
-    for it in sorted(set(unicodedata.normalize("NFC", "".join(it.name for it in report.members)))):
-        if it > "\u017f" or "\x7f" < it < "\xa0":
+    for letter in sorted(set(unicodedata.normalize("NFC", "".join(it.name for it in report.members)))):
+        if letter > "\u017f" or "\x7f" < letter < "\xa0":
             # where this TeX has no such letter, its number
-            name = f"u8:\\detokenize{{{it}}}\\endcsname"
-            yield f"\\ifcsname {name}\\else\\expandafter\\def\\csname {name}{{[U+{ord(it):04X}]}}\\fi"
+            name = f"u8:\\detokenize{{{letter}}}\\endcsname"
+            yield f"\\ifcsname {name}\\else\\expandafter\\def\\csname {name}{{[U+{ord(letter):04X}]}}\\fi"
     yield "\\begin{tabular}{" + "".join("l" if it.kind == "name" else "r" for it in columns) + "}"
     yield "\\toprule"
     yield " & ".join(it.title() for it in columns) + " \\\\"
@@ -218,7 +218,7 @@ def main(args: list[str]) -> None:
                         help="decimals, 1 to 30, rounded from the fractions, a half upwards; else in csv and json six, cut off, and in tables four")
     reader.add_argument("--decimal", choices=[".", ","], default=".", help="the decimal sign of csv; with a comma, semicolons separate the columns")
     reader.add_argument("--mark", action="store_true", help="a byte order mark in front of csv, by which Excel knows UTF-8")
-    words = reader.parse_args(args)
+    words = reader.parse_words(args)
     if words.format not in FORMATS:
         said = f"{quote(words.format)} is no format" if words.format else "say a format"
         raise Fault(f"{said}: csv, json, latex or markdown", 2)

@@ -48,11 +48,12 @@ class Quota:
 
     def __init__(self, text: str) -> None:
         self.text = text
-        heads, rest = re.fullmatch(r"(heads:)?(.*)", text.strip(), re.S).groups()
-        self.heads = bool(heads)
-        sign, rest = re.fullmatch(r"(>=|≥|>)?(.*)", rest.strip(), re.S).groups()
+        rest = text.strip()
+        self.heads = rest.startswith("heads:")
+        rest = rest[len("heads:"):].strip() if self.heads else rest
+        sign = next((it for it in (">=", "≥", ">") if rest.startswith(it)), "")
         self.more = sign == ">"
-        rest = rest.strip()
+        rest = rest[len(sign):].strip()
         match = re.fullmatch(r"(\d{1,18})\s*/\s*(\d{1,18})", rest, re.A)
         self.share = Fraction(int(match[1]), int(match[2])) if match and int(match[2]) else None
         self.number = None if match else Number(rest)
@@ -63,7 +64,7 @@ class Quota:
         """Returns the quota as a whole number, and how it was found. The weights were multiplied by
         `scale`, and add up to `total`."""
         share = self.share
-        if share is None:
+        if self.number:
             if self.number.is_open() and decimal is None:
                 raise Fault(f"the quota {quote(self.text)} may have decimals or thousands: say --decimal . or --decimal ,", 2)
             decimal = decimal or self.number.decimal() or "."
@@ -358,7 +359,7 @@ def merge(members: list[Member], columns: Sequence[list[Fraction]]) -> list[str]
         rows.setdefault(it.name, []).append(row)
     comments = [f"Added: lines {', '.join(str(members[row].line) for row in its)}, {quote(name)}" for name, its in rows.items() if len(its) > 1]
     for values in columns:
-        values[:] = [sum(values[row] for row in its) for its in rows.values()]
+        values[:] = [sum((values[row] for row in its), Fraction(0)) for its in rows.values()]
     members[:] = [members[its[0]] for its in rows.values()]
     return comments
 
@@ -510,7 +511,7 @@ def main(args: list[str]) -> None:
     reader.add_argument("--decimal", choices=[".", ","], help="the decimal sign, if the table does not tell")
     reader.add_argument("--round", metavar="N", type=int, choices=range(13), help="round weights to N decimals, a half upwards")
     reader.add_argument("--encoding", metavar="NAME", help="the encoding of the table, as cp1252; else UTF-8 or UTF-16")
-    words = reader.parse_args(args)
+    words = reader.parse_words(args)
     quotas, path = find_quotas(words.quotas)
     if not 1 <= len(quotas) <= RULES:
         raise Fault(f"say a quota for each rule, 1 to {RULES} of them, as 65% or '>50%' in quotes", 2)

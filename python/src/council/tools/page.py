@@ -287,7 +287,7 @@ def main(args: list[str]) -> None:
     reader.add_argument("--game", metavar="FILE", action="append", default=[], help="the game file of a report, once for each in their order")
     reader.add_argument("--source", metavar="TEXT", help="where the data come from")
     reader.add_argument("--program", metavar="PROGRAM", help="the program whose version the page names; else the one of this clone or archive, or the one on the PATH")
-    words = reader.parse_args(args)
+    words = reader.parse_words(args)
     words.reports = words.reports or ["-"]
     if words.game and len(words.game) != len(words.reports):
         raise Fault(f"give --game once for each report: there are {len(words.reports)} reports, and {len(words.game)} game files", 2)

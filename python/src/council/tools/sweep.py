@@ -75,12 +75,12 @@ def write_rows(reports: Iterable[tuple[int, Report]], progress: Progress, take: 
     """Writes the table row by row, as the reports come. `take` gets each of them."""
     print("quota", "name", "deegan_packel", "public_good", "deegan_packel_exact", "public_good_exact", sep="\t")
     # a file gets each name unchanged, and a terminal none that moves it
-    write_name = make_printable if sys.stdout.isatty() else str
+    is_terminal = sys.stdout.isatty()
     try:
         for quota, report in reports:
             for it in report.members:
                 dp, pg = it.deegan_packel_exact, it.public_good_exact
-                print(quota, write_name(it.name), cut_off(dp), cut_off(pg), write_fraction(dp), write_fraction(pg), sep="\t")
+                print(quota, make_printable(it.name) if is_terminal else it.name, cut_off(dp), cut_off(pg), write_fraction(dp), write_fraction(pg), sep="\t")
             sys.stdout.flush()
             take((quota, report))
             progress.step()
@@ -130,7 +130,7 @@ class Axes:
     numbers."""
 
     def __init__(self, first: int, last: int, top: Fraction, unit: Unit, high: float) -> None:
-        self.first, self.last, self.high, self.up, self.unit = first, last, high, 0, unit
+        self.first, self.last, self.high, self.up, self.unit = first, last, high, 0.0, unit
         self.step = find_round_step(top, 5)
         self.top = self.step * math.ceil(top / self.step)
         most = max(1, min(6, int(WIDE / (measure(unit.write(last), SMALL) + 14))))
@@ -166,7 +166,7 @@ def draw(start: Report, rule: int, reports: Sequence[tuple[int, Report]], kind: 
         lines.setdefault(tuple(value(report.members[at]) for _, report in reports), []).append(it.name)
     labels = [wrap(names, 260, 12, ", ") for names in lines.values()]
     heights = [15 * len(it) + 3 for it in labels]
-    axes = Axes(reports[0][0], reports[-1][0], max(map(max, lines)), unit, max(360, sum(heights)))
+    axes = Axes(reports[0][0], reports[-1][0], max(max(values) for values in lines), unit, max(360, sum(heights)))
     head = wrap(start.heading().split(), LEFT + WIDE + 200, 14)
     of = f" of rule {rule + 1}" if len(start.quotas) > 1 else ""
     of += f", {quote(unit.name)}" if unit.name else ""
@@ -176,7 +176,7 @@ def draw(start: Report, rule: int, reports: Sequence[tuple[int, Report]], kind: 
     axes.up = 46 + 18 * len(head)
     parts += axes.draw()
 
-    quotas, right = [quota for quota, _ in reports], LEFT + WIDE + 60
+    quotas, right = [quota for quota, _ in reports], LEFT + WIDE + 60.0
     ends = [axes.find_y(values[-1]) for values in lines]
     for at, (values, label, end, y) in enumerate(zip(lines, labels, ends, spread(ends, heights, axes.up, axes.up + axes.high))):
         style = f'stroke="{COLORS[at % len(COLORS)]}" stroke-width="2" stroke-dasharray="{DASHES[at // len(COLORS) % len(DASHES)]}"'
@@ -186,9 +186,9 @@ def draw(start: Report, rule: int, reports: Sequence[tuple[int, Report]], kind: 
             parts.append(f'<circle cx="{x:.2f}" cy="{end:.2f}" r="4" fill="{COLORS[at % len(COLORS)]}"/>')
         parts.append(f'<polyline points="{" ".join(points)}" fill="none" {style}/>')
         parts.append(f'<path class="leader" d="M{x:.2f} {end:.2f}L{LEFT + WIDE + 40} {y:.2f}h12" fill="none" {style}/>')
-        for row, it in enumerate(label):
-            parts.append(write_text(LEFT + WIDE + 56, y + 4 + 15 * row, it, more=' class="member"'))
-            right = max(right, LEFT + WIDE + 56 + measure(it, 12))
+        for row, text in enumerate(label):
+            parts.append(write_text(LEFT + WIDE + 56, y + 4 + 15 * row, text, more=' class="member"'))
+            right = max(right, LEFT + WIDE + 56 + measure(text, 12))
     wide = max(right, 8 + measure(what, 12), *(measure(it, 14) for it in head))
     return write_picture(wide + 16, axes.up + axes.high + 30, parts, start.heading())
 
@@ -203,7 +203,7 @@ def main(args: list[str]) -> None:
     reader.add_argument("--picture", metavar="FILE", help="also draw the sweep, as an SVG file")
     reader.add_argument("--index", choices=sorted(KINDS), default="public_good", help="the index that is drawn; else the public good index")
     reader.add_argument("--program", metavar="PROGRAM", help="the program council; else the one of this clone or archive, or the one on the PATH")
-    words = reader.parse_args(args)
+    words = reader.parse_words(args)
     if words.game == "-":
         game = sys.stdin.buffer.read()
     else:

@@ -11,7 +11,7 @@ from .command import Words, add_report, make_printable, read_report
 def main(args: list[str]) -> None:
     reader = Words("table", __doc__)
     add_report(reader)
-    report = read_report(reader.parse_args(args).report)
+    report = read_report(reader.parse_words(args).report)
     heading = ["", "weight", "Deegan-Packel", "public good"]
     rows = []
     for it in report.members:

@@ -1,0 +1,49 @@
+# Completions of bash for council-tools: source this file, or put it into
+# ~/.local/share/bash-completion/completions/ under the name council-tools.
+# Made by tools/tool_pages.py.
+_council_tools() {
+    local word=${COMP_WORDS[COMP_CWORD]} words=
+    if [[ $COMP_CWORD -eq 1 ]]; then
+        mapfile -t COMPREPLY < <(compgen -W "from-table table export page bars sweep compare --help --version" -- "$word")
+        return
+    fi
+    case ${COMP_WORDS[1]}:${COMP_WORDS[COMP_CWORD - 1]} in
+    from-table:--title) return ;;
+    from-table:--source) return ;;
+    from-table:--name) return ;;
+    from-table:--weight) return ;;
+    from-table:--decimal) words=". ," ;;
+    from-table:--round) words="0 1 2 3 4 5 6 7 8 9 10 11 12" ;;
+    from-table:--encoding) return ;;
+    export:--columns) return ;;
+    export:--decimals) words="1 2 3 4 5 6 7 8 9 10 11 12 13 14 15 16 17 18 19 20 21 22 23 24 25 26 27 28 29 30" ;;
+    export:--decimal) words=". ," ;;
+    export:export) words="csv json latex markdown" ;;
+    page:--source) return ;;
+    bars:--decimals) words="1 2 3 4 5 6 7 8 9 10 11 12" ;;
+    sweep:--rule) return ;;
+    sweep:--from) return ;;
+    sweep:--to) return ;;
+    sweep:--step) return ;;
+    sweep:--index) words="deegan_packel public_good" ;;
+    compare:--same) return ;;
+    esac
+    if [[ -z $words && $word == -* ]]; then
+        case ${COMP_WORDS[1]} in
+        from-table) words="--help --title --source --name --weight --heading --no-heading --all-rows --no-total --sum --decimal --round --encoding" ;;
+        table) words="--help" ;;
+        export) words="--help --columns --decimals --decimal --mark" ;;
+        page) words="--help --game --source --program" ;;
+        bars) words="--help --decimals --game" ;;
+        sweep) words="--help --rule --from --to --step --picture --index --program" ;;
+        compare) words="--help --same" ;;
+        esac
+    fi
+    if [[ -n $words ]]; then
+        mapfile -t COMPREPLY < <(compgen -W "$words" -- "$word")
+    else
+        compopt -o filenames 2>/dev/null
+        mapfile -t COMPREPLY < <(compgen -f -- "$word")
+    fi
+}
+complete -F _council_tools council-tools

@@ -1,0 +1,1 @@
+printf 'PK\003\004%65537s' '' | council --explain

@@ -1,0 +1,162 @@
+#!/usr/bin/env python3
+"""Files in which `council --explain` must find the right line, or show none.
+
+    explained.py PROGRAM NUMBER SEED
+
+makes games in TOML in every way to write their headers, keys and texts, with comments and titles that look like
+headers and keys, and one fault in a line that is known. --explain must name that line, or none if a header or a key
+is written with escapes. Prints `ok NAME` or `FAILED NAME: why`.
+"""
+import os
+import random
+import re
+import subprocess
+import sys
+import tempfile
+
+# what a text may have, that looks like something else
+DECOYS = ["it's", "[[member]]", "quota = 7", "weight = 1.5", "{", "}", "# no", '"', "name", "]", ",", "\\\\", "é"]
+
+
+class File:
+    """A file that grows piece by piece, and in which some letters are escapes."""
+
+    def __init__(self, chance):
+        self.chance, self.text, self.escapes = chance, "", False
+
+    def line(self):
+        return self.text.count("\n") + 1
+
+    def add(self, text):
+        self.text += text
+
+    def blanks(self):
+        return self.chance.choice(["", "", " ", "\t"])
+
+    def end(self):
+        """Ends a line, sometimes with a comment or a blank line."""
+        comment = self.chance.choice(["", "", "", f" # {self.decoy()} '"])
+        self.add(self.blanks() + comment + self.chance.choice(["\n", "\n", "\n", "\r\n", "\n\n"]))
+
+    def decoy(self):
+        return " ".join(self.chance.sample(DECOYS, self.chance.randrange(3)))
+
+    def key(self, key, escaped):
+        """Adds a key: bare, in quotes, or with an escape."""
+        if escaped and self.chance.random() < 0.03:
+            self.escapes = True
+            self.add(f'"{key[:1]}\\u{ord(key[1]):04x}{key[2:]}"')
+        else:
+            self.add(self.chance.choice([key, key, key, f'"{key}"', f"'{key}'"]))
+
+    def value(self, text):
+        """Adds a text without control characters, in one of the two quotes of a line."""
+        if "'" in text or self.chance.random() < 0.5:
+            text = text.replace("\\", "\\\\").replace('"', '\\"')
+            self.add(f'"{text}"')
+        else:
+            self.add(f"'{text}'")
+
+    def long_text(self, rows):
+        """Adds a text in three quotes, on so many lines."""
+        quote = self.chance.choice(['"""', "'''"])
+        text = "\n".join(f"x {self.decoy()}".replace(quote[0] * 2, "") for _ in range(rows))
+        if quote == '"""':
+            text = text.replace("\\", "\\\\") + self.chance.choice(["", "it's", "\\\\", '\\"'])
+        else:
+            text += self.chance.choice(["", "'", "it's"])
+        self.add(quote + text + quote)
+
+
+def member(file, pairs, wrong, escaped, after):
+    """Adds the pairs of a member; returns the line of the wrong one."""
+    line = None
+    for at, (key, value) in enumerate(pairs):
+        if key == wrong:
+            line = file.line()
+        file.add(file.blanks())
+        file.key(key, escaped)
+        file.add(file.blanks() + "=" + file.blanks())
+        if key == "name" and key != wrong:
+            file.value(value)
+        else:
+            file.add(str(value))
+        after(at == len(pairs) - 1)
+    return line
+
+
+def make(chance):
+    """Returns a file with a fault, and the line of the fault."""
+    file, count = File(chance), chance.randrange(1, 6)
+    bad, wrong = chance.randrange(count), chance.choice(["name", "weight", "odd", "title"])
+    line = None
+    if chance.random() < 0.5:
+        file.add(f"# {file.decoy()}")
+        file.end()
+    if wrong == "title" or chance.random() < 0.5:
+        line = file.line()
+        file.key("title", False)
+        file.add(" = ")
+        file.long_text(chance.randrange(2, 4) if wrong == "title" else 1)
+        file.end()
+    file.key("quota", False)
+    file.add("=1")
+    file.end()
+    inline = chance.random() < 0.4
+    if inline:
+        file.key("member", True)
+        file.add(" = [" + chance.choice(["", "\n", " # [[member]] {\n"]))
+    for at in range(count):
+        pairs = [("name", f"{at} {file.decoy()}"), ("weight", at + 1)]
+        if at == bad and wrong in ("name", "weight"):
+            pairs = [(key, {"name": "5", "weight": chance.choice(["1.5", '"3"', "{weight = 1}", '"""\n\'"""'])}[key] if key == wrong else value) for key, value in pairs]
+        if at == bad and wrong == "odd":
+            pairs.append(("odd", chance.choice(["1", "{name = 1, odd = {weight = 2}}", '[1,\n {name = "["}]', "'''\n[[member]]\nit's'''"])))
+        if chance.random() < 0.5:
+            pairs.reverse()
+
+        def after_inline(last):
+            file.add(file.blanks() + ("" if last else "," + chance.choice(["", "\n", " # , {\n"])))
+
+        here = wrong if at == bad else None
+        if inline:
+            file.add("{")
+            found = member(file, pairs, here, True, after_inline)
+            file.add("}," + chance.choice(["", "\n"]))
+        else:
+            file.add(file.blanks() + "[[" + file.blanks())
+            file.key("member", True)
+            file.add(file.blanks() + "]]")
+            file.end()
+            found = member(file, pairs, here, True, lambda _: file.end())
+        if at == bad and wrong != "title":
+            line = found
+    if inline:
+        file.add("]\n")
+    return file, line
+
+
+def main(words):
+    if len(words) != 3:
+        sys.exit("usage: explained.py PROGRAM NUMBER SEED")
+    program, number, seed = os.path.abspath(words[0]), int(words[1]), int(words[2])
+    chance, failed, none = random.Random(seed), [], 0
+    with tempfile.TemporaryDirectory() as room:
+        for at in range(number):
+            file, line = make(chance)
+            with open(f"{room}/game", "w", encoding="utf-8", newline="") as it:
+                it.write(file.text)
+            ran = subprocess.run([program, "--explain", f"{room}/game"], capture_output=True, check=False, timeout=60)
+            found = re.search(rb"^  line ([0-9]+)(, column [0-9]+)?: ", ran.stderr, re.M)
+            none += not found
+            if ran.returncode != 3 or b"not TOML" in ran.stderr or (found and int(found[1]) != line) or (not found and not file.escapes):
+                failed.append(f"game {at}, line {line}: {ran.stderr!r} for {file.text!r}")
+    if failed:
+        print(f"FAILED lines that --explain names: {len(failed)} of {number}, the first is {failed[0]}")
+    else:
+        print(f"ok lines that --explain names: {number} files, {none} without a line")
+    return int(bool(failed))
+
+
+if __name__ == "__main__":
+    sys.exit(main(sys.argv[1:]))
