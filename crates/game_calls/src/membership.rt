@@ -1,6 +1,6 @@
 //! Members of a coalition, each given by its place in the file, from 0.
+ghost use Rattle.coalitions.specs.Coalitions.{with_member, without};
 ghost use Rattle.council_game.specs.Members.{contains};
-ghost use Rattle.council_game.specs.Votes.{without};
 ghost use Rattle.std.specs.Prelude.{◌≡◌, ◌≢◌, ◌<◌, ◌^◌, ℕ, false, true, if◌then◌else◌, length, not, slice_index};
 
 use council_game::{Coalition, Game};
@@ -16,6 +16,9 @@ pub fn has_member(game: &Game, coalition: Coalition, member: usize) -> bool
 /// The coalition with a member besides; the same where that member is in.
 pub fn with_member(game: &Game, coalition: Coalition, member: usize) -> Coalition
     requires { member < length game.now.names }
+    ensures mask { result ≡ if contains game.now member coalition
+        then coalition
+        else with_member (length game.now.names) (slice_index game.now.ranks member) coalition }
     ensures inside { contains game.now member result ≡ true }
     ensures others { (i : ℕ) → i < length game.now.names → i ≢ member →
         contains game.now i result ≡ contains game.now i coalition }
@@ -33,6 +36,7 @@ pub fn without_member(game: &Game, coalition: Coalition, member: usize) -> Coali
     ensures outside { contains game.now member result ≡ false }
     ensures others { (i : ℕ) → i < length game.now.names → i ≢ member →
         contains game.now i result ≡ contains game.now i coalition }
+    ensures below { coalition < 2 ^ length game.now.names → result < 2 ^ length game.now.names }
 {
     coalition.without(game.members(), game.place_of(member))
 }
