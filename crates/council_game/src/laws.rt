@@ -1,7 +1,7 @@
 //! Laws of games: what the definitions say, with nothing to run.
-ghost use Rattle.std.specs.Prelude.{◌≡◌};
+ghost use Rattle.std.specs.Prelude.{◌≡◌, ◌<◌, ◌^◌, ◌↔◌, ℕ, Contains, true};
 ghost use Rattle.council_game.specs.Game.{GameView, IsGame};
-ghost use Rattle.council_game.specs.Votes.{Votes, IsVotes};
+ghost use Rattle.council_game.specs.Votes.{Votes, IsVotes, minimal, minimal_coalitions};
 ghost use Rattle.council_game.specs.Laws.{WeighsItsMembers, NeedsEachMember, ProperSubsetsLose, IsListing};
 ghost use Rattle.council_game.specs.Laws.{HasEachSet, IsSameByMembers};
 
@@ -27,6 +27,12 @@ pub fn proper_subsets_lose()
 #[tactic(auto, using(crate::proofs::Searches::for_laws))]
 pub fn minimal_coalitions_are_listed()
     ensures { (v : Votes) → IsVotes v → IsListing v }
+{}
+
+/// A coalition is in the list exactly if it is a coalition of the game and minimal.
+pub fn minimal_coalitions_are_those_listed()
+    ensures { (v : Votes) (c : ℕ) → Contains (minimal_coalitions v) c
+        ↔ ((c < 2 ^ v.members) × (minimal v c ≡ true)) }
 {}
 
 /// A coalition is a set of members: each set of members is that of one coalition.
