@@ -203,7 +203,7 @@ same-by-members g h is_g is_h names rules =
     record { size = alike.size; win = alike.win; minimal = alike.minimal; counts = alike.counts }
 
 -- ---- two members exchanged
-first-exchanged : (i j : ℕ) → exchanged i j i ≡ j
+pub first-exchanged : (i j : ℕ) → exchanged i j i ≡ j
 first-exchanged i j = grind (arith, nat_tests)
 
 second-exchanged : (i j : ℕ) → exchanged i j j ≡ i
