@@ -3,6 +3,7 @@ ghost use Rattle.coalitions.specs.Coalitions.{with_member, without};
 ghost use Rattle.council_game.specs.Members.{contains};
 ghost use Rattle.std.specs.Prelude.{◌≡◌, ◌≢◌, ◌<◌, ◌^◌, ℕ, false, true, if◌then◌else◌, length, not, slice_index};
 
+use crate::laws::nobody_is_in_the_empty_coalition;
 use council_game::{Coalition, Game};
 
 /// Whether a member is in a coalition.
@@ -54,4 +55,13 @@ pub fn outsiders(game: &Game, coalition: Coalition) -> Coalition
         }
     }
     outsiders
+}
+
+/// All members of a game.
+pub fn everyone(game: &Game) -> Coalition
+    ensures members { (i : ℕ) → i < length game.now.names → contains game.now i result ≡ true }
+    ensures below { result < 2 ^ length game.now.names }
+{
+    nobody_is_in_the_empty_coalition();
+    outsiders(game, Coalition::none())
 }
