@@ -26,6 +26,7 @@ LIMITS = [
     (["docs/FORMATS.md"], 1550),
     (["docs/USING.md", "docs/STATUTES.md"], 3000),
     (["docs/LIBRARY.md", "docs/LANGUAGES.md"], 1900),
+    (["docs/LAWS.md"], 1500),
     (["CONTRIBUTING.md"], 1200),
 ]
 # a pattern, how often a page may have it, and what to write instead
