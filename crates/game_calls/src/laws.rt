@@ -6,7 +6,7 @@
 //! ```
 ghost use Rattle.coalitions.specs.Coalitions.{has};
 ghost use Rattle.council_game.specs.Game.{GameView, IsGame, AreNonemptyCoalitions, first_weights, made_game, total, votes_of};
-ghost use Rattle.council_game.specs.Members.{IsSubsetOf, size_of};
+ghost use Rattle.council_game.specs.Members.{HaveSameMembers, IsSubsetOf, size_of};
 ghost use Rattle.council_game.specs.Ranks.{rank_places};
 ghost use Rattle.council_game.specs.Renaming.{AreInverse, exchanged};
 ghost use Rattle.council_game.specs.Votes.{RuleView, Votes, IsVotes, wins, rule_at};
@@ -26,8 +26,10 @@ pub fn nobody_is_in_the_empty_coalition()
 
 /// Two coalitions of a game of n members that have the same members are the same.
 pub fn same_members_are_one_coalition()
-    ensures { (n a c : ℕ) → a < 2 ^ n → c < 2 ^ n → ((p : ℕ) → p < n → has n p a ≡ has n p c)
-        → a ≡ c }
+    ensures places { (n a c : ℕ) → a < 2 ^ n → c < 2 ^ n
+        → ((p : ℕ) → p < n → has n p a ≡ has n p c) → a ≡ c }
+    ensures members { (g : GameView) → IsGame g → (a c : ℕ) → a < 2 ^ length g.names
+        → c < 2 ^ length g.names → HaveSameMembers g g a c → a ≡ c }
 {}
 
 /// No two members have the same rank place.

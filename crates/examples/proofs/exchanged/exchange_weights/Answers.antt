@@ -1,4 +1,4 @@
-use Rattle.std.proofs.Common.{◌≡◌, ◌∙◌, ◌<◌, ℕ, List, [], ◌∷◌, length, map, get_or, refl, sym, ap, subst, arith}
+use Rattle.std.proofs.Common.{◌≡◌, ◌∙◌, ℕ, List, [], ◌∷◌, length, map, get_or, refl, sym, ap, subst, arith}
 use Rattle.std.specs.List.{AllZip, range_with_len}
 use Rattle.std.proofs.lemmas.List.{get_or-map, FromFn.get_or-range_with_len, FromFn.length-range_with_len}
 use Rattle.council_game.specs.{Game.GameView, Renaming.AreInverse, Renaming.IsRenamedRule, Renaming.exchanged, Votes.RuleView, Votes.rule_at}
