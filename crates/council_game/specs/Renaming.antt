@@ -22,8 +22,8 @@ pub record IsRenaming (to from : ℕ → ℕ) (g h : GameView) : Type 0 where
   pub inverse : AreInverse (length g.names) to from
   pub win : (c d : ℕ) → HaveRenamedMembers to g h c d → wins (votes_of g).rules c ≡ wins (votes_of h).rules d
 
--- coalitions of the renamed members are as large, win alike, and are minimal alike; so as many minimal winning
--- coalitions pass a test that looks at their members only
+-- coalitions of the renamed members are as large, win alike, and are minimal alike; so as many
+-- minimal winning coalitions pass a test that looks at their members only
 pub record AreAlike (to : ℕ → ℕ) (g h : GameView) : Type 0 where
   pub size : (c d : ℕ) → HaveRenamedMembers to g h c d → size_of g c ≡ size_of h d
   pub win : (c d : ℕ) → HaveRenamedMembers to g h c d → wins (votes_of g).rules c ≡ wins (votes_of h).rules d

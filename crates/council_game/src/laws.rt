@@ -69,7 +69,8 @@ pub fn renamed_rules_win_alike()
 {}
 
 /// Which names the members have changes nothing: coalitions of renamed members are as large, win
-/// alike and are minimal alike, and as many minimal winning coalitions pass any test of their members.
+/// alike and are minimal alike, and as many minimal winning coalitions pass any test of their
+/// members.
 #[tactic(auto, using(crate::proofs::Searches::for_renaming))]
 pub fn names_do_not_matter()
     ensures { (to from : ℕ → ℕ) (g h : GameView) → IsGame g → IsGame h → IsRenaming to from g h

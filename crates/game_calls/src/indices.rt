@@ -10,12 +10,13 @@ use mwc_walk::list_all;
 use power_index::{Counts, Index, MemberIndices, deegan_packel, public_good};
 use std::alloc::Global;
 
-/// Both indices of a member, by its place in the file; none where the game has more than 4,000,000 minimal winning
-/// coalitions.
+/// Returns both indices of a member, given by its place in the file.
+///
+/// It is none if the game has more than 4,000,000 minimal winning coalitions.
 ///
 /// # Errors
 ///
-/// `Memory` where a growth was refused.
+/// `Memory` if an allocation was refused.
 pub fn member_indices(
     alloc: Global,
     game: &Game,

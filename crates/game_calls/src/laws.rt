@@ -77,8 +77,8 @@ pub fn subsets_are_no_larger()
         → size_of g a ≤ size_of g c }
 {}
 
-/// A game that is made has the title, the names and the rules that it is made of, and the rank places by the
-/// first rule.
+/// A game that is made has the title, the names and the rules that it is made of, and the rank
+/// places by the first rule.
 #[tactic(auto, using(crate::proofs::Parts::made))]
 pub fn made_games_have_their_parts()
     ensures { (title : Option (List ℕ)) (names : List (List ℕ)) (rules : List RuleView) (g : GameView)
@@ -109,8 +109,8 @@ pub fn filters_take_one_more()
         ≡ filter test (range_with_len 0 n) ++ (if test n then n ∷ [] else []) }
 {}
 
-/// What is given for 0, 1, .., n is what is given for those below n, and then for n: one step of a loop that
-/// pushes something for each member or place.
+/// What is given for 0, 1, .., n is what is given for those below n, and then for n: one step of a
+/// loop that pushes something for each member or place.
 #[tactic(auto, using(council_game::proofs::Shared::Lists::map_one_more))]
 pub fn maps_take_one_more()
     ensures { (f : ℕ → ℕ) (n : ℕ) → map f (range_with_len 0 (n + 1))

@@ -1,6 +1,6 @@
-//! Further calls on games, for callers: members by their places in the file, coalitions by names, critical
-//! members, vetoers, the indices of a member, games from slices, under other rules, with other weights or at another
-//! quota, and a count by a walk.
+//! Further calls on games, for callers: members by their places in the file, coalitions by names,
+//! critical members, vetoers, the indices of a member, games from slices, under other rules, with
+//! other weights or at another quota, and a count by a walk.
 //!
 //! ```text
 //! let game = game_from_slices(alloc, &["Ada", "Bo"], &[2, 1], 2)?;

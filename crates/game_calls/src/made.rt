@@ -1,4 +1,5 @@
-//! Games from slices, and of the members of another one: under other rules, with other weights, at another quota.
+//! Games from slices, and of the members of another one: under other rules, with other weights, at
+//! another quota.
 ghost use Rattle.coalitions.specs.declared.limits.TheConstants.{RULES};
 ghost use Rattle.council_game.specs.Fault.{Answers};
 ghost use Rattle.council_game.specs.Game.{made_game, total};
@@ -61,12 +62,13 @@ fn weights_of(alloc: Global, game: &Game) -> Result<Vec<u64>, AllocError>
     Ok(weights)
 }
 
-/// The game of the same title and members under other rules, at least one and at most 4. Each rule has a weight for
-/// each member.
+/// Returns the game of the same title and members under other rules.
+///
+/// There is at least one rule and at most 4, and each has a weight for each member.
 ///
 /// # Errors
 ///
-/// The first of the faults Weight and QuotaRange, or Memory where a growth was refused.
+/// The first of the faults Weight and QuotaRange, or Memory if an allocation was refused.
 pub fn with_rules(alloc: Global, game: &Game, rules: Vec<Rule>) -> Result<Game, GameFault>
     requires some { 0 < length rules.items }
     requires few { length rules.items ≤ RULES }
@@ -81,11 +83,13 @@ pub fn with_rules(alloc: Global, game: &Game, rules: Vec<Rule>) -> Result<Game, 
     Game::with_rules(alloc, title, names, rules)
 }
 
-/// The game of the same title and members under one rule: the quota of the first rule, and other weights.
+/// Returns the game of the same title and members under one rule, with other weights.
+///
+/// Its quota is that of the first rule.
 ///
 /// # Errors
 ///
-/// The first of the faults Weight and QuotaRange, or Memory where a growth was refused.
+/// The first of the faults Weight and QuotaRange, or Memory if an allocation was refused.
 pub fn with_weights(alloc: Global, game: &Game, weights: Vec<u64>) -> Result<Game, GameFault>
     requires { length weights.items ≡ length game.now.names }
     ensures answer { Answers result (made_game game.now.title game.now.names

@@ -57,7 +57,7 @@ pub fn outsiders(game: &Game, coalition: Coalition) -> Coalition
     outsiders
 }
 
-/// All members of a game.
+/// Returns the coalition of all members.
 pub fn everyone(game: &Game) -> Coalition
     ensures members { (i : ℕ) → i < length game.now.names → contains game.now i result ≡ true }
     ensures below { result < 2 ^ length game.now.names }

@@ -7,7 +7,7 @@ use crate::laws::{larger_coalitions_win, members_of_all_are_vetoers};
 use crate::membership::{everyone, with_member, without_member};
 use council_game::{Coalition, Game};
 
-/// Whether a member is a vetoer (Felsenthal and Machover 1998): no coalition wins without it.
+/// Returns whether a member is a vetoer: no coalition wins without it (Felsenthal and Machover 1998).
 pub fn is_vetoer(game: &Game, member: usize) -> bool
     requires { member < length game.now.names }
     ensures { IsTrue result ↔ IsVetoer game.now member }
@@ -18,8 +18,10 @@ pub fn is_vetoer(game: &Game, member: usize) -> bool
     !game.wins(others)
 }
 
-/// All vetoers of a game: the members without whom no coalition wins, which are those in each minimal winning
-/// coalition.
+/// Returns the coalition of all vetoers.
+///
+/// Without one of them no coalition wins, and they are the members of all minimal winning
+/// coalitions.
 pub fn vetoers(game: &Game) -> Coalition
     ensures vetoers { (i : ℕ) → i < length game.now.names →
         (contains game.now i result ≡ true) ↔ IsVetoer game.now i }

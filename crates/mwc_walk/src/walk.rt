@@ -74,8 +74,8 @@ impl<'a> Walk<'a> {
 
     /// Returns the next coalition of the slice; none at its end, and ever after.
     ///
-    /// It is a minimal winning coalition of the game. What was given so far and what is still to come
-    /// are together the whole slice.
+    /// It is a minimal winning coalition of the game. What was given so far and what is still to
+    /// come are together the whole slice.
     pub fn next(&mut self) -> Option<Coalition>
         ensures next { MatchOption result ((self.old.to_come ≡ []) × (self.new.to_come ≡ []))
             (λ c. self.old.to_come ≡ c ∷ self.new.to_come) }

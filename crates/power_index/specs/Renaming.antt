@@ -5,8 +5,8 @@ use Rattle.council_game.specs.Votes.{minimal_coalitions}
 use Rattle.power_index.specs.Both.{indices_of_member}
 use Rattle.power_index.specs.Counting.{count_of_size, count_of_member, count_of_member_size}
 
--- the minimal winning coalitions of two games have the same counts, those of a member under its new name, and so have
--- the members the same indices
+-- the minimal winning coalitions of two games have the same counts, those of a member under its new
+-- name, and each member has the same indices
 pub record HaveRenamedCounts (to : ℕ → ℕ) (g h : GameView) : Type 0 where
   pub total : length (minimal_coalitions (votes_of g)) ≡ length (minimal_coalitions (votes_of h))
   pub of_size : (s : ℕ) → count_of_size g s (minimal_coalitions (votes_of g)) ≡ count_of_size h s (minimal_coalitions (votes_of h))
