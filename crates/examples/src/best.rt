@@ -35,8 +35,7 @@ pub fn lightest(game: &Game) -> Option<Coalition>
     Some(best)
 }
 
-/// A smallest minimal winning coalition: the best of a walk by the number of members. No coalition that wins is
-/// smaller.
+/// Returns a smallest winning coalition: the best of a walk by the number of members.
 pub fn smallest(game: &Game) -> Option<Coalition>
     ensures some { IsSome result }
     ensures listed { IfSome result (Contains (minimal_coalitions (votes_of game.now))) }

@@ -26,12 +26,13 @@ fn exchange(first: usize, second: usize, member: usize) -> usize
     }
 }
 
-/// The game of one rule with the weights of two members exchanged: it exchanges their indices, and changes those of
-/// nobody else.
+/// Returns the game of one rule with the weights of two members exchanged.
+///
+/// That exchanges their indices, and changes those of nobody else.
 ///
 /// # Errors
 ///
-/// Weight and QuotaRange are never the fault, but Memory where a growth was refused.
+/// The first fault of the game, or Memory if an allocation was refused.
 pub fn exchange_weights(
     alloc: Global,
     game: &Game,

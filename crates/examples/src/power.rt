@@ -16,11 +16,11 @@ use game_calls::{has_member, member_indices, vetoers};
 use power_index::laws::symmetric_members_have_equal_indices;
 use std::alloc::Global;
 
-/// The vetoers of a game, each by its place in the file, in the order of the file.
+/// Returns the vetoers of a game, each by its place in the file, in the order of the file.
 ///
 /// # Errors
 ///
-/// `Memory` where a growth was refused.
+/// `Memory` if an allocation was refused.
 pub fn vetoers_in_order(alloc: Global, game: &Game) -> Result<Vec<usize>, Memory>
     ensures { IfOk result (λ v. (c : ℕ) × (v.items ≡ filter (λ i. contains game.now i c) (members game.now))
         × ((i : ℕ) → i < length game.now.names → (contains game.now i c ≡ true) ↔ IsVetoer game.now i)) }
@@ -36,12 +36,13 @@ pub fn vetoers_in_order(alloc: Global, game: &Game) -> Result<Vec<usize>, Memory
     Ok(list)
 }
 
-/// Whether two members have the same indices, both of them; none where the game has more than 4,000,000 minimal winning
-/// coalitions.
+/// Returns whether two members have the same indices, both of them.
+///
+/// It is none if the game has more than 4,000,000 minimal winning coalitions.
 ///
 /// # Errors
 ///
-/// `Memory` where a growth was refused.
+/// `Memory` if an allocation was refused.
 pub fn have_equal_power(
     alloc: Global,
     game: &Game,
@@ -65,8 +66,9 @@ pub fn have_equal_power(
     Ok(Some(one == other))
 }
 
-/// Whether two members have the same weight under each rule. Then they are symmetric, and have the same indices, which
-/// takes no count.
+/// Returns whether two members have the same weight under each rule.
+///
+/// Then they are symmetric, and have the same indices, which takes no count.
 pub fn weigh_the_same(game: &Game, first: usize, second: usize) -> bool
     requires first { first < length game.now.names }
     requires second { second < length game.now.names }
