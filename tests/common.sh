@@ -149,8 +149,8 @@ END
 # script ends here.
 compile_refuse() {
     needs cc "$(basename "$0")" || exit 0
-    if ! cc -O2 -Wall -Wextra -shared -fPIC -o "$temp/refuse.so" "$top/tests/hostile/refuse.c" 2>"$temp/cc"; then
-        failed "hostile/refuse.c is compiled" "$(head -n 1 "$temp/cc")"
+    if ! cc -O2 -Wall -Wextra -shared -fPIC -o "$temp/refuse.so" "$top/tests/allocations/refuse.c" 2>"$temp/cc"; then
+        failed "allocations/refuse.c is compiled" "$(head -n 1 "$temp/cc")"
         exit 1
     fi
 }

@@ -97,7 +97,7 @@ asked_for "the first use builds" "lib:low lib:high run version "
 said "the first use says how far it is" 'low is proved, 1 of 3, [0-9]* s; some [0-9]* min left'
 said "and further" 'high is proved, 2 of 3'
 said "and how long it takes, on so many processors" '3 proofs, [0-9]* at once: some [0-9]* minutes'
-said "and how a table is had sooner" 'tools/look FILE'
+said "and how a table is had sooner" 'tools/preview FILE'
 use
 asked_for "a second use asks nothing" ""
 

@@ -5,7 +5,7 @@ for contracts has its path.
 
     tests/library.py
 
-Blank lines do not count. tests/pages.sh runs it.
+Blank lines do not count. tests/documents.sh runs it.
 """
 import glob
 import os

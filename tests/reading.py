@@ -43,7 +43,7 @@ RINGS = [
 ]
 # in reading order: the first pattern that fits a module
 PARTS = [
-    ("The mathematics", r"coalitions\.(?!Options)|council_game\.(Votes|Ranks|Members)|mwc_walk\.Slices|power_index\."),
+    ("The mathematics", r"council_base\.(?!Options)|council_game\.(Votes|Ranks|Members)|mwc_walk\.Slices|power_index\."),
     ("The pipe", r"mwc_pipe\."),
     ("The gathering", r"mwc_gather\."),
     ("The game file", r"council_game\.(?!Joined|Notation)|council_file\.(Bracket|File)"),

@@ -3,7 +3,7 @@
 
     tests/reference.py
 
-What is public is found here by other means: the names after `pub use` and the lines that begin with `pub`. tests/pages.sh runs it.
+What is public is found here by other means: the names after `pub use` and the lines that begin with `pub`. tests/documents.sh runs it.
 """
 import glob
 import os

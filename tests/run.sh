@@ -1,5 +1,5 @@
 #!/usr/bin/env bash
-# Runs the tests of this folder on the built program, several at once, and refusals.sh on the built tests of the crates:
+# Runs the tests of this folder on the built program, several at once, and call_allocations.sh on the built tests of the crates:
 #
 #     tests/run.sh PROGRAM [--library]
 #
@@ -10,8 +10,8 @@
 # this machine. The last line is `N passed, M failed`, with `, K skipped` behind it where some were, and
 # the status is not 0 if any failed.
 #
-# It sees whether each of the wrong bodies of bodies/ can still be planted, and plants two of them, others with each
-# day and each commit (bodies.sh); with COUNCIL_BODIES=1 it plants them all, more than half an hour more.
+# It sees whether each of the wrong bodies of mutants/ can still be planted, and plants two of them, others with each
+# day and each commit (mutants.sh); with COUNCIL_MUTANTS=1 it plants them all, more than half an hour more.
 #
 # A machine must have bash, python3, cc (to refuse allocations), taskset (for runs on one processor),
 # and the toolchain's rt; what is missing is said, and what wants it is skipped.
@@ -63,10 +63,10 @@ if [ ! -x "$program" ]; then
     failed=1
 else
     # the longest first, as many at once as there are processors
-    scripts="look refusals hostile sizes tally too_many small_machine output using packages launcher examples workers prefixes pages tour"
+    scripts="preview call_allocations program_allocations sizes tally too_many small_machine output using packages launcher examples workers prefixes documents tour"
     # these want the library
     callers="foreign archive wheel"
-    programs="random_games cases every_size reading style rooms memory_source gate_source"
+    programs="random_games cases every_size reading style visibility memory_source gate_source"
     command -v python3 >/dev/null || programs=
     # what one run may take is measured once, before anything else runs
     SECONDS_EACH=$(bash -c '. tests/common.sh; echo "$seconds"' common.sh "$program")
@@ -77,36 +77,36 @@ else
         keep library make_library &
         library=$!
     fi
-    for name in bodies $scripts bodies_fit $programs $callers; do
+    for name in mutants $scripts mutants_fit $programs $callers; do
         while [ "$(jobs -rp | wc -l)" -ge "$lanes" ]; do
             wait -n
         done
         # the callers come last
         [ "$name" != "${callers%% *}" ] || [ -z "$library" ] || wait "$library"
         case $name in
-        bodies)
-            if [ "${COUNCIL_BODIES:-0}" = 1 ]; then
-                keep bodies bash tests/bodies.sh &
+        mutants)
+            if [ "${COUNCIL_MUTANTS:-0}" = 1 ]; then
+                keep mutants bash tests/mutants.sh &
             else
-                keep bodies bash tests/bodies.sh --some 2 &
+                keep mutants bash tests/mutants.sh --some 2 &
             fi
             ;;
-        bodies_fit) keep bodies_fit bash tests/bodies.sh --fit & ;;
+        mutants_fit) keep mutants_fit bash tests/mutants.sh --fit & ;;
         random_games) keep $name python3 tests/random_games.py "$program" 150 1 & ;;
         cases | every_size) keep $name python3 tests/$name.py "$program" & ;;
-        reading | style | rooms | memory_source | gate_source) keep $name python3 tests/$name.py & ;;
+        reading | style | visibility | memory_source | gate_source) keep $name python3 tests/$name.py & ;;
         *) keep "$name" bash "tests/$name.sh" "$program" & ;;
         esac
     done
     wait
     # each of its runs is to end within a second, so nothing runs beside it
-    [ -z "$programs" ] || keep noise python3 tests/noise.py "$program" 300 1
-    [ -z "$programs" ] || keep statutes python3 tests/noise.py "$program" 20 1 statutes
-    for name in $scripts bodies bodies_fit $programs ${library:+library} $callers ${programs:+noise statutes}; do
+    [ -z "$programs" ] || keep fuzz python3 tests/fuzz.py "$program" 300 1
+    [ -z "$programs" ] || keep statutes python3 tests/fuzz.py "$program" 20 1 statutes
+    for name in $scripts mutants mutants_fit $programs ${library:+library} $callers ${programs:+fuzz statutes}; do
         count "$name"
     done
     if [ -z "$programs" ]; then
-        for test in cases every_size memory_source gate_source reading style rooms noise statutes random_games; do
+        for test in cases every_size memory_source gate_source reading style visibility fuzz statutes random_games; do
             echo "skipped $test: this machine has no python3"
             skipped=$((skipped + 1))
         done

@@ -6,7 +6,7 @@ ghost use Rattle.council_report.specs.Report.{report};
 ghost use Rattle.council_run.specs.Run.{IsOutcome, Reads};
 ghost use Rattle.council.specs.Inner.Wants.{limit_wanted, lines_wanted};
 
-use coalitions::{Gate, sanitize};
+use council_base::{Gate, sanitize};
 use council_explain::{Kept, explain, remark};
 use council_game::GameFault;
 use council_progress::{Line, Progress, Wiping};
@@ -30,7 +30,7 @@ fn print_fault(rt: &impl Eprint, fault: RunFault) -> ExitCode {
 }
 
 /// Says more of a fault, where there is more to say; the bytes are those that were read.
-fn say_more(rt: &(impl Eprint + AllocGlobal), cause: Cause, bytes: &[u8]) {
+fn explain_further(rt: &(impl Eprint + AllocGlobal), cause: Cause, bytes: &[u8]) {
     match cause {
         Cause::Game(fault) => {
             if let Ok(lines) = explain(rt.alloc(), bytes, fault) {
@@ -120,7 +120,7 @@ fn report_outcome(
             if !arguments.explain && terminal {
                 hint(rt, fault.cause);
             } else if let Some(bytes) = bytes {
-                say_more(rt, fault.cause, bytes);
+                explain_further(rt, fault.cause, bytes);
             }
             code
         }

@@ -1,7 +1,7 @@
 -- What a call is asked for.
 use Rattle.std.specs.Prelude.{ℕ, ◌==◌, ◌&&◌, ◌||◌, nat_lt, Bool, Option, None, Some, if◌then◌else◌}
-use Rattle.coalitions.specs.declared.limits.TheConstants.{COALITIONS}
-use Rattle.coalitions.specs.declared.report_lines.ReportLines.{ReportLines}
+use Rattle.council_base.specs.declared.limits.TheConstants.{COALITIONS}
+use Rattle.council_base.specs.declared.report_lines.ReportLines.{ReportLines}
 use Rattle.council_c.specs.declared.options.CouncilOptions.{CouncilOptions}
 
 -- no call takes them: they ask for more than can be kept, or a tally, which keeps none, to list or to keep some

@@ -1,6 +1,6 @@
 //! A report in a buffer.
 ghost use Rattle.std.specs.Prelude.{◌≡◌, ℕ, IfErr, IfOk, List, None, Ok, OnErr, OnOk, Option, Some, false, length};
-ghost use Rattle.coalitions.specs.Options.{lines_of};
+ghost use Rattle.council_base.specs.Options.{lines_of};
 ghost use Rattle.council_report.specs.Report.{report};
 ghost use Rattle.council_run.specs.Found.{Finds, IsFound};
 ghost use Rattle.council_run.specs.Run.{Holds};
@@ -10,7 +10,7 @@ use crate::fault::Fault;
 use crate::options::CouncilOptions;
 use crate::page::Page;
 use crate::put::put;
-use coalitions::{Memory, Options, ReportLines};
+use council_base::{Memory, Options, ReportLines};
 use council_file::parse_game;
 use council_game::Game;
 use council_report::ReportFault;

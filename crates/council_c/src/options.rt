@@ -1,9 +1,9 @@
 //! The options of a call.
 ghost use Rattle.std.specs.Prelude.{◌≡◌, MatchOption, false, true};
-ghost use Rattle.coalitions.specs.Options.{lines_of};
+ghost use Rattle.council_base.specs.Options.{lines_of};
 ghost use Rattle.council_c.specs.Asked.{are_wrong, lines_of_call, most_of};
 
-use coalitions::{Options, limits};
+use council_base::{Options, limits};
 
 /// How many coalitions a call keeps if it is not told.
 const USUAL: u32 = 1_000_000;

@@ -1,5 +1,5 @@
 //! Where a bracket text breaks its grammar, as the reader of such texts knows it.
-use crate::said::Said;
+use crate::explanation::Explanation;
 use crate::values::is_digit;
 use council_file::{bracket_rule, is_bracket};
 use council_game::{Memory, limits};
@@ -43,9 +43,9 @@ fn longest_front(alloc: Global, text: &str) -> Result<usize, Memory> {
     Ok(len)
 }
 
-impl Said<'_> {
+impl Explanation<'_> {
     /// Says where the text breaks the grammar.
-    pub fn say_misfit(&mut self, alloc: Global) -> Result<(), Memory> {
+    pub fn explain_misfit(&mut self, alloc: Global) -> Result<(), Memory> {
         let text = self.text.trim_end();
         let place = longest_front(alloc, text)?;
         let (front, rest) = text.split_at_checked(place).unwrap_or((text, ""));
@@ -54,9 +54,9 @@ impl Said<'_> {
         } else {
             wanted_behind(alloc, front)?.unwrap_or("")
         };
-        self.say_place(place);
+        self.explain_place(place);
         self.line(wanted);
-        self.say_remedy_at(place);
+        self.explain_remedy_at(place);
         Ok(())
     }
 }

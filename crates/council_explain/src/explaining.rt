@@ -1,5 +1,5 @@
 //! What a fault says of bytes.
-use crate::said::Said;
+use crate::explanation::Explanation;
 use crate::source::bare;
 use council_file::{bracket_rule, is_bracket};
 use council_game::{GameFault, Memory, Rule};
@@ -27,8 +27,8 @@ fn tree_of(alloc: Global, text: &str) -> Result<(Table, Option<Error>), Memory> 
 }
 
 /// Says what a fault says of the bytes of a file, which are no TOML if there is an error, and a bracket text if there is a rule.
-fn say_fault(
-    said: &mut Said<'_>,
+fn explain_fault(
+    explanation: &mut Explanation<'_>,
     alloc: Global,
     bytes: &[u8],
     error: Option<&Error>,
@@ -36,28 +36,28 @@ fn say_fault(
     fault: GameFault,
 ) -> Result<(), Memory> {
     match fault {
-        GameFault::Read => said.line(READ),
-        GameFault::TooLong => said.line(TOO_LONG),
-        GameFault::Text => said.say_no_toml(bytes, error, is_bracket(bytes)),
-        GameFault::UnknownKey => said.say_unknown_key(),
-        GameFault::Title => said.say_title(),
-        GameFault::Rules => said.say_rules(),
-        GameFault::Quota => said.say_quota(),
+        GameFault::Read => explanation.line(READ),
+        GameFault::TooLong => explanation.line(TOO_LONG),
+        GameFault::Text => explanation.explain_no_toml(bytes, error, is_bracket(bytes)),
+        GameFault::UnknownKey => explanation.explain_unknown_key(),
+        GameFault::Title => explanation.explain_title(),
+        GameFault::Rules => explanation.explain_rules(),
+        GameFault::Quota => explanation.explain_quota(),
         GameFault::Members => match rule {
-            Some(rule) => said.say_count(rule),
-            None => said.say_members(),
+            Some(rule) => explanation.explain_count(rule),
+            None => explanation.explain_members(),
         },
-        GameFault::Name { member } => said.say_name(usize::from(member)),
-        GameFault::SameName { member } => said.say_same_name(usize::from(member)),
+        GameFault::Name { member } => explanation.explain_name(usize::from(member)),
+        GameFault::SameName { member } => explanation.explain_same_name(usize::from(member)),
         GameFault::Weight { member } => match rule {
-            Some(rule) => said.say_weight_of(rule, usize::from(member)),
-            None => said.say_weight(usize::from(member)),
+            Some(rule) => explanation.explain_weight_of(rule, usize::from(member)),
+            None => explanation.explain_weight(usize::from(member)),
         },
         GameFault::QuotaRange => match rule {
-            Some(rule) => said.say_range("the quota", rule.quota, rule),
-            None => return said.say_quota_range(alloc),
+            Some(rule) => explanation.explain_range("the quota", rule.quota, rule),
+            None => return explanation.explain_quota_range(alloc),
         },
-        GameFault::Bracket => return said.say_misfit(alloc),
+        GameFault::Bracket => return explanation.explain_misfit(alloc),
         GameFault::Memory => {}
     }
     Ok(())
@@ -76,24 +76,24 @@ pub fn explain(alloc: Global, bytes: &[u8], fault: GameFault) -> Result<String, 
     let bare = bare(alloc, text.as_str())?;
     let (table, error) = tree_of(alloc, text.as_str())?;
     let rule = bracket_rule(alloc, bytes)?;
-    let mut said = Said {
+    let mut explanation = Explanation {
         text: text.as_str(),
         bare: bare.as_str(),
         table: &table,
         lines: String::new(alloc),
         failed: false,
     };
-    say_fault(
-        &mut said,
+    explain_fault(
+        &mut explanation,
         alloc,
         bytes,
         error.as_ref(),
         rule.as_ref(),
         fault,
     )?;
-    if said.failed {
+    if explanation.failed {
         // memory: a growth was refused
         return Err(Memory);
     }
-    Ok(said.lines)
+    Ok(explanation.lines)
 }

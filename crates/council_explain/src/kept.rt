@@ -2,9 +2,9 @@
 ghost use Rattle.std.specs.Prelude.{◌≡◌, Some, None, [], if◌then◌else◌, option_map};
 ghost use Rattle.std.specs.Io.{ReadsAtMost};
 ghost use Rattle.std.specs.Io.KnownBytes.{ReadConsumes};
-ghost use Rattle.council_explain.specs.Came.{came, KeepsAll};
+ghost use Rattle.council_explain.specs.Kept.{bytes_read, KeepsAll};
 
-use coalitions::Source;
+use council_base::Source;
 use std::alloc::Global;
 use std::io;
 use std::io::Read;
@@ -46,7 +46,7 @@ impl<'a, I: Source> Read for Kept<'a, I> {
         ensures bound { ReadsAtMost result buffer.new }
         ensures bytes { ReadConsumes (I.left self.old.reader.now) (I.left self.new.reader.now) result buffer.new }
         ensures once { I.is_read self.old.reader.now buffer.old result self.new.reader.now buffer.new }
-        ensures kept { KeepsAll (option_map (λ v. v.items) self.old.bytes) (came result buffer.new)
+        ensures kept { KeepsAll (option_map (λ v. v.items) self.old.bytes) (bytes_read result buffer.new)
             (option_map (λ v. v.items) self.new.bytes) }
     {
         let count = self.reader.read_once(buffer)?;

@@ -9,13 +9,13 @@
 
 mod bracket;
 mod explaining;
+mod explanation;
 mod kept;
 mod keys;
 mod members;
 mod no_toml;
 mod ranges;
 mod rules;
-mod said;
 mod source;
 mod values;
 

@@ -1,49 +1,49 @@
 //! What is wrong with the members of a file.
-use crate::said::{Said, short};
+use crate::explanation::{Explanation, short};
 use crate::values::{elements, kind};
-use coalitions::limits;
+use council_base::limits;
 use toml::Value;
 
-impl Said<'_> {
+impl Explanation<'_> {
     /// Says that there is no member, or too many, or what is in their place.
-    pub fn say_members(&mut self) {
+    pub fn explain_members(&mut self) {
         let wanted = "each member begins with a line [[member]], with two brackets on each side";
         match self.value_at("member") {
             None => self.line(format_args!("the file has no member: {wanted}")),
-            Some(Value::Array(members)) => self.say_elements(members.as_slice()),
+            Some(Value::Array(members)) => self.explain_elements(members.as_slice()),
             Some(value) => {
-                self.say_key("member");
+                self.explain_key("member");
                 self.line(format_args!("member is {}: {wanted}", kind(value)));
             }
         }
     }
 
     /// Says how many elements the array has, or else which is no table.
-    fn say_elements(&mut self, members: &[Value]) {
+    fn explain_elements(&mut self, members: &[Value]) {
         let count = members.len();
         if count == 0 || limits::MEMBERS < count {
             return self.line(format_args!("the file has {count} members: 1 to 40 are allowed"));
         }
         for member in members {
             if !matches!(member, Value::Table(_)) {
-                return self.say_value(member, "a member is a table with a name and a weight");
+                return self.explain_value(member, "a member is a table with a name and a weight");
             }
         }
     }
 
     /// Says what is wrong with the name of a member.
-    pub fn say_name(&mut self, member: usize) {
+    pub fn explain_name(&mut self, member: usize) {
         let wanted = "a name is a text in quotes, of 1 to 64 bytes, on one line";
-        self.say_key_of(member, "name");
+        self.explain_key_of(member, "name");
         match self.value_of(member, "name") {
             None => self.line(format_args!("the member has no name: {wanted}")),
-            Some(value) => self.say_text(value, wanted),
+            Some(value) => self.explain_text(value, wanted),
         }
     }
 
     /// Says which earlier member has the name of this one.
-    pub fn say_same_name(&mut self, member: usize) {
-        self.say_key_of(member, "name");
+    pub fn explain_same_name(&mut self, member: usize) {
+        self.explain_key_of(member, "name");
         let name = self.value_of(member, "name");
         for earlier in 1..member {
             if let Some(Value::String(text)) = name
@@ -51,27 +51,27 @@ impl Said<'_> {
             {
                 let wanted = "each name stands once";
                 self.line(format_args!("member {earlier} is named {} too: {wanted}", short(text)));
-                return self.say_key_of(earlier, "name");
+                return self.explain_key_of(earlier, "name");
             }
         }
     }
 
     /// Says what is wrong with the weight or the weights of a member.
-    pub fn say_weight(&mut self, member: usize) {
+    pub fn explain_weight(&mut self, member: usize) {
         let several = self.value_at("quotas").is_some();
         let key = if several { "weights" } else { "weight" };
         let wanted = "weights are an array, with a number for each rule";
-        self.say_key_of(member, key);
+        self.explain_key_of(member, key);
         match self.value_of(member, key) {
             None => self.line(format_args!("the member has no {key}: each member has its own")),
-            Some(value) if !several => self.say_one_weight(value),
-            Some(Value::Array(weights)) => self.say_weights(weights.as_slice()),
-            Some(value) => self.say_value(value, wanted),
+            Some(value) if !several => self.explain_one_weight(value),
+            Some(Value::Array(weights)) => self.explain_weights(weights.as_slice()),
+            Some(value) => self.explain_value(value, wanted),
         }
     }
 
     /// Says how many weights a member has, or else which of them is none.
-    fn say_weights(&mut self, weights: &[Value]) {
+    fn explain_weights(&mut self, weights: &[Value]) {
         let count = weights.len();
         let rules = elements(self.value_at("quotas")).len();
         if count != rules {
@@ -81,19 +81,19 @@ impl Said<'_> {
         }
         for weight in weights {
             if !matches!(weight, Value::Integer(n) if 0 <= *n && (*n as u64) <= limits::WEIGHT) {
-                return self.say_one_weight(weight);
+                return self.explain_one_weight(weight);
             }
         }
     }
 
     /// Says what is wrong with a weight.
-    fn say_one_weight(&mut self, value: &Value) {
+    fn explain_one_weight(&mut self, value: &Value) {
         if matches!(value, Value::Integer(_)) {
             let value = short(value);
             self.line(format_args!("{value} is out of range: a weight is from 0 to 1000000000000"));
         } else {
             let wanted = "a weight is a whole number from 0 to 1000000000000, without quotes";
-            self.say_number(value, wanted);
+            self.explain_number(value, wanted);
         }
     }
 }

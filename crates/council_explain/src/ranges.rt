@@ -1,5 +1,5 @@
 //! Quotas, weights and numbers of members out of their ranges.
-use crate::said::{Said, short};
+use crate::explanation::{Explanation, short};
 use crate::values::elements;
 use council_file::rules_of;
 use council_game::{Memory, Rule};
@@ -15,9 +15,9 @@ fn total(rule: &Rule) -> u64 {
     total
 }
 
-impl Said<'_> {
+impl Explanation<'_> {
     /// Says that a quota is not within its total.
-    pub fn say_range(
+    pub fn explain_range(
         &mut self,
         which: impl Display + Drop,
         quota: impl Display + Drop,
@@ -29,19 +29,19 @@ impl Said<'_> {
     }
 
     /// Says which quota of a file is not within its total.
-    pub fn say_quota_range(&mut self, alloc: Global) -> Result<(), Memory> {
+    pub fn explain_quota_range(&mut self, alloc: Global) -> Result<(), Memory> {
         let rules = rules_of(alloc, self.table)?;
         let quotas = elements(self.value_at("quotas"));
         for (index, rule) in rules.iter().enumerate() {
             if let Some(quota) = self.value_at("quota") {
-                self.say_key("quota");
-                self.say_range("the quota", short(quota), rule);
+                self.explain_key("quota");
+                self.explain_range("the quota", short(quota), rule);
             } else if let Some(quota) = quotas.get(index)
                 && (rule.quota == 0 || total(rule) < rule.quota)
             {
                 let number = index.saturating_add(1);
-                self.say_key("quotas");
-                self.say_range(format_args!("quota {number}"), short(quota), rule);
+                self.explain_key("quotas");
+                self.explain_range(format_args!("quota {number}"), short(quota), rule);
                 break;
             }
         }
@@ -49,13 +49,13 @@ impl Said<'_> {
     }
 
     /// Says how many weights a bracket text has.
-    pub fn say_count(&mut self, rule: &Rule) {
+    pub fn explain_count(&mut self, rule: &Rule) {
         let count = rule.weights.len();
         self.line(format_args!("the text has {count} weights: at most 40 are allowed"));
     }
 
     /// Says that the weight of a member, which has a number from 1, is too great for a bracket text.
-    pub fn say_weight_of(&mut self, rule: &Rule, member: usize) {
+    pub fn explain_weight_of(&mut self, rule: &Rule, member: usize) {
         if let Some(weight) = rule.weights.get(member.wrapping_sub(1)) {
             self.line(format_args!("weight {member} is {weight}: the greatest is 1000000000000"));
         }

@@ -1,23 +1,23 @@
 //! What is wrong with the title, the quota and the rules of a file.
-use crate::said::Said;
-use coalitions::limits;
+use crate::explanation::Explanation;
+use council_base::limits;
 use toml::Value;
 
-impl Said<'_> {
+impl Explanation<'_> {
     /// Says what is wrong with the title.
-    pub fn say_title(&mut self) {
-        self.say_key("title");
+    pub fn explain_title(&mut self) {
+        self.explain_key("title");
         if let Some(value) = self.value_at("title") {
             let wanted = "a title is a text in quotes, of at most 200 bytes, on one line";
-            self.say_text(value, wanted);
+            self.explain_text(value, wanted);
         }
     }
 
     /// Says what is wrong with the quota, or that there is none.
-    pub fn say_quota(&mut self) {
-        self.say_key("quota");
+    pub fn explain_quota(&mut self) {
+        self.explain_key("quota");
         if let Some(value) = self.value_at("quota") {
-            self.say_number(value, "a quota is a whole number, without quotes");
+            self.explain_number(value, "a quota is a whole number, without quotes");
         } else if self.table.is_empty() {
             self.line("the file holds no game: it has neither a quota nor a member");
         } else {
@@ -26,10 +26,10 @@ impl Said<'_> {
     }
 
     /// Says which member has a key that does not go with that of the quota.
-    fn say_mixed(&mut self, key: &str) {
+    fn explain_mixed(&mut self, key: &str) {
         for member in 1..=self.members().len() {
             if self.value_of(member, key).is_some() {
-                self.say_key_of(member, key);
+                self.explain_key_of(member, key);
                 break;
             }
         }
@@ -37,9 +37,9 @@ impl Said<'_> {
     }
 
     /// Says what is wrong with the value of `quotas`, or which member has a key that does not go with it.
-    fn say_quotas(&mut self, value: &Value) {
+    fn explain_quotas(&mut self, value: &Value) {
         let Value::Array(quotas) = value else {
-            return self.say_value(value, "quotas are an array of 1 to 4 whole numbers");
+            return self.explain_value(value, "quotas are an array of 1 to 4 whole numbers");
         };
         let wanted = "quotas are 1 to 4 whole numbers";
         let count = quotas.len();
@@ -48,23 +48,23 @@ impl Said<'_> {
         }
         for quota in quotas {
             if !matches!(quota, Value::Integer(_)) {
-                return self.say_number(quota, wanted);
+                return self.explain_number(quota, wanted);
             }
         }
-        self.say_mixed("weight");
+        self.explain_mixed("weight");
     }
 
     /// Says which keys do not go together, or what is wrong with the quotas.
-    pub fn say_rules(&mut self) {
+    pub fn explain_rules(&mut self) {
         let Some(value) = self.value_at("quotas") else {
-            self.say_key("quota");
-            return self.say_mixed("weights");
+            self.explain_key("quota");
+            return self.explain_mixed("weights");
         };
-        self.say_key("quotas");
+        self.explain_key("quotas");
         if self.value_at("quota").is_none() {
-            return self.say_quotas(value);
+            return self.explain_quotas(value);
         }
-        self.say_key("quota");
+        self.explain_key("quota");
         self.line("quota and quotas are both there: a game has one of them");
     }
 }

@@ -1,6 +1,6 @@
 //! Places in the text of a game file.
-use crate::said::{Said, short};
-use coalitions::Memory;
+use crate::explanation::{Explanation, short};
+use council_base::Memory;
 use std::alloc::Global;
 
 /// What ends the comment or the quotes that are open behind a letter, by what ended those before it: the end of a line, or
@@ -43,9 +43,9 @@ fn line_of_key(bare: &str, first: usize, key: &str) -> Option<usize> {
     None
 }
 
-impl Said<'_> {
+impl Explanation<'_> {
     /// Says the line and the column of a place, and what stands in the line; the column is in characters.
-    pub fn say_place(&mut self, place: usize) {
+    pub fn explain_place(&mut self, place: usize) {
         let front = self.text.get(..place).unwrap_or(self.text);
         let (_, last) = front.rsplit_once('\n').unwrap_or(("", front));
         let ends = front.matches('\n').count();
@@ -56,28 +56,28 @@ impl Said<'_> {
     }
 
     /// Says a line, and what stands in it.
-    fn say_line(&mut self, line: usize) {
+    fn explain_line(&mut self, line: usize) {
         let row = self.text.lines().nth(line.saturating_sub(1)).unwrap_or("");
         self.line(format_args!("line {line}: {}", short(row.trim())));
     }
 
     /// Says where a key of the top stands.
-    pub fn say_key(&mut self, key: &str) {
+    pub fn explain_key(&mut self, key: &str) {
         if let Some(line) = line_of_key(self.bare, 1, key) {
-            self.say_line(line);
+            self.explain_line(line);
         }
     }
 
     /// Says where a key of a member stands, or else the member: it is behind the header, or else the brace, that has its
     /// number among its like.
-    pub fn say_key_of(&mut self, member: usize, key: &str) {
+    pub fn explain_key_of(&mut self, member: usize, key: &str) {
         let is_header = self.bare.contains("[[member]]");
         let mark = if is_header { "[[member]]" } else { "{" };
         let mut line = 1usize;
         // (the first part stands before all members)
         for (number, part) in self.bare.split(mark).enumerate() {
             if number == member {
-                return self.say_line(line_of_key(part, line, key).unwrap_or(line));
+                return self.explain_line(line_of_key(part, line, key).unwrap_or(line));
             }
             line = line.saturating_add(part.matches('\n').count());
         }

@@ -1,5 +1,5 @@
 //! Values of a file, as an explanation shows them, and what turns a number that is not whole into one that is.
-use crate::said::{Said, short};
+use crate::explanation::{Explanation, short};
 use toml::Value;
 
 /// What is said of a percentage and of a fraction.
@@ -44,16 +44,16 @@ fn most_decimals(text: &str) -> usize {
     most
 }
 
-impl Said<'_> {
+impl Explanation<'_> {
     /// Says what a value is, and what is wanted in its place.
-    pub(crate) fn say_value(&mut self, value: &Value, wanted: &str) {
+    pub(crate) fn explain_value(&mut self, value: &Value, wanted: &str) {
         self.line(format_args!("{} is {}: {wanted}", short(value), kind(value)));
     }
 
     /// Says what is wrong with what is to be a text on one line: what it is, what it has, or else how long it is.
-    pub(crate) fn say_text(&mut self, value: &Value, wanted: &str) {
+    pub(crate) fn explain_text(&mut self, value: &Value, wanted: &str) {
         let Value::String(text) = value else {
-            return self.say_value(value, wanted);
+            return self.explain_value(value, wanted);
         };
         if text.as_bytes().iter().any(u8::is_ascii_control) {
             let has = "a TAB, the end of a line or another control character";
@@ -64,10 +64,10 @@ impl Said<'_> {
     }
 
     /// Says what a value is that is no whole number, what is wanted in its place, and what helps.
-    pub(crate) fn say_number(&mut self, value: &Value, wanted: &str) {
-        self.say_value(value, wanted);
+    pub(crate) fn explain_number(&mut self, value: &Value, wanted: &str) {
+        self.explain_value(value, wanted);
         match value {
-            Value::Float(_) => self.say_factor(self.bare),
+            Value::Float(_) => self.explain_factor(self.bare),
             Value::String(text) if text.contains(['%', '/']) => self.line(STATUTES),
             _ => {}
         }
@@ -75,7 +75,7 @@ impl Said<'_> {
 
     /// Says by which power of ten the decimals of a text become whole numbers; nothing where it has none, or more than
     /// the greatest weight has zeros.
-    fn say_factor(&mut self, text: &str) {
+    fn explain_factor(&mut self, text: &str) {
         let decimals = most_decimals(text);
         if 0 < decimals
             && let Some(factor) = "1000000000000".get(..=decimals)
@@ -85,10 +85,10 @@ impl Said<'_> {
     }
 
     /// Says what helps where the text can't be read on from a place.
-    pub fn say_remedy_at(&mut self, place: usize) {
+    pub fn explain_remedy_at(&mut self, place: usize) {
         match self.text.as_bytes().get(place) {
             Some(b'%' | b'/') => self.line(STATUTES),
-            Some(b'.') => self.say_factor(self.text),
+            Some(b'.') => self.explain_factor(self.text),
             _ => {}
         }
     }

@@ -1,6 +1,6 @@
 -- What a reader gave.
 use Rattle.std.specs.Prelude.{◌≡◌, ◌<◌, ◌≤◌, ℕ, List, length, Option, ◌⊎◌, Err, ◌+◌}
-use Rattle.coalitions.specs.declared.limits.TheConstants.{FILE_BYTES}
+use Rattle.council_base.specs.declared.limits.TheConstants.{FILE_BYTES}
 use Rattle.council_game.specs.declared.fault.GameFault.{GameFault}
 use Rattle.council_game.specs.declared.fault.GameFault.TheVariants.{Read, Memory}
 use Rattle.council_file.specs.File.{game_of}

@@ -10,7 +10,7 @@ use crate::member_weights::{only_weight, weight_under};
 use crate::members::member_list;
 use crate::quotas::{has_bad_quotas, quota_at, quota_from};
 use crate::tree::{elements_at, has_key, value_at};
-use coalitions::listed;
+use council_base::list_from_fn;
 use council_game::{Memory, Rule};
 use std::alloc::{AllocError, Global};
 use toml::Table;
@@ -46,7 +46,7 @@ fn rule_from(alloc: Global, table: &Table, n: usize, r: usize) -> Result<Rule, A
 {
     let quota = quota_at(elements_at(table, "quotas"), r);
     let members = member_list(table);
-    let weights = listed(alloc, members.len(), |k| weight_under(&members[k], n, r))?;
+    let weights = list_from_fn(alloc, members.len(), |k| weight_under(&members[k], n, r))?;
     Ok(Rule { quota, weights })
 }
 
@@ -68,7 +68,7 @@ fn lone_rule(alloc: Global, table: &Table) -> Result<Vec<Rule>, AllocError>
 {
     let quota = quota_from(value_at(table, "quota"));
     let members = member_list(table);
-    let weights = listed(alloc, members.len(), |k| only_weight(&members[k]))?;
+    let weights = list_from_fn(alloc, members.len(), |k| only_weight(&members[k]))?;
     let mut rules = Vec::new(alloc);
     rules.push(Rule { quota, weights })?;
     Ok(rules)

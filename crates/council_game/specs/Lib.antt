@@ -1,4 +1,4 @@
-pub use Rattle.coalitions.specs.Coalitions
+pub use Rattle.council_base.specs.Coalitions
 pub mod Fault
 pub mod Faults
 pub mod Votes

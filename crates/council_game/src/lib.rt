@@ -22,7 +22,7 @@ mod rule;
 mod winning;
 
 pub use checks::is_title;
-pub use coalitions::{Coalition, Memory, limits};
+pub use council_base::{Coalition, Memory, limits};
 pub use fault::GameFault;
 pub use game::Game;
 pub use joined::{push_decimal, push_joined};

@@ -6,7 +6,7 @@ ghost use Rattle.council_game.specs.Notation.{notation};
 
 use crate::game::Game;
 use crate::joined::{push_decimal, push_joined};
-use coalitions::Memory;
+use council_base::Memory;
 use std::alloc::{AllocError, Global};
 
 #[tactic(auto, unfolding(crate::specs::Notation::notation))]

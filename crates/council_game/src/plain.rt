@@ -1,6 +1,6 @@
 //! All minimal coalitions, by trying each.
 ghost use Rattle.std.specs.Prelude.{◌≡◌, ◌≤◌, ◌^◌, length, IfOk};
-ghost use Rattle.coalitions.specs.declared.limits.TheConstants.{PLAIN_MEMBERS};
+ghost use Rattle.council_base.specs.declared.limits.TheConstants.{PLAIN_MEMBERS};
 ghost use Rattle.council_game.specs.Votes.{minimal_coalitions};
 ghost use Rattle.council_game.specs.Game.{votes_of};
 

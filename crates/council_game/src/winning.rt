@@ -1,6 +1,6 @@
 //! Whether a coalition wins, and whether it is minimal.
 ghost use Rattle.std.specs.Prelude.{◌≡◌, ◌≤◌, length, sum};
-ghost use Rattle.coalitions.specs.declared.limits.TheConstants.{MEMBERS, TOTAL};
+ghost use Rattle.council_base.specs.declared.limits.TheConstants.{MEMBERS, TOTAL};
 ghost use Rattle.council_game.specs.Votes.{IsVotes, weight, wins, minimal};
 ghost use Rattle.council_game.specs.Rules.{rule_views};
 ghost use Rattle.council_game.specs.Inner.Held.{votes};

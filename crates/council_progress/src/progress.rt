@@ -1,7 +1,7 @@
 //! How far a run or a tally has come.
 use crate::thousands::Thousands;
 use crate::wiping::Wipe;
-use coalitions::Gate;
+use council_base::Gate;
 use std::sync::{Mutex, Wait};
 use std::time::{Clock, Duration};
 

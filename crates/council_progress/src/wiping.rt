@@ -2,7 +2,7 @@
 ghost use Rattle.std.specs.Io.{WritesAtMost};
 ghost use Rattle.std.specs.Io.KnownBytes.{Keeps, WriteAppends};
 
-use coalitions::Sink;
+use council_base::Sink;
 use std::io;
 use std::io::Write;
 

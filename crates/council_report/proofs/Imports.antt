@@ -1,12 +1,12 @@
 -- The words of other libraries and of the definitions that two or more files of these proofs take.
-pub use Rattle.coalitions.specs.declared.report_lines.ReportLines.{ReportLines}
+pub use Rattle.council_base.specs.declared.report_lines.ReportLines.{ReportLines}
 pub use Rattle.council_game.proofs.Shared.{Games.votes-are, Weights.weight-le}
 pub use Rattle.council_game.specs.{Game.GameView, Game.IsGame, Game.votes_of, Votes.IsRule, Votes.rule_at, Votes.weight}
 pub use Rattle.council_report.specs.{Inner.Lines.line_of_member, Inner.Lines.line_of_size, declared.counted.Counted.Counted}
-pub use Rattle.council_report.specs.{Inner.Ready.Takes, Lines.names_of, Lines.with_tab, Report.coalition_lines, declared.output.Block.Block}
-pub use Rattle.council_report.specs.Inner.Puts.{Lasts}
+pub use Rattle.council_report.specs.{Inner.Ready.AppendsInRoom, Lines.names_of, Lines.with_tab, Report.coalition_lines, declared.output.Block.Block}
+pub use Rattle.council_report.specs.Inner.Writing.{KeepsReady}
 pub use Rattle.council_report.specs.Inner.SharedLine.{AreSeats, HasNoneFrom, IsLine, IsReadyLine, IsSeat, SameBefore}
-pub use Rattle.council_report.specs.Inner.Told.{HasStopped, HoldsBut, Progress, StopsIn, Tells, progress_of}
+pub use Rattle.council_report.specs.Inner.Written.{HasStopped, HoldsBut, Progress, StopsIn, Advances, progress_of}
 pub use Rattle.power_index.proofs.Shared.Members.{few-members}
 pub use Rattle.power_index.specs.Tables.{table_of_member_size}
 pub use Rattle.std.proofs.Common.{subst, suc, sym, take, take-append-drop, take_all, true, w64, zero, ℕ, ◌++◌, ◌+◌, ◌-◌, ◌<◌, ◌^◌, ◌∙◌, ◌∷◌}

@@ -1,7 +1,7 @@
 -- A row of texts told one after another: one more, and where it stops.
 use Rattle.council_report.proofs.Imports.{◌≡◌, ◌<◌, ◌≤◌, ◌+◌, ◌^◌, ◌++◌, ℕ, List, length, get_or, take, drop, Option, sym, ap, ◌∙◌, subst}
 use Rattle.council_report.proofs.Imports.{range_with_len, flat_map-append, common_steps, take_all, take-append-drop, StopsIn, [], ◌∷◌}
-use Rattle.council_report.proofs.Imports.{get_or-range_with_len, length-range_with_len, nat_tests, Progress, Tells, arith, flat_map}
+use Rattle.council_report.proofs.Imports.{get_or-range_with_len, length-range_with_len, nat_tests, Progress, Advances, arith, flat_map}
 use Rattle.council_report.proofs.Imports.{append-nil}
 use Rattle.std.proofs.lemmas.List.{take_more, Folds.length-flat_map-take}
 use Rattle.council_report.proofs.Telling.{tells-then, stopped-first, stopped-next}
@@ -25,11 +25,11 @@ with-next : {X : Type 0} (f : X → List ℕ) {xs : List X} {i : ℕ} {x : X} �
 with-next f {xs} {i} {x} next = grind (arith, nat_tests, common_steps, take_more, rows-more)
 
 pub turn-told : {X : Type 0} {a b c : Progress} (f : X → List ℕ) {xs : List X} {i : ℕ} {x : X}
-    → IsNext xs i x → Tells a b (flat_map f (take i xs)) → Tells b c (f x) → Tells a c (flat_map f (take (i + 1) xs))
+    → IsNext xs i x → Advances a b (flat_map f (take i xs)) → Advances b c (f x) → Advances a c (flat_map f (take (i + 1) xs))
 turn-told {a = a} {b = b} {c = c} f {xs} {i} {x} next before more = grind (arith, nat_tests, common_steps, with-next, tells-then)
 
 pub turn-stopped : {X : Type 0} {a b : Progress} (f : X → List ℕ) {xs : List X} {i : ℕ} {x : X} {held : Option (List ℕ)} {n : ℕ}
-    → IsNext xs i x → Tells a b (flat_map f (take i xs)) → StopsIn b (f x) held n → StopsIn a (flat_map f xs) held n
+    → IsNext xs i x → Advances a b (flat_map f (take i xs)) → StopsIn b (f x) held n → StopsIn a (flat_map f xs) held n
 turn-stopped {a = a} {b = b} f {xs} {i} {x} {held} {n} next before stopped =
     let first : List ℕ = flat_map f (take i xs) in
     let rest : List ℕ = flat_map f (drop (i + 1) xs) in
@@ -40,10 +40,10 @@ turn-stopped {a = a} {b = b} f {xs} {i} {x} {held} {n} next before stopped =
 
 -- the number of bytes told so far and of the next text is no greater than with all the texts
 pub turn-counts : {X : Type 0} {a b : Progress} (f : X → List ℕ) {xs : List X} {i : ℕ} {x : X}
-    → IsNext xs i x → Tells a b (flat_map f (take i xs)) → a.count + length (flat_map f xs) < 2 ^ 64 → b.count + length (f x) < 2 ^ 64
+    → IsNext xs i x → Advances a b (flat_map f (take i xs)) → a.count + length (flat_map f xs) < 2 ^ 64 → b.count + length (f x) < 2 ^ 64
 turn-counts f {xs} {i} {x} next before few = grind (arith, nat_tests, length-flat_map-take)
 
 -- all of the numbers from a on
 pub numbers-told : {a b : Progress} (f : ℕ → List ℕ) (from n i : ℕ) → n ≤ i
-    → Tells a b (flat_map f (take i (range_with_len from n))) → Tells a b (flat_map f (range_with_len from n))
+    → Advances a b (flat_map f (take i (range_with_len from n))) → Advances a b (flat_map f (range_with_len from n))
 numbers-told {a} {b} f from n i le tells = grind (arith, nat_tests, take_all, length-range_with_len)

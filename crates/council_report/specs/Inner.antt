@@ -1,6 +1,6 @@
 -- What only proofs, private functions and invariants need: no public contract mentions it.
 pub mod Lines
-pub mod Told
+pub mod Written
 pub mod Ready
-pub mod Puts
+pub mod Writing
 pub mod SharedLine

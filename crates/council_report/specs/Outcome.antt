@@ -5,7 +5,7 @@ use Rattle.council_report.specs.declared.fault.ReportFault.{ReportFault}
 use Rattle.council_report.specs.declared.fault.ReportFault.TheVariants.{Memory, Write}
 
 -- nothing after want of memory; else the bytes that the writer took, which are the first ones
-abbrev pub Falls : Option (List ℕ) → Option (List ℕ) → List ℕ → ReportFault → Type 0
-Falls before after text Memory = Keeps before after
-Falls before after text (Write written) =
+abbrev pub StopsPartWay : Option (List ℕ) → Option (List ℕ) → List ℕ → ReportFault → Type 0
+StopsPartWay before after text Memory = Keeps before after
+StopsPartWay before after text (Write written) =
     (written ≤ length text) × Appends before after (take written text)

@@ -1,7 +1,7 @@
 -- The report of a game, as a function of its title, names and numbers and of its minimal winning coalitions.
 use Rattle.std.specs.Prelude.{ℕ, List, [], ◌++◌, if◌then◌else◌, length}
 use Rattle.std.specs.List.{flat_map, range_with_len}
-use Rattle.coalitions.specs.declared.report_lines.ReportLines.{ReportLines}
+use Rattle.council_base.specs.declared.report_lines.ReportLines.{ReportLines}
 use Rattle.council_game.specs.Votes.{minimal_coalitions}
 use Rattle.council_game.specs.Game.{GameView, votes_of}
 use Rattle.power_index.specs.Counting.{members, count_of_size, count_of_member, count_of_member_size}

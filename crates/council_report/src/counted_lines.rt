@@ -5,7 +5,7 @@ ghost use Rattle.power_index.specs.Counting.{members};
 ghost use Rattle.power_index.specs.Tables.{table_of_member, table_of_member_size, table_deegan_packel, table_public_good};
 ghost use Rattle.power_index.specs.Fractions.{IsIndex, lowest_terms, pair_of};
 ghost use Rattle.council_report.specs.Lines.{with_tab, with_slashes, name_of, weights_of_member, index_fields};
-ghost use Rattle.council_report.specs.Inner.Ready.{Takes};
+ghost use Rattle.council_report.specs.Inner.Ready.{AppendsInRoom};
 ghost use Rattle.council_report.specs.Inner.Lines.{line_of_size, line_of_member};
 
 use crate::counted::Counted;
@@ -17,7 +17,7 @@ use power_index::{Counts, Fraction, deegan_packel, public_good};
 
 /// A field `top/bottom`.
 fn push_fraction(out: &mut Block, fraction: Fraction)
-    ensures { Takes out.old out.new (with_tab (decimal fraction.top ++ 47 ∷ decimal fraction.bottom)) }
+    ensures { AppendsInRoom out.old out.new (with_tab (decimal fraction.top ++ 47 ∷ decimal fraction.bottom)) }
 {
     let mut buffer = Buffer::new();
     push_field(out, buffer.format(fraction.top).as_bytes());
@@ -28,7 +28,7 @@ fn push_fraction(out: &mut Block, fraction: Fraction)
 /// Two fields: an index as a fraction and as decimals.
 fn push_index(out: &mut Block, index: Fraction)
     requires { IsIndex (pair_of index) }
-    ensures { Takes out.old out.new (flat_map with_tab (index_fields (pair_of index))) }
+    ensures { AppendsInRoom out.old out.new (flat_map with_tab (index_fields (pair_of index))) }
 {
     push_fraction(out, index);
     push_field(out, &index.decimals());
@@ -37,7 +37,7 @@ fn push_index(out: &mut Block, index: Fraction)
 /// For each member, how many coalitions of a size contain it.
 fn push_counts(out: &mut Block, counted: &Counted<'_>, size: usize)
     requires { size ≤ counted.now.members }
-    ensures { Takes out.old out.new (flat_map with_tab (map (λ i. decimal
+    ensures { AppendsInRoom out.old out.new (flat_map with_tab (map (λ i. decimal
         (table_of_member_size counted.now.counts.now i size)) (members counted.now.game.now))) }
 {
     for member in 0..counted.members {
@@ -49,7 +49,7 @@ fn push_counts(out: &mut Block, counted: &Counted<'_>, size: usize)
 #[tactic(auto, unfolding(crate::specs::Lines::size_line))]
 pub(crate) fn push_size(out: &mut Block, counted: &Counted<'_>, size: usize)
     requires { size ≤ counted.now.members }
-    ensures { Takes out.old out.new (line_of_size counted.now size) }
+    ensures { AppendsInRoom out.old out.new (line_of_size counted.now size) }
 {
     let count = counted.counts.wide_of_size(size);
     if count == 0 {
@@ -65,7 +65,7 @@ pub(crate) fn push_size(out: &mut Block, counted: &Counted<'_>, size: usize)
 /// How many coalitions contain a member.
 fn push_count(out: &mut Block, counts: &Counts, member: usize)
     requires { member < counts.now.members }
-    ensures { Takes out.old out.new (with_tab (decimal (table_of_member counts.now member))) }
+    ensures { AppendsInRoom out.old out.new (with_tab (decimal (table_of_member counts.now member))) }
 {
     push_number(out, counts.wide_of_member(member));
 }
@@ -73,7 +73,7 @@ fn push_count(out: &mut Block, counts: &Counts, member: usize)
 /// The weights of a member, one for each rule.
 fn push_weights(out: &mut Block, game: &Game, member: usize)
     requires { member < length game.now.names }
-    ensures { Takes out.old out.new (with_tab (with_slashes (weights_of_member game.now member))) }
+    ensures { AppendsInRoom out.old out.new (with_tab (with_slashes (weights_of_member game.now member))) }
 {
     push_values(out, game.rules(), |r| game.rule_weight(r, member));
 }
@@ -81,7 +81,7 @@ fn push_weights(out: &mut Block, game: &Game, member: usize)
 /// A member's name, its weights, and how many coalitions contain it.
 fn push_member_counts(out: &mut Block, counted: &Counted<'_>, member: usize)
     requires { member < counted.now.members }
-    ensures { Takes out.old out.new (with_tab (name_of counted.now.game.now member)
+    ensures { AppendsInRoom out.old out.new (with_tab (name_of counted.now.game.now member)
         ++ with_tab (with_slashes (weights_of_member counted.now.game.now member))
         ++ with_tab (decimal (table_of_member counted.now.counts.now member))) }
 {
@@ -94,7 +94,7 @@ fn push_member_counts(out: &mut Block, counted: &Counted<'_>, member: usize)
 /// Both indices of a member.
 fn push_indices(out: &mut Block, counted: &Counted<'_>, member: usize)
     requires { member < counted.now.members }
-    ensures { Takes out.old out.new (flat_map with_tab
+    ensures { AppendsInRoom out.old out.new (flat_map with_tab
         (index_fields (lowest_terms (table_deegan_packel counted.now.counts.now member))
         ++ index_fields (lowest_terms (table_public_good counted.now.counts.now member)))) }
 {
@@ -106,7 +106,7 @@ fn push_indices(out: &mut Block, counted: &Counted<'_>, member: usize)
 #[tactic(auto, unfolding(crate::specs::Lines::member_line))]
 pub(crate) fn push_member(out: &mut Block, counted: &Counted<'_>, member: usize)
     requires { member < counted.now.members }
-    ensures { Takes out.old out.new (line_of_member counted.now member) }
+    ensures { AppendsInRoom out.old out.new (line_of_member counted.now member) }
 {
     out.push(b"member");
     push_member_counts(out, counted, member);

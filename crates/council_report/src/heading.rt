@@ -3,7 +3,7 @@ ghost use Rattle.std.specs.Prelude.{◌<◌, length};
 ghost use Rattle.std.specs.List.{flat_map};
 ghost use Rattle.council_game.specs.Votes.{rule_at};
 ghost use Rattle.council_game.specs.Notation.{notation};
-ghost use Rattle.council_report.specs.Inner.Ready.{Adds};
+ghost use Rattle.council_report.specs.Inner.Ready.{AppendsText};
 ghost use Rattle.council_report.specs.Lines.{notation_line};
 ghost use Rattle.council_report.specs.Report.{heading, notation_lines};
 
@@ -16,7 +16,7 @@ use council_game::{Game, write_notation};
 #[tactic(auto, unfolding(crate::specs::Lines::notation_line))]
 fn push_notation(out: &mut Block, game: &Game, rule: usize)
     requires { rule < length game.now.rules }
-    ensures { Adds out.old out.new (notation_line (rule_at game.now.rules rule)) }
+    ensures { AppendsText out.old out.new (notation_line (rule_at game.now.rules rule)) }
 {
     out.push(b"notation\t");
     // memory: what was refused is noted, for the whole heading
@@ -25,7 +25,7 @@ fn push_notation(out: &mut Block, game: &Game, rule: usize)
 }
 
 fn push_each_notation(out: &mut Block, game: &Game)
-    ensures { Adds out.old out.new (flat_map notation_line game.now.rules) }
+    ensures { AppendsText out.old out.new (flat_map notation_line game.now.rules) }
 {
     for rule in 0..game.rules() {
         push_notation(out, game, rule);
@@ -34,7 +34,7 @@ fn push_each_notation(out: &mut Block, game: &Game)
 
 /// A line for the notation of each rule, where they are shown.
 fn push_notations(out: &mut Block, game: &Game, shown: ReportLines)
-    ensures { Adds out.old out.new (notation_lines shown game.now) }
+    ensures { AppendsText out.old out.new (notation_lines shown game.now) }
 {
     if shown.notation {
         push_each_notation(out, game);
@@ -43,7 +43,7 @@ fn push_notations(out: &mut Block, game: &Game, shown: ReportLines)
 
 /// The lines before those of the `count` coalitions.
 pub(crate) fn push_heading(out: &mut Block, game: &Game, count: u64, shown: ReportLines)
-    ensures { Adds out.old out.new (heading shown game.now count) }
+    ensures { AppendsText out.old out.new (heading shown game.now count) }
 {
     push_title(out, game);
     push_members(out, game);

@@ -19,6 +19,6 @@ mod stream;
 mod subtotal;
 mod text;
 
-pub use coalitions::ReportLines;
+pub use council_base::ReportLines;
 pub use fault::ReportFault;
 pub use report::{write_report, write_report_of, write_tally};

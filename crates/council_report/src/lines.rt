@@ -1,6 +1,6 @@
 //! The lines of a report, one function for each kind.
 ghost use Rattle.std.specs.Prelude.{◌≡◌, ◌<◌, Some};
-ghost use Rattle.council_report.specs.Inner.Ready.{Adds};
+ghost use Rattle.council_report.specs.Inner.Ready.{AppendsText};
 ghost use Rattle.council_report.specs.Lines.{title_line, members_line, quota_line, total_line, minimal_line};
 
 use crate::output::Block;
@@ -10,7 +10,7 @@ use council_game::Game;
 /// `title`, the title; no line where there is none.
 #[tactic(auto, unfolding(crate::specs::Lines::title_line))]
 pub(crate) fn push_title(out: &mut Block, game: &Game)
-    ensures { Adds out.old out.new (title_line game.now) }
+    ensures { AppendsText out.old out.new (title_line game.now) }
 {
     let Some(title) = game.title() else {
         return;
@@ -23,7 +23,7 @@ pub(crate) fn push_title(out: &mut Block, game: &Game)
 /// `members`, the number of members.
 #[tactic(auto, unfolding(crate::specs::Lines::members_line))]
 pub(crate) fn push_members(out: &mut Block, game: &Game)
-    ensures { Adds out.old out.new (members_line game.now) }
+    ensures { AppendsText out.old out.new (members_line game.now) }
 {
     out.push(b"members");
     push_number(out, game.members() as u64);
@@ -33,7 +33,7 @@ pub(crate) fn push_members(out: &mut Block, game: &Game)
 /// `quota`, the quota of each rule.
 #[tactic(auto, unfolding(crate::specs::Lines::quota_line))]
 pub(crate) fn push_quota(out: &mut Block, game: &Game)
-    ensures { Adds out.old out.new (quota_line game.now) }
+    ensures { AppendsText out.old out.new (quota_line game.now) }
 {
     out.push(b"quota");
     push_values(out, game.rules(), |r| game.rule_quota(r));
@@ -43,7 +43,7 @@ pub(crate) fn push_quota(out: &mut Block, game: &Game)
 /// `total`, the total of each rule's weights.
 #[tactic(auto, unfolding(crate::specs::Lines::total_line))]
 pub(crate) fn push_total(out: &mut Block, game: &Game)
-    ensures { Adds out.old out.new (total_line game.now) }
+    ensures { AppendsText out.old out.new (total_line game.now) }
 {
     out.push(b"total");
     push_values(out, game.rules(), |r| game.rule_total(r));
@@ -53,7 +53,7 @@ pub(crate) fn push_total(out: &mut Block, game: &Game)
 /// `minimal`, the number of minimal winning coalitions.
 #[tactic(auto, unfolding(crate::specs::Lines::minimal_line))]
 pub(crate) fn push_minimal(out: &mut Block, count: u64)
-    ensures { Adds out.old out.new (minimal_line count) }
+    ensures { AppendsText out.old out.new (minimal_line count) }
 {
     out.push(b"minimal");
     push_number(out, count);

@@ -58,9 +58,9 @@ pub(crate) struct Block {
 }
 
 impl Block {
-    ghost use Rattle.council_report.specs.Inner.Told.{progress_of, Tells, HasStopped};
-    ghost use Rattle.council_report.specs.Inner.Ready.{HasRoom, CanCount, Takes};
-    ghost use Rattle.council_report.specs.Inner.Puts.{Settles};
+    ghost use Rattle.council_report.specs.Inner.Written.{progress_of, Advances, HasStopped};
+    ghost use Rattle.council_report.specs.Inner.Ready.{HasRoom, CanCount, AppendsInRoom};
+    ghost use Rattle.council_report.specs.Inner.Writing.{MakesRoom};
 
     /// An empty block with all its room.
     pub(crate) fn new(alloc: Global) -> Result<Block, AllocError>
@@ -78,7 +78,7 @@ impl Block {
 
     /// Pushes bytes behind those that are there.
     pub(crate) fn push(&mut self, bytes: &[u8])
-        ensures { Takes self.old self.new bytes.now }
+        ensures { AppendsInRoom self.old self.new bytes.now }
     {
         // memory: what was refused is noted, and a clause says when it is not
         self.refused |= self.bytes.extend_from_slice(bytes).is_err();
@@ -87,7 +87,7 @@ impl Block {
     /// Hands all bytes to the writer.
     fn drain<W: Write>(&mut self, writer: &mut W) -> Result<(), WriteFault>
         requires { CanCount self.old [] }
-        ensures ok { OnOk result (Tells (progress_of (W.contents writer.old) self.old)
+        ensures ok { OnOk result (Advances (progress_of (W.contents writer.old) self.old)
             (progress_of (W.contents writer.new) self.new) []) }
         ensures empty { OnOk result (self.new.bytes.items ≡ []) }
         ensures capacity { vec_capacity self.new.bytes ≡ vec_capacity self.old.bytes }
@@ -113,7 +113,7 @@ impl Block {
     /// Makes ready for a line: where the next might not fit, all bytes go to the writer.
     pub(crate) fn settle<W: Write>(&mut self, writer: &mut W) -> Result<(), WriteFault>
         requires { CanCount self.old [] }
-        ensures { Settles (W.contents writer.old) self.old (W.contents writer.new) self.new result }
+        ensures { MakesRoom (W.contents writer.old) self.old (W.contents writer.new) self.new result }
     {
         if self.bytes.len() + LINE <= ROOM {
             return Ok(());

@@ -1,6 +1,6 @@
 //! Which places two coalitions have in common.
 ghost use Rattle.std.specs.Prelude.{◌^◌, ◌<◌, ◌≤◌};
-ghost use Rattle.coalitions.specs.declared.limits.TheConstants.{MEMBERS};
+ghost use Rattle.council_base.specs.declared.limits.TheConstants.{MEMBERS};
 ghost use Rattle.council_report.specs.Inner.SharedLine.{HasNoneFrom, SameBefore};
 
 use council_game::Coalition;

@@ -1,18 +1,18 @@
 //! A report, written whole.
 ghost use Rattle.std.specs.Prelude.{◌≡◌, ◌+◌, ◌≤◌, ◌^◌, true, false, ℕ, List, length, IfOk, IfErr, OnOk};
 ghost use Rattle.std.specs.Io.KnownBytes.{Appends};
-ghost use Rattle.coalitions.specs.Lists.{joined};
-ghost use Rattle.coalitions.specs.declared.limits.TheConstants.{MEMBERS, COALITIONS};
+ghost use Rattle.council_base.specs.Lists.{joined};
+ghost use Rattle.council_base.specs.declared.limits.TheConstants.{MEMBERS, COALITIONS};
 ghost use Rattle.council_game.specs.Game.{votes_of, AreNonemptyCoalitions, IsGame};
 ghost use Rattle.council_game.specs.Votes.{minimal_coalitions};
 ghost use Rattle.power_index.specs.Tables.{AreCounts};
 ghost use Rattle.council_report.specs.Inner.Lines.{lines_of, lines_of_sizes};
 ghost use Rattle.council_report.specs.Report.{coalition_lines, report, report_over};
 ghost use Rattle.council_report.specs.Inner.SharedLine.{IsReadyLine};
-ghost use Rattle.council_report.specs.Inner.Told.{progress_of, StopsIn};
+ghost use Rattle.council_report.specs.Inner.Written.{progress_of, StopsIn};
 ghost use Rattle.council_report.specs.Inner.Ready.{HasRoom, IsReady, CanCount};
-ghost use Rattle.council_report.specs.Inner.Puts.{Puts};
-ghost use Rattle.council_report.specs.Outcome.{Falls};
+ghost use Rattle.council_report.specs.Inner.Writing.{WritesText};
+ghost use Rattle.council_report.specs.Outcome.{StopsPartWay};
 
 use crate::ReportLines;
 use crate::counted::Counted;
@@ -40,7 +40,7 @@ fn put_shown_coalitions<W: Write>(
     requires line { IsReadyLine game.now line.old }
     requires ready { IsReady block.old }
     requires counted { CanCount block.old (coalition_lines shown game.now (joined pieces.now)) }
-    ensures { Puts (coalition_lines shown game.now (joined pieces.now))
+    ensures { WritesText (coalition_lines shown game.now (joined pieces.now))
         (W.contents writer.old) block.old (W.contents writer.new) block.new result }
 {
     if shown.list {
@@ -59,7 +59,7 @@ fn put_shown_sizes<W: Write>(
 ) -> Result<(), WriteFault>
     requires ready { IsReady block.old }
     requires counted { CanCount block.old (lines_of_sizes shown counted.now) }
-    ensures { Puts (lines_of_sizes shown counted.now)
+    ensures { WritesText (lines_of_sizes shown counted.now)
         (W.contents writer.old) block.old (W.contents writer.new) block.new result }
 {
     if shown.sizes {
@@ -83,7 +83,7 @@ fn put_lines<W: Write>(
     requires line { IsReadyLine counted.now.game.now line.old }
     requires ready { IsReady block.old }
     requires counted { CanCount block.old (lines_of shown counted.now (joined pieces.now)) }
-    ensures { Puts (lines_of shown counted.now (joined pieces.now))
+    ensures { WritesText (lines_of shown counted.now (joined pieces.now))
         (W.contents writer.old) block.old (W.contents writer.new) block.new result }
 {
     put_shown_coalitions(block, writer, counted.game, pieces, line, shown)?;
@@ -137,7 +137,7 @@ fn write_over<W: Write>(
     ensures count { IfOk result (λ count. count ≡ length (report_over shown game.now list)) }
     ensures ok { OnOk result (Appends (W.contents writer.old) (W.contents writer.new)
         (report_over shown game.now list)) }
-    ensures err { IfErr result (Falls (W.contents writer.old) (W.contents writer.new)
+    ensures err { IfErr result (StopsPartWay (W.contents writer.old) (W.contents writer.new)
         (report_over shown game.now list)) }
 {
     let mut block = Block::new(alloc)?;
@@ -184,7 +184,7 @@ pub fn write_report_of<W: Write>(
     ensures count { IfOk result (λ count. count ≡ length (report_over shown game.now (joined pieces.now))) }
     ensures ok { OnOk result (Appends (W.contents writer.old) (W.contents writer.new)
         (report_over shown game.now (joined pieces.now))) }
-    ensures err { IfErr result (Falls (W.contents writer.old) (W.contents writer.new)
+    ensures err { IfErr result (StopsPartWay (W.contents writer.old) (W.contents writer.new)
         (report_over shown game.now (joined pieces.now))) }
 {
     write_over(alloc, game, pieces, counts, shown, writer)
@@ -210,7 +210,7 @@ pub fn write_tally<W: Write>(
     ensures count { IfOk result (λ count. count ≡ length (report shown game.now)) }
     ensures ok { OnOk result (Appends (W.contents writer.old) (W.contents writer.new)
         (report shown game.now)) }
-    ensures err { IfErr result (Falls (W.contents writer.old) (W.contents writer.new)
+    ensures err { IfErr result (StopsPartWay (W.contents writer.old) (W.contents writer.new)
         (report shown game.now)) }
 {
     minimal_coalitions_can_be_counted();
@@ -239,7 +239,7 @@ pub fn write_report<W: Write>(
     ensures count { IfOk result (λ count. count ≡ length (report_over shown game.now list.now)) }
     ensures ok { OnOk result (Appends (W.contents writer.old) (W.contents writer.new)
         (report_over shown game.now list.now)) }
-    ensures err { IfErr result (Falls (W.contents writer.old) (W.contents writer.new)
+    ensures err { IfErr result (StopsPartWay (W.contents writer.old) (W.contents writer.new)
         (report_over shown game.now list.now)) }
 {
     let counts = Counts::of(game, list);

@@ -4,7 +4,7 @@ ghost use Rattle.std.specs.List.{flat_map};
 ghost use Rattle.council_game.specs.Game.{votes_of};
 ghost use Rattle.council_game.specs.Votes.{has, rule_at, weight};
 ghost use Rattle.council_report.specs.Lines.{coalition_line, with_tab, with_slashes, weights_of_coalition, names_of};
-ghost use Rattle.council_report.specs.Inner.Ready.{Takes};
+ghost use Rattle.council_report.specs.Inner.Ready.{AppendsInRoom};
 ghost use Rattle.council_report.specs.Inner.SharedLine.{IsLine, IsReadyLine, IsWholeLine, SameBefore};
 
 use crate::output::{Block, LINE};
@@ -129,7 +129,7 @@ impl SharedLine {
     /// The weights of the coalition, one for each rule.
     fn push_weights(&self, out: &mut Block, game: &Game)
         requires { IsWholeLine game.now self.now.coalition self.now }
-        ensures { Takes out.old out.new
+        ensures { AppendsInRoom out.old out.new
             (with_tab (with_slashes (weights_of_coalition game.now self.now.coalition))) }
     {
         push_values(out, game.rules(), |r| self.weight_under(game, r));
@@ -139,7 +139,7 @@ impl SharedLine {
     #[tactic(auto, using(crate::proofs::SharedLines::whole))]
     fn push_names(&self, out: &mut Block, game: &Game)
         requires { IsWholeLine game.now self.now.coalition self.now }
-        ensures { Takes out.old out.new
+        ensures { AppendsInRoom out.old out.new
             (flat_map with_tab (names_of game.now self.now.coalition)) }
     {
         out.push(&self.names);
@@ -151,7 +151,7 @@ impl SharedLine {
     pub(crate) fn push(&self, out: &mut Block, game: &Game)
         requires line { IsWholeLine game.now self.now.coalition self.now }
         requires below { self.now.coalition < 2 ^ length game.now.names }
-        ensures { Takes out.old out.new
+        ensures { AppendsInRoom out.old out.new
             (coalition_line game.now self.now.coalition) }
     {
         out.push(b"coalition");

@@ -6,7 +6,7 @@ ghost use Rattle.council_report.specs.Lines.{coalition_line};
 ghost use Rattle.council_report.specs.Inner.Lines.{line_of_size, line_of_member, lines_of_members};
 ghost use Rattle.council_report.specs.Inner.SharedLine.{IsReadyLine};
 ghost use Rattle.council_report.specs.Inner.Ready.{IsReady, CanCount};
-ghost use Rattle.council_report.specs.Inner.Puts.{Puts};
+ghost use Rattle.council_report.specs.Inner.Writing.{WritesText};
 
 use crate::counted::Counted;
 use crate::counted_lines::{push_member, push_size};
@@ -27,7 +27,7 @@ pub(crate) fn put_coalitions<W: Write>(
     requires line { IsReadyLine game.now line.old }
     requires ready { IsReady block.old }
     requires counted { CanCount block.old (flat_map (coalition_line game.now) list.now) }
-    ensures puts { Puts (flat_map (coalition_line game.now) list.now)
+    ensures puts { WritesText (flat_map (coalition_line game.now) list.now)
         (W.contents writer.old) block.old (W.contents writer.new) block.new result }
     ensures line { OnOk result (IsReadyLine game.now line.new) }
 {
@@ -52,7 +52,7 @@ pub(crate) fn put_pieces<W: Write>(
     requires ready { IsReady block.old }
     requires counted { CanCount block.old
         (flat_map (λ p. flat_map (coalition_line game.now) p.now) pieces.now) }
-    ensures { Puts (flat_map (λ p. flat_map (coalition_line game.now) p.now) pieces.now)
+    ensures { WritesText (flat_map (λ p. flat_map (coalition_line game.now) p.now) pieces.now)
         (W.contents writer.old) block.old (W.contents writer.new) block.new result }
 {
     for piece in pieces {
@@ -70,7 +70,7 @@ pub(crate) fn put_sizes<W: Write>(
     requires ready { IsReady block.old }
     requires counted { CanCount block.old
         (flat_map (line_of_size counted.now) (range_with_len 1 counted.now.members)) }
-    ensures { Puts (flat_map (line_of_size counted.now) (range_with_len 1 counted.now.members))
+    ensures { WritesText (flat_map (line_of_size counted.now) (range_with_len 1 counted.now.members))
         (W.contents writer.old) block.old (W.contents writer.new) block.new result }
 {
     for size in 1..counted.members + 1 {
@@ -88,7 +88,7 @@ pub(crate) fn put_members<W: Write>(
 ) -> Result<(), WriteFault>
     requires ready { IsReady block.old }
     requires counted { CanCount block.old (lines_of_members counted.now) }
-    ensures { Puts (lines_of_members counted.now)
+    ensures { WritesText (lines_of_members counted.now)
         (W.contents writer.old) block.old (W.contents writer.new) block.new result }
 {
     for member in 0..counted.members {

@@ -1,6 +1,6 @@
 //! How long a line's names are at a place, and what their members weigh.
 ghost use Rattle.std.specs.Prelude.{◌≡◌, ◌+◌, ◌^◌, ◌<◌, ℕ, length, slice_index};
-ghost use Rattle.coalitions.specs.declared.limits.TheConstants.{RULES};
+ghost use Rattle.council_base.specs.declared.limits.TheConstants.{RULES};
 
 use crate::seat::Seat;
 use council_game::limits;

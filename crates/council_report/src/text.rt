@@ -1,7 +1,7 @@
 //! Fields of a line, each put at the end of the block.
 ghost use Rattle.std.specs.Prelude.{◌≡◌, ◌<◌, ℕ, List, decimal, length};
 ghost use Rattle.council_game.specs.Joined.{GivesEach};
-ghost use Rattle.council_report.specs.Inner.Ready.{Takes};
+ghost use Rattle.council_report.specs.Inner.Ready.{AppendsInRoom};
 ghost use Rattle.council_report.specs.Lines.{with_tab, with_slashes};
 
 use crate::output::Block;
@@ -10,7 +10,7 @@ use itoa::Buffer;
 
 /// A field of bytes.
 pub(crate) fn push_field(out: &mut Block, field: &[u8])
-    ensures { Takes out.old out.new (with_tab field.now) }
+    ensures { AppendsInRoom out.old out.new (with_tab field.now) }
 {
     out.push(b"\t");
     out.push(field);
@@ -18,7 +18,7 @@ pub(crate) fn push_field(out: &mut Block, field: &[u8])
 
 /// A field of one number.
 pub(crate) fn push_number(out: &mut Block, number: u64)
-    ensures { Takes out.old out.new (with_tab (decimal number)) }
+    ensures { AppendsInRoom out.old out.new (with_tab (decimal number)) }
 {
     let mut buffer = Buffer::new();
     push_field(out, buffer.format(number).as_bytes());
@@ -28,7 +28,7 @@ pub(crate) fn push_number(out: &mut Block, number: u64)
 pub(crate) fn push_values<F: Fn(usize) -> u64>(out: &mut Block, rules: usize, value: F)
     requires { (r : ℕ) → r < rules → F.pre value r }
     ensures { (vs : List ℕ) → length vs ≡ rules → GivesEach (F.post value) vs
-        → Takes out.old out.new (with_tab (with_slashes vs)) }
+        → AppendsInRoom out.old out.new (with_tab (with_slashes vs)) }
 {
     out.push(b"\t");
     // memory: what was refused is noted, and a clause says when it is not

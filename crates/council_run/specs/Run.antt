@@ -8,7 +8,7 @@ use Rattle.council_game.specs.Game.{GameView, votes_of}
 use Rattle.council_file.specs.File.{game_of}
 use Rattle.council_file.specs.Reads.{Gave}
 use Rattle.mwc_gather.specs.declared.fault.GatherFault.TheVariants as gather
-use Rattle.mwc_sums.specs.Statute.{IsCountedBySums}
+use Rattle.mwc_closed_count.specs.Statute.{IsCountedBySums}
 use Rattle.council_run.specs.declared.fault.Cause.{Cause}
 use Rattle.council_run.specs.declared.fault.Cause.TheVariants as cause
 use Rattle.council_run.specs.declared.fault.RunFault.{RunFault}

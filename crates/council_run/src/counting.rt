@@ -1,15 +1,15 @@
 //! Counting the coalitions of a game, and keeping none: by sums, and what these leave by worker threads or by one walk.
 ghost use Rattle.std.specs.Prelude.{◌≡◌, IfErr, IfOk, None, false};
-ghost use Rattle.coalitions.specs.declared.report_lines.ReportLines.{ReportLines};
+ghost use Rattle.council_base.specs.declared.report_lines.ReportLines.{ReportLines};
 ghost use Rattle.council_run.specs.Found.{Finds, IsWorkersFault};
 ghost use Rattle.power_index.specs.Tables.{AreCountsOfGame};
 
 use crate::fault::RunFault;
 use crate::found::{Coalitions, Found, on_heap};
-use crate::order::walked;
-use coalitions::{Gate, Memory, Options};
+use crate::order::choose_game;
+use council_base::{Gate, Memory, Options};
 use council_game::Game;
-use mwc_sums::{Coverage, count_by_kinds, count_by_sums};
+use mwc_closed_count::{Coverage, count_by_kinds, count_by_sums};
 use mwc_tally::{TallyFault, tally, tally_slice};
 use mwc_walk::laws::one_slice_is_the_whole;
 use power_index::Counts;
@@ -56,7 +56,7 @@ fn count_by_threads<T: Threads + Wait + Sync, G: Gate + Sync>(
     tally(
         rt,
         alloc,
-        walked(game, &ordered),
+        choose_game(game, &ordered),
         bits,
         options.workers,
         gate,
@@ -81,7 +81,7 @@ fn count_walk(alloc: Global, game: &Game) -> Result<Box<Counts>, Memory>
     one_slice_is_the_whole();
     tallies_are_counts();
     let ordered = game.by_contribution(alloc)?;
-    let walked = walked(game, &ordered);
+    let walked = choose_game(game, &ordered);
     walked.was_checked();
     on_heap(alloc, tally_slice(walked, 0, 0))
 }

@@ -1,15 +1,15 @@
 //! What a report is made from.
 ghost use Rattle.std.specs.Prelude.{◌≡◌, IfErr, IfOk, OnOk, length};
 ghost use Rattle.std.specs.Io.KnownBytes.{Appends};
-ghost use Rattle.coalitions.specs.Lists.{joined};
+ghost use Rattle.council_base.specs.Lists.{joined};
 ghost use Rattle.council_game.specs.Game.{votes_of};
 ghost use Rattle.council_game.specs.Votes.{minimal_coalitions};
-ghost use Rattle.council_report.specs.Outcome.{Falls};
+ghost use Rattle.council_report.specs.Outcome.{StopsPartWay};
 ghost use Rattle.council_report.specs.Report.{report};
 ghost use Rattle.council_run.specs.Found.{HoldAll, IsFound};
 ghost use Rattle.power_index.specs.Tables.{AreCountsOfGame};
 
-use coalitions::{Coalition, Memory, ReportLines};
+use council_base::{Coalition, Memory, ReportLines};
 use council_game::Game;
 use council_report::{ReportFault, write_report_of, write_tally};
 use mwc_gather::Gathered;
@@ -72,7 +72,7 @@ fn write_pieces<W: Write>(
     ensures ok { OnOk result
         (Appends (W.contents writer.old) (W.contents writer.new) (report lines game.now)) }
     ensures err { IfErr result
-        (Falls (W.contents writer.old) (W.contents writer.new) (report lines game.now)) }
+        (StopsPartWay (W.contents writer.old) (W.contents writer.new) (report lines game.now)) }
 {
     game.was_checked();
     minimal_coalitions_can_be_counted();
@@ -97,7 +97,7 @@ impl Found {
         ensures ok { OnOk result
             (Appends (W.contents writer.old) (W.contents writer.new) (report lines game.now)) }
         ensures err { IfErr result
-            (Falls (W.contents writer.old) (W.contents writer.new) (report lines game.now)) }
+            (StopsPartWay (W.contents writer.old) (W.contents writer.new) (report lines game.now)) }
     {
         match &self.coalitions {
             Coalitions::Counted => write_tally(alloc, game, &self.counts, lines, writer),

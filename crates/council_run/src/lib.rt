@@ -15,7 +15,7 @@ mod number;
 mod order;
 mod runs;
 
-pub use coalitions::{Gate, NoGate, Options, limits};
+pub use council_base::{Gate, NoGate, Options, limits};
 pub use counting::{LEAST_BITS, count_by_walk, count_by_workers};
 pub use fault::{Cause, RunFault, status};
 pub use found::{Coalitions, Found};

@@ -1,7 +1,7 @@
 //! Listing the coalitions of a game: by worker threads, or by one walk.
 ghost use Rattle.std.specs.Prelude.{◌≡◌, ◌≤◌, Err, IfErr, IfOk, IfSome, Some, length, unwrap_or};
-ghost use Rattle.coalitions.specs.declared.limits.TheConstants.{WORKERS};
-ghost use Rattle.coalitions.specs.declared.report_lines.ReportLines.{ReportLines};
+ghost use Rattle.council_base.specs.declared.limits.TheConstants.{WORKERS};
+ghost use Rattle.council_base.specs.declared.report_lines.ReportLines.{ReportLines};
 ghost use Rattle.council_game.specs.Contribution.{by_contribution};
 ghost use Rattle.council_run.specs.Found.{AreListed, Finds, HoldAll, IsWorkersFault};
 ghost use Rattle.council_run.specs.Run.{IsWithin};
@@ -9,8 +9,8 @@ ghost use Rattle.power_index.specs.Tables.{AreCountsOfGame};
 
 use crate::fault::RunFault;
 use crate::found::{Coalitions, Found, on_heap, pieces};
-use crate::order::walked;
-use coalitions::{Gate, Memory, Options};
+use crate::order::choose_game;
+use council_base::{Gate, Memory, Options};
 use council_game::Game;
 use mwc_gather::{GatherFault, Gathered, Guarded, gather};
 use mwc_tally::tally_pieces;
@@ -104,7 +104,7 @@ pub fn list_by_workers<T: Threads + Wait + Sync, G: Gate + Sync>(
         → Finds (Some options.now.most) lines game.now result }
 {
     let ordered = game.by_contribution(alloc)?;
-    let walked = walked(game, &ordered);
+    let walked = choose_game(game, &ordered);
     let gathered = gather_all(rt, alloc, walked, options, gate)?;
     let counts = count_gathered(rt, alloc, walked, &gathered, options.workers)?;
     let coalitions = keep(alloc, game, ordered, gathered, options.list)?;
@@ -122,7 +122,7 @@ pub fn list_by_walk(alloc: Global, game: &Game, most: u32, list: bool) -> Result
 {
     minimal_coalitions_can_be_counted();
     let ordered = game.by_contribution(alloc)?;
-    let walked = walked(game, &ordered);
+    let walked = choose_game(game, &ordered);
     let Some(mut all) = list_all(alloc, walked, most)? else {
         return Err(RunFault::from(GatherFault::TooMany));
     };

@@ -7,7 +7,7 @@ ghost use Rattle.council_run.specs.Run.{IsNumberOf};
 
 use council_file::parse_game;
 use council_game::{Game, GameFault};
-use mwc_sums::{Coverage, count_by_sums};
+use mwc_closed_count::{Coverage, count_by_sums};
 use std::alloc::Global;
 
 /// Returns how many minimal winning coalitions a game has, if sums count all of it.

@@ -11,7 +11,7 @@ use power_index::laws::places_change_no_count;
 
 /// Returns the game to walk over: the one in the order of contribution, if there is one. It has as many minimal
 /// winning coalitions as the game itself, and its counts are those of the game.
-pub(crate) fn walked<'a>(game: &'a Game, ordered: &'a Option<Game>) -> &'a Game
+pub(crate) fn choose_game<'a>(game: &'a Game, ordered: &'a Option<Game>) -> &'a Game
     requires { IfSome ordered.now (λ h. h ≡ by_contribution game.now) }
     ensures game { result.now ≡ unwrap_or ordered.now game.now }
     ensures as_many { count_of result.now ≡ count_of game.now }

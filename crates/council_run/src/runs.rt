@@ -1,6 +1,6 @@
 //! Runs: from the bytes of a game to its report.
 ghost use Rattle.std.specs.Prelude.{◌≡◌, ℕ, Err, IfErr, IfOk, List, None, Ok, Option, Some};
-ghost use Rattle.coalitions.specs.Options.{lines_of, without_list};
+ghost use Rattle.council_base.specs.Options.{lines_of, without_list};
 ghost use Rattle.council_report.specs.Report.{report};
 ghost use Rattle.council_run.specs.Found.{Finds, IsFound};
 ghost use Rattle.council_run.specs.Run.{IsOutcome, Reads};
@@ -12,7 +12,7 @@ use crate::counting::count_by_workers;
 use crate::fault::RunFault;
 use crate::found::Found;
 use crate::listing::list_by_workers;
-use coalitions::{Gate, Options, ReportLines};
+use council_base::{Gate, Options, ReportLines};
 use council_file::read_game;
 use council_game::Game;
 use std::alloc::Global;

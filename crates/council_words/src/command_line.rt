@@ -2,7 +2,7 @@
 use crate::words::{Arguments, WordsFault, read_words};
 use clap::Error;
 use clap::error::ErrorKind;
-use coalitions::sanitize;
+use council_base::sanitize;
 use std::alloc::{AllocError, Global};
 use std::env::{Env, FillError};
 use std::io;
@@ -84,17 +84,17 @@ fn refuse(rt: &(impl Print + Eprint), error: &Error) -> ExitCode {
 }
 
 /// Words as they can stand in a line.
-fn harmless(alloc: Global, words: &[String]) -> Result<Vec<String>, AllocError> {
-    let mut harmless = Vec::new(alloc);
+fn sanitize_words(alloc: Global, words: &[String]) -> Result<Vec<String>, AllocError> {
+    let mut sanitize_words = Vec::new(alloc);
     for word in words {
-        harmless.push(format!(in alloc; "{}", sanitize(word.as_str(), usize::MAX))?)?;
+        sanitize_words.push(format!(in alloc; "{}", sanitize(word.as_str(), usize::MAX))?)?;
     }
-    Ok(harmless)
+    Ok(sanitize_words)
 }
 
 /// Prints what the parser says of words that it refuses, or answers by a text: of the words as they can stand in a line.
 fn refuse_words(rt: &(impl AllocGlobal + Print + Eprint), words: &[String]) -> ExitCode {
-    let Ok(words) = harmless(rt.alloc(), words) else {
+    let Ok(words) = sanitize_words(rt.alloc(), words) else {
         return out_of_memory(rt);
     };
     match read_words(rt.alloc(), words.as_slice()) {

@@ -1,6 +1,6 @@
 //! The words of the command line.
 use clap::{Arg, ArgAction, ArgMatches, Command, Error, value_parser};
-use coalitions::{Options, limits};
+use council_base::{Options, limits};
 use std::alloc::{AllocError, Global};
 
 /// Why there is nothing to do for a command line.
@@ -164,7 +164,7 @@ fn flag<'a>(
 }
 
 /// What the command takes, in the order of `--help`.
-fn arguments_taken<'a>(alloc: Global) -> Result<Vec<Arg<'a>>, AllocError> {
+fn make_arguments<'a>(alloc: Global) -> Result<Vec<Arg<'a>>, AllocError> {
     let file = "The game file; none, or -, is standard input";
     let mut arguments = Vec::new(alloc);
     arguments.push(Arg::new(alloc, "FILE").help(file))?;
@@ -210,7 +210,7 @@ fn options_of(matches: &ArgMatches<'_>) -> Option<Options> {
 
 /// What the parser makes of the words.
 fn matches_of<'a>(alloc: Global, words: &'a [String]) -> Result<ArgMatches<'a>, Error> {
-    let taken = arguments_taken(alloc)?;
+    let taken = make_arguments(alloc)?;
     Command::new(alloc, "council")
         .version(VERSION)
         .about(ABOUT)

@@ -3,7 +3,7 @@ ghost use Rattle.council_game.specs.Game.{votes_of};
 ghost use Rattle.council_game.specs.Renaming.{exchanged};
 ghost use Rattle.council_game.specs.Votes.{minimal_coalitions, rule_at};
 ghost use Rattle.game_calls.specs.Quotas.{with_weights};
-ghost use Rattle.power_index.specs.Both.{indices_of_member};
+ghost use Rattle.power_index.specs.MemberIndices.{indices_of_member};
 ghost use Rattle.std.specs.List.{range_with_len};
 ghost use Rattle.std.specs.Prelude.{◌≡◌, ◌<◌, ℕ, IfOk, length, map, slice_index};
 

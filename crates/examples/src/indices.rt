@@ -1,5 +1,5 @@
 //! The indices of a game.
-ghost use Rattle.coalitions.specs.declared.limits.TheConstants.{COALITIONS};
+ghost use Rattle.council_base.specs.declared.limits.TheConstants.{COALITIONS};
 ghost use Rattle.council_file.specs.File.{game_of};
 ghost use Rattle.council_game.specs.Game.{GameView, votes_of};
 ghost use Rattle.council_game.specs.Members.{members};

@@ -1,5 +1,5 @@
 //! Questions to the list of minimal winning coalitions.
-ghost use Rattle.coalitions.specs.declared.limits.TheConstants.{COALITIONS, PLAIN_MEMBERS};
+ghost use Rattle.council_base.specs.declared.limits.TheConstants.{COALITIONS, PLAIN_MEMBERS};
 ghost use Rattle.council_game.specs.Game.{votes_of};
 ghost use Rattle.council_game.specs.Members.{contains};
 ghost use Rattle.council_game.specs.Votes.{minimal_coalitions};

@@ -1,11 +1,11 @@
 //! Vetoers, members of equal power, and members who weigh the same.
-ghost use Rattle.coalitions.specs.declared.limits.TheConstants.{COALITIONS};
+ghost use Rattle.council_base.specs.declared.limits.TheConstants.{COALITIONS};
 ghost use Rattle.council_game.specs.Game.{votes_of};
 ghost use Rattle.council_game.specs.Members.{contains, members};
 ghost use Rattle.council_game.specs.Renaming.{AreSymmetric, HaveEqualWeights};
 ghost use Rattle.council_game.specs.Votes.{minimal_coalitions};
 ghost use Rattle.game_calls.specs.Winning.{IsVetoer};
-ghost use Rattle.power_index.specs.Both.{indices_of_member};
+ghost use Rattle.power_index.specs.MemberIndices.{indices_of_member};
 ghost use Rattle.std.specs.List.{filter};
 ghost use Rattle.std.specs.Prelude.{◌≡◌, ◌↔◌, ◌<◌, ℕ, IfNone, IfOk, IfSome, IsTrue, length, true};
 

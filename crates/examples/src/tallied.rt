@@ -1,12 +1,12 @@
 //! Games with more coalitions than fit into memory.
-ghost use Rattle.coalitions.specs.declared.limits.TheConstants.{WORKERS};
+ghost use Rattle.council_base.specs.declared.limits.TheConstants.{WORKERS};
 ghost use Rattle.council_game.specs.Game.{votes_of};
 ghost use Rattle.council_game.specs.Votes.{minimal_coalitions};
 ghost use Rattle.power_index.specs.Fractions.{lowest_terms};
 ghost use Rattle.power_index.specs.Indices.{deegan_packel};
 ghost use Rattle.std.specs.Prelude.{◌≡◌, ◌≤◌, ◌<◌, IfOk, length};
 
-use coalitions::NoGate;
+use council_base::NoGate;
 use council_game::{Game, limits};
 use mwc_tally::{TallyFault, tally};
 use power_index::laws::minimal_coalitions_can_be_counted;

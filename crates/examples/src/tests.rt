@@ -30,7 +30,7 @@ use std::process::Abort;
 const FIVE: &[u8] = b"[51; 35, 20, 15, 15, 15]";
 
 /// Fails with the label if what was found is not what was wanted.
-fn same<T: PartialEq + Debug + Drop, L: Debug + Drop>(
+fn assert_same<T: PartialEq + Debug + Drop, L: Debug + Drop>(
     rt: &impl Abort,
     found: T,
     wanted: T,
@@ -70,9 +70,9 @@ fn two_rules(rt: &impl Abort, alloc: Global) -> Game
 }
 
 fn assert_index(rt: &impl Abort, index: Index, top: u128, bottom: u128, decimals: &[u8; 8]) {
-    same(rt, index.top(), top, "index.top");
-    same(rt, index.bottom(), bottom, "index.bottom");
-    same(rt, index.decimals(), *decimals, "index.decimals");
+    assert_same(rt, index.top(), top, "index.top");
+    assert_same(rt, index.bottom(), bottom, "index.bottom");
+    assert_same(rt, index.decimals(), *decimals, "index.decimals");
 }
 
 /// The game of a file.
@@ -96,22 +96,22 @@ fn indices_of_bytes(rt: HostRuntime) {
     assert_index(&rt, first, 3, 10, b"0.300000");
     assert_index(&rt, second, 4, 15, b"0.266666");
     let both = [second, first];
-    same(&rt, most_powerful(&both), Some(1), "most_powerful");
+    assert_same(&rt, most_powerful(&both), Some(1), "most_powerful");
     let wrong = first_wrong_row(&both, &[(8, 30), (31, 100)]);
-    same(&rt, wrong, Some(1), "first_wrong_row");
+    assert_same(&rt, wrong, Some(1), "first_wrong_row");
 }
 
 #[test]
 fn the_first_is_not_the_lightest(rt: HostRuntime) {
     let game = parsed(&rt, rt.alloc(), b"[51; 40, 30, 11, 11]");
-    same(
+    assert_same(
         &rt,
         lightest(&game),
         Some(Coalition::of_mask(10)),
         "lightest",
     );
     for (other, wanted) in [("3", Some(true)), ("1", Some(false)), ("5", None)] {
-        same(&rt, win_together(&game, "1", other), wanted, other);
+        assert_same(&rt, win_together(&game, "1", other), wanted, other);
     }
 }
 
@@ -130,13 +130,13 @@ fn members_of_coalitions(rt: HostRuntime) {
     assert!(rt; members.as_slice() == [0, 1].as_slice());
     assert!(rt; !has_member(&game, outsiders(&game, two), 0));
     assert!(rt; has_member(&game, outsiders(&game, two), 2));
-    same(
+    assert_same(
         &rt,
         with_member(&game, without_member(&game, two, 0), 0),
         two,
         "one member less and more",
     );
-    same(&rt, first_unnamed(&game, &["Bo", "Di"]), Some(1), "Di");
+    assert_same(&rt, first_unnamed(&game, &["Bo", "Di"]), Some(1), "Di");
     assert!(rt; is_blocking(&game, two));
     let answer = critical_of_named(alloc, &game, &["Cleo", "Ada", "Bo"]).expect(&rt, "memory");
     let critical = answer.expect(&rt, "members of these names");
@@ -156,21 +156,21 @@ fn power_of_members(rt: HostRuntime) {
     let needed = vetoers_in_order(alloc, &game).expect(&rt, "memory");
     assert!(rt; needed.as_slice() == [0].as_slice());
     let equal = have_equal_power(alloc, &game, 1, 2).expect(&rt, "memory");
-    same(&rt, equal, Some(true), "have_equal_power");
+    assert_same(&rt, equal, Some(true), "have_equal_power");
     let game = five(&rt, alloc);
-    same(
+    assert_same(
         &rt,
         smallest(&game),
         Some(Coalition::of_mask(24)),
         "smallest",
     );
-    same(&rt, weigh_the_same(&game, 0, 1), false, "weigh_the_same");
-    same(&rt, weigh_the_same(&game, 2, 4), true, "weigh_the_same 2");
+    assert_same(&rt, weigh_the_same(&game, 0, 1), false, "weigh_the_same");
+    assert_same(&rt, weigh_the_same(&game, 2, 4), true, "weigh_the_same 2");
     assert!(rt; game.rules() == 1);
     let made = exchange_weights(alloc, &game, 0, 4).expect(&rt, "memory");
     assert!(rt; made.members() == 5);
-    same(&rt, made.weight(0), 15, "exchange_weights");
-    same(&rt, made.weight(4), 35, "exchange_weights 2");
+    assert_same(&rt, made.weight(0), 15, "exchange_weights");
+    assert_same(&rt, made.weight(4), 35, "exchange_weights 2");
 }
 
 #[test]
@@ -179,16 +179,16 @@ fn other_quotas(rt: HostRuntime) {
     let game = board(&rt, alloc);
     assert!(rt; game.total() == 100);
     let all = at_quota(alloc, &game, 100).expect(&rt, "memory");
-    same(&rt, all.quota(), 100, "quota");
-    same(&rt, count_by_walk(&all), 1, "count_by_walk");
+    assert_same(&rt, all.quota(), 100, "quota");
+    assert_same(&rt, count_by_walk(&all), 1, "count_by_walk");
 }
 
 #[test]
 fn a_game_of_two_rules(rt: HostRuntime) {
     let alloc = rt.alloc();
     let game = two_rules(&rt, alloc);
-    same(&rt, count_by_walk(&game), 2, "count_by_walk");
-    same(
+    assert_same(&rt, count_by_walk(&game), 2, "count_by_walk");
+    assert_same(
         &rt,
         is_dummy(alloc, &game, 2).expect(&rt, "memory"),
         Some(false),
@@ -209,19 +209,19 @@ fn a_dummy_and_a_share(rt: HostRuntime) {
     assert!(rt; weights.len() == names.len());
     let game = of_one_rule(alloc, names, weights, 12).expect(&rt, "memory");
     assert!(rt; game.members() == 6);
-    same(
+    assert_same(
         &rt,
         is_dummy(alloc, &game, 0).expect(&rt, "memory"),
         Some(false),
         "is_dummy",
     );
-    same(
+    assert_same(
         &rt,
         is_dummy(alloc, &game, 5).expect(&rt, "memory"),
         Some(true),
         "is_dummy 2",
     );
-    same(
+    assert_same(
         &rt,
         quota_in_millionths(&game),
         705_882,
@@ -249,12 +249,12 @@ fn coalitions_with_a_member(rt: HostRuntime) {
     assert!(rt; list.len() == 5);
     let answer = listed_twice(alloc, &game).expect(&rt, "memory");
     let (walked, tried) = answer.expect(&rt, "a list of few");
-    same(&rt, walked.as_slice(), list.as_slice(), "walked");
-    same(&rt, tried.as_slice(), list.as_slice(), "tried");
+    assert_same(&rt, walked.as_slice(), list.as_slice(), "walked");
+    assert_same(&rt, tried.as_slice(), list.as_slice(), "tried");
     let found = coalitions_with(alloc, &game, &list, 1).expect(&rt, "memory");
     assert!(rt; found.len() == 2);
-    same(&rt, found[0], Coalition::of_mask(24), "found[0]");
-    same(&rt, found[1], Coalition::of_mask(15), "found[1]");
+    assert_same(&rt, found[0], Coalition::of_mask(24), "found[0]");
+    assert_same(&rt, found[1], Coalition::of_mask(15), "found[1]");
 }
 
 #[test]
@@ -269,14 +269,14 @@ fn words_to_another_thread(rt: HostRuntime) {
     let answer = through_a_ring(&rt, rt.alloc(), words).expect(&rt, "memory");
     let mut rest = answer.expect(&rt, "a thread");
     for mask in 0..65_536 {
-        same(
+        assert_same(
             &rt,
             rest.next(),
             Some(Word::One(Coalition::of_mask(mask))),
             "rest.next",
         );
     }
-    same(&rt, rest.next(), None, "rest.next 2");
+    assert_same(&rt, rest.next(), None, "rest.next 2");
 }
 
 #[test]
@@ -284,7 +284,7 @@ fn words_of_a_slice(rt: HostRuntime) {
     let game = five(&rt, rt.alloc());
     let passes = Passes::none();
     let words = words_of_slice(&rt, rt.alloc(), &game, &passes, 2, 1).expect(&rt, "words");
-    same(&rt, passes.count(), 1, "passes.count");
+    assert_same(&rt, passes.count(), 1, "passes.count");
     let wanted = [
         Word::Open(1),
         Word::One(Coalition::of_mask(22)),
@@ -292,7 +292,7 @@ fn words_of_a_slice(rt: HostRuntime) {
         Word::One(Coalition::of_mask(19)),
         Word::Done(1),
     ];
-    same(&rt, words.as_slice(), wanted.as_slice(), "words");
+    assert_same(&rt, words.as_slice(), wanted.as_slice(), "words");
 }
 
 #[test]

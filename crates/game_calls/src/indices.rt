@@ -1,8 +1,8 @@
 //! The indices of a member.
-ghost use Rattle.coalitions.specs.declared.limits.TheConstants.{COALITIONS};
+ghost use Rattle.council_base.specs.declared.limits.TheConstants.{COALITIONS};
 ghost use Rattle.council_game.specs.Game.{votes_of};
 ghost use Rattle.council_game.specs.Votes.{minimal_coalitions};
-ghost use Rattle.power_index.specs.Both.{indices_of_member};
+ghost use Rattle.power_index.specs.MemberIndices.{indices_of_member};
 ghost use Rattle.std.specs.Prelude.{◌≡◌, ◌<◌, IfNone, IfOk, IfSome, length};
 
 use council_game::{Game, Memory, limits};

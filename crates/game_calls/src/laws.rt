@@ -4,7 +4,7 @@
 //! ```text
 //! game_calls::laws::lowest_terms_add_up();
 //! ```
-ghost use Rattle.coalitions.specs.Coalitions.{has};
+ghost use Rattle.council_base.specs.Coalitions.{has};
 ghost use Rattle.council_game.specs.Game.{GameView, IsGame, AreNonemptyCoalitions, first_weights, made_game, total, votes_of};
 ghost use Rattle.council_game.specs.Members.{HaveSameMembers, IsSubsetOf, size_of};
 ghost use Rattle.council_game.specs.Ranks.{rank_places};

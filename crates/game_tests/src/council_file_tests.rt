@@ -3,7 +3,7 @@ mod reads;
 mod refusals;
 mod text;
 
-use crate::helpers::same;
+use crate::helpers::assert_same;
 use council_file::{parse_game, read_game, write_notation};
 use council_game::{Game, GameFault};
 use std::alloc::Global;
@@ -64,12 +64,12 @@ fn shown(rt: &impl Abort, alloc: Global, answer: Result<Game, GameFault>) -> Str
 /// The text answers so.
 fn check(rt: &impl Abort, alloc: Global, text: &str, wanted: &str) {
     let found = shown(rt, alloc, parse_game(alloc, text.as_bytes()));
-    same(rt, found.as_str(), wanted, text);
+    assert_same(rt, found.as_str(), wanted, text);
 }
 
 /// The bytes have this fault, or none.
 fn check_fault(rt: &impl Abort, alloc: Global, bytes: &[u8], wanted: Option<GameFault>) {
-    same(rt, parse_game(alloc, bytes).err(), wanted, "fault");
+    assert_same(rt, parse_game(alloc, bytes).err(), wanted, "fault");
 }
 
 #[test]
@@ -99,7 +99,7 @@ fn beginnings_of_one_file(rt: HostRuntime) {
         text.push_str(more).expect(&rt, "room");
         check(&rt, alloc, text.as_str(), wanted);
     }
-    same(&rt, text.as_str(), BOARD, "the whole file");
+    assert_same(&rt, text.as_str(), BOARD, "the whole file");
 }
 
 /// Gives bytes, at most `at_once` at once, and then the end or an error.
@@ -140,7 +140,7 @@ fn check_read(
         error,
     };
     let said = shown(rt, alloc, read_game(alloc, &mut reader));
-    same(rt, said.as_str(), wanted, (left.len(), at_once));
+    assert_same(rt, said.as_str(), wanted, (left.len(), at_once));
 }
 
 /// Gives a blank at each read, without end, and counts the reads.
@@ -166,7 +166,7 @@ fn reads_65_537_times_at_most(rt: HostRuntime) {
     let mut reader = Blanks { reads: 0 };
     let said = shown(&rt, alloc, read_game(alloc, &mut reader));
     let wanted = ("the game file is longer than 65536 bytes", 65_537);
-    same(&rt, (said.as_str(), reader.reads), wanted, "blanks");
+    assert_same(&rt, (said.as_str(), reader.reads), wanted, "blanks");
 }
 
 #[test]
@@ -254,5 +254,5 @@ fn notation_stands_behind_what_is_there(rt: HostRuntime) {
     out.push(b'x').expect(&rt, "room");
     assert!(rt; 0 < game.rules());
     write_notation(&game, 0, &mut out).expect(&rt, "room");
-    same(&rt, out.as_slice(), b"x[51; 50, 49, 1]", "notation");
+    assert_same(&rt, out.as_slice(), b"x[51; 50, 49, 1]", "notation");
 }

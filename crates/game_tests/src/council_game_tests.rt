@@ -1,7 +1,7 @@
 //! Worked games.
 mod refusals;
 
-use crate::helpers::{game_of_rules, same, say};
+use crate::helpers::{assert_same, game_of_rules, print_line};
 use council_game::{Coalition, Game, GameFault, Rule, plain_list};
 use std::alloc::Global;
 use std::io::Print;
@@ -51,15 +51,15 @@ fn answer_of_two<R: Abort + Print>(
     let mut rules = Vec::new(alloc);
     rules.push(one).expect(rt, "room");
     rules.push(two).expect(rt, "room");
-    say(rt, "call");
+    print_line(rt, "call");
     Game::with_rules(alloc, None, names, rules)
 }
 
 /// The coalitions have these rank masks.
 fn are_masks(rt: &impl Abort, list: &[Coalition], masks: &[u64]) {
-    same(rt, list.len(), masks.len(), "coalitions");
+    assert_same(rt, list.len(), masks.len(), "coalitions");
     for (coalition, mask) in list.iter().zip(masks) {
-        same(rt, coalition.mask(), *mask, "a coalition");
+        assert_same(rt, coalition.mask(), *mask, "a coalition");
     }
 }
 
@@ -112,16 +112,16 @@ fn check_readers(rt: &impl Abort, game: &Game) {
         game.rule_total(1),
         game.rule_weight(1, 0),
     ];
-    same(rt, found, [5, 8, 3, 3, 4, 1], "quotas, totals and weights");
+    assert_same(rt, found, [5, 8, 3, 3, 4, 1], "quotas, totals and weights");
     let coalition = Coalition::of_mask(14);
     let found = [
         game.weight_of(coalition),
         game.rule_weight_of(0, coalition),
         game.rule_weight_of(1, coalition),
     ];
-    same(rt, found, [7, 7, 3], "a coalition's weights");
+    assert_same(rt, found, [7, 7, 3], "a coalition's weights");
     let found = [game.wins(coalition), game.is_minimal(coalition)];
-    same(
+    assert_same(
         rt,
         found,
         [true, true],
@@ -143,7 +143,7 @@ fn check_place(rt: &impl Abort, game: &Game, member: usize, place: usize) {
     assert!(rt; member < game.members());
     assert!(rt; place < game.members());
     let found = (game.member_at(place), game.place_of(member));
-    same(rt, found, (member, place), "member and place");
+    assert_same(rt, found, (member, place), "member and place");
 }
 
 #[test]
@@ -153,7 +153,7 @@ fn ranks_members_whatever_their_order(rt: HostRuntime) {
         check_place(&rt, &game, member, place);
     }
     assert!(rt; game.members() == 3);
-    same(
+    assert_same(
         &rt,
         (game.title(), game.name(1)),
         (None, "B"),
@@ -164,13 +164,13 @@ fn ranks_members_whatever_their_order(rt: HostRuntime) {
 #[test]
 fn coalitions_have_their_members(rt: HostRuntime) {
     let coalition = Coalition::of_mask(22);
-    same(
+    assert_same(
         &rt,
         (coalition.mask(), coalition.size()),
         (22, 3),
         "mask and size",
     );
-    same(
+    assert_same(
         &rt,
         [coalition.has(5, 0), coalition.has(5, 1)],
         [true, false],
@@ -180,7 +180,7 @@ fn coalitions_have_their_members(rt: HostRuntime) {
         coalition.without(5, 0).mask(),
         coalition.without(5, 1).mask(),
     ];
-    same(&rt, without, [6, 22], "without a member");
+    assert_same(&rt, without, [6, 22], "without a member");
 }
 
 #[test]
@@ -204,7 +204,7 @@ fn refuses_in_order(rt: HostRuntime) {
         ),
     ] {
         let found = answer(&rt, rt.alloc(), quota, weights).err();
-        same(
+        assert_same(
             &rt,
             (quota, weights, found),
             (quota, weights, wanted),
@@ -217,8 +217,8 @@ fn refuses_in_order(rt: HostRuntime) {
 fn coalitions_by_members(rt: HostRuntime) {
     let game = game(&rt, rt.alloc(), 5, &[1, 4, 2]);
     assert!(rt; game.members() == 3);
-    same(&rt, game.member_named("C"), Some(2), "C");
-    same(&rt, game.member_named("D"), None, "D");
+    assert_same(&rt, game.member_named("C"), Some(2), "C");
+    assert_same(&rt, game.member_named("D"), None, "D");
     let first_two = game.coalition_of(&[0, 1]);
     for (found, wanted) in [
         (first_two, 5),
@@ -226,7 +226,7 @@ fn coalitions_by_members(rt: HostRuntime) {
         (first_two.with(3, 1), 7),
         (first_two.with(3, 0), 5),
     ] {
-        same(&rt, found.mask(), wanted, "mask");
+        assert_same(&rt, found.mask(), wanted, "mask");
     }
 }
 
@@ -248,6 +248,6 @@ fn faults_have_their_numbers(rt: HostRuntime) {
         (GameFault::Rules, 13),
         (GameFault::Memory, 14),
     ] {
-        same(&rt, (fault, fault.number()), (fault, number), "number");
+        assert_same(&rt, (fault, fault.number()), (fault, number), "number");
     }
 }

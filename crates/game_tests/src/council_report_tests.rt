@@ -5,7 +5,7 @@ mod refusals;
 ghost use Rattle.std.specs.Prelude.{◌≡◌, length};
 ghost use Rattle.council_game.specs.Game.{AreNonemptyCoalitions};
 
-use crate::helpers::same;
+use crate::helpers::assert_same;
 use council_file::parse_game;
 use council_game::{Coalition, Game, plain_list};
 use council_report::{ReportFault, ReportLines, write_report, write_report_of, write_tally};
@@ -194,7 +194,7 @@ fn lists_in_any_order(rt: HostRuntime) {
             65_536 < wanted.len(),
             written.starts_with(&wanted),
         );
-        same(
+        assert_same(
             &rt,
             found,
             (step, Ok(written.len() as u64), true, true),
@@ -228,7 +228,7 @@ fn lists_in_pieces(rt: HostRuntime) {
     let wanted = lines(&rt, alloc, HEADING_TWICE, &first);
     let wanted = lines(&rt, alloc, &wanted, &second);
     let found = (answer, written.starts_with(&wanted));
-    same(&rt, found, (Ok(written.len() as u64), true), "two pieces");
+    assert_same(&rt, found, (Ok(written.len() as u64), true), "two pieces");
 }
 
 #[test]
@@ -249,8 +249,8 @@ fn tallies_as_it_reports(rt: HostRuntime) {
     let counts = Counts::of(&game, &list);
     let second = write_tally(alloc, &game, &counts, shown, &mut tallied);
     let length = Ok(reported.len() as u64);
-    same(&rt, (first, second), (length, length), "lengths");
-    same(&rt, tallied.as_slice(), reported.as_slice(), "reports");
+    assert_same(&rt, (first, second), (length, length), "lengths");
+    assert_same(&rt, tallied.as_slice(), reported.as_slice(), "reports");
 }
 
 /// A writer that takes `room` bytes, at most `step` a call, fails once, and would then take all. It
@@ -326,14 +326,14 @@ fn tells_what_a_writer_took_of_many_blocks(rt: HostRuntime) {
             let took = writer.taken.as_slice() == &wanted[..room];
             let found = (step, answer, took, writer.flushes, writer.after);
             let fault = Err(ReportFault::Write { written });
-            same(&rt, found, (step, fault, true, 0, 0), "a writer that fails");
+            assert_same(&rt, found, (step, fault, true, 0, 0), "a writer that fails");
         }
         let mut writer = Narrow::new(alloc, 1_000_000, step);
         let answer = write_report(alloc, &game, &list, LIST, &mut writer);
         let took = writer.taken.starts_with(&wanted);
         let found = (step, answer, took, writer.flushes, writer.after);
         let length = Ok(writer.taken.len() as u64);
-        same(
+        assert_same(
             &rt,
             found,
             (step, length, true, 1, 0),

@@ -52,7 +52,7 @@ pub(crate) const KINDS: [ErrorKind; 42] = [
 ];
 
 /// Fails with the label where what was found is not what was wanted.
-pub(crate) fn same<T: PartialEq + Debug + Drop, L: Debug + Drop>(
+pub(crate) fn assert_same<T: PartialEq + Debug + Drop, L: Debug + Drop>(
     rt: &impl Abort,
     found: T,
     wanted: T,
@@ -61,8 +61,8 @@ pub(crate) fn same<T: PartialEq + Debug + Drop, L: Debug + Drop>(
     assert_eq!(rt; found, wanted, "{label:?}");
 }
 
-/// Prints a line, for `tests/refusals.sh`.
-pub(crate) fn say<R: Abort + Print>(rt: &R, line: &str) {
+/// Prints a line, for `tests/call_allocations.sh`.
+pub(crate) fn print_line<R: Abort + Print>(rt: &R, line: &str) {
     rt.println(line).expect(rt, "the line is printed");
 }
 

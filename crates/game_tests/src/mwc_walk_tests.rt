@@ -4,7 +4,7 @@ mod registers;
 mod statutes;
 mod visits;
 
-use crate::helpers::{game, game_of, game_of_rules, same};
+use crate::helpers::{assert_same, game, game_of, game_of_rules};
 use council_game::{Coalition, Game, Rule, plain_list};
 use mwc_walk::{Seek, Walk, list_all, list_slice, slice_count};
 use std::alloc::Global;
@@ -120,9 +120,9 @@ fn slices(rt: &impl Abort, alloc: Global, game: &Game, bits: u8) -> Vec<Coalitio
 
 /// Fails with the label where the coalitions are not those of these masks, in that order.
 fn are_masks(rt: &impl Abort, list: &[Coalition], masks: &[u64], label: &str) {
-    same(rt, list.len(), masks.len(), label);
+    assert_same(rt, list.len(), masks.len(), label);
     for (coalition, mask) in list.iter().zip(masks) {
-        same(rt, coalition.mask(), *mask, label);
+        assert_same(rt, coalition.mask(), *mask, label);
     }
 }
 
@@ -142,7 +142,7 @@ fn count(walk: &mut Walk<'_>) -> u64 {
 fn slices_of_a_worked_game(rt: HostRuntime) {
     let game = worked(&rt, rt.alloc());
     assert!(rt; game.members() == 5);
-    same(&rt, slice_count(2), 4, "slices at two bits");
+    assert_same(&rt, slice_count(2), 4, "slices at two bits");
     let rows: [(u16, u32, &[u64]); 5] = [
         (0, 9, &[24]),
         (1, 9, &[22, 21, 19]),
@@ -162,7 +162,7 @@ fn all_of_a_worked_game(rt: HostRuntime) {
     for most in [0, 1, 4, 5, 6, 4_000_000] {
         match list_all(rt.alloc(), &game, most).expect(&rt, "memory") {
             Some(all) => are_masks(&rt, &all, &FIVE, "all"),
-            None => same(&rt, most < 5, true, "more than asked for"),
+            None => assert_same(&rt, most < 5, true, "more than asked for"),
         }
     }
 }
@@ -176,8 +176,8 @@ fn forty_equal_members(rt: HostRuntime) {
     for (statute, most, listed, walked) in rows {
         let game = game_by_groups(&rt, rt.alloc(), &[0], &statute);
         let list = list_slice(rt.alloc(), &game, 0, 0, most).expect(&rt, "a list");
-        same(&rt, list.len(), listed, "coalitions listed");
-        same(&rt, count(&mut Walk::new(&game, 0, 0)), walked, "walked");
+        assert_same(&rt, list.len(), listed, "coalitions listed");
+        assert_same(&rt, count(&mut Walk::new(&game, 0, 0)), walked, "walked");
     }
 }
 
@@ -189,7 +189,7 @@ fn all_lists_agree(rt: &impl Abort, alloc: Global, game: &Game) {
     let whole = list_all(alloc, game, 4_000_000)
         .expect(rt, "memory")
         .expect(rt, "no more than the limit");
-    same(
+    assert_same(
         rt,
         whole.as_slice() == plain.as_slice(),
         true,
@@ -198,7 +198,7 @@ fn all_lists_agree(rt: &impl Abort, alloc: Global, game: &Game) {
     for bits in 0..11 {
         if bits as usize <= game.members() {
             let all = slices(rt, alloc, game, bits);
-            same(
+            assert_same(
                 rt,
                 all.as_slice() == plain.as_slice(),
                 true,
@@ -239,14 +239,14 @@ fn counts_of_slices(rt: &impl Abort, alloc: Global, game: &Game, counts: &[usize
     for (j, wanted) in (0..).zip(counts) {
         assert!(rt; j < 4);
         let list = list_slice(alloc, game, 2, j, u32::MAX).expect(rt, "a slice");
-        same(rt, list.len(), *wanted, "coalitions of a slice");
+        assert_same(rt, list.len(), *wanted, "coalitions of a slice");
     }
     let all = list_all(alloc, game, whole)
         .expect(rt, "memory")
         .expect(rt, "no more than the limit");
-    same(rt, all.len(), whole as usize, "all coalitions");
+    assert_same(rt, all.len(), whole as usize, "all coalitions");
     let fewer = list_all(alloc, game, whole - 1).expect(rt, "memory");
-    same(rt, fewer.is_none(), true, "more than asked for");
+    assert_same(rt, fewer.is_none(), true, "more than asked for");
 }
 
 /// Of 39 and 40 members in two, three or four groups one of each is needed: a slice of four has as
@@ -307,9 +307,9 @@ fn a_plain_list_of_twenty_members(rt: HostRuntime) {
     let twenty = game_by_groups(&rt, rt.alloc(), &[0], &(&[10], &[(20, &[1])]));
     assert!(rt; twenty.members() == 20);
     let plain = plain_list(rt.alloc(), &twenty).expect(&rt, "a plain list");
-    same(&rt, plain.len(), 184_756, "coalitions");
+    assert_same(&rt, plain.len(), 184_756, "coalitions");
     let all = list_all(rt.alloc(), &twenty, 184_756)
         .expect(&rt, "memory")
         .expect(&rt, "no more than the limit");
-    same(&rt, all.as_slice() == plain.as_slice(), true, "one list");
+    assert_same(&rt, all.as_slice() == plain.as_slice(), true, "one list");
 }

@@ -7,7 +7,7 @@ ghost use Rattle.std.specs.Prelude.{◌<◌, ◌≤◌, ◌^◌, length};
 ghost use Rattle.council_game.specs.Game.{AreNonemptyCoalitions};
 ghost use Rattle.power_index.specs.Fractions.{IsIndex, pair_of};
 
-use crate::helpers::{game, same};
+use crate::helpers::{assert_same, game};
 use council_game::{Coalition, Game, plain_list};
 use power_index::laws::minimal_coalitions_can_be_counted;
 use power_index::{Counts, Fraction, deegan_packel, lowest, public_good};
@@ -75,7 +75,7 @@ fn check_indices(rt: &impl Abort, counts: &Counts, member: usize, wanted: [Print
         printed(deegan_packel(counts, member)),
         printed(public_good(counts, member)),
     ];
-    same(
+    assert_same(
         rt,
         (member, found),
         (member, wanted),
@@ -86,21 +86,21 @@ fn check_indices(rt: &impl Abort, counts: &Counts, member: usize, wanted: [Print
 /// The counts are of `total` coalitions, of these numbers of each size, and of these members, which
 /// are all.
 fn check(rt: &impl Abort, counts: &Counts, total: u32, sizes: &[(usize, u32)], rows: &[Members]) {
-    same(rt, counts.total(), total, "total");
+    assert_same(rt, counts.total(), total, "total");
     for (size, wanted) in sizes {
         assert!(rt; *size <= counts.members());
-        same(rt, (*size, counts.of_size(*size)), (*size, *wanted), "size");
+        assert_same(rt, (*size, counts.of_size(*size)), (*size, *wanted), "size");
     }
     for (from, to, count, first, second) in rows {
         for member in *from..*to {
             assert!(rt; member < counts.members());
             let found = (member, counts.of_member(member));
-            same(rt, found, (member, *count), "member and its coalitions");
+            assert_same(rt, found, (member, *count), "member and its coalitions");
             check_indices(rt, counts, member, [*first, *second]);
         }
     }
     let seen = rows.last().map(|row| row.1);
-    same(rt, Some(counts.members()), seen, "members");
+    assert_same(rt, Some(counts.members()), seen, "members");
 }
 
 const HALF: Printed = (1, 2, *b"0.500000");
@@ -132,11 +132,11 @@ const MEMBERS: [Members; 3] = [
 fn check_sizes(rt: &impl Abort, counts: &Counts, rows: &[(usize, u32, [u32; 5])]) {
     for (size, all, each) in rows {
         assert!(rt; *size <= counts.members());
-        same(rt, (*size, counts.of_size(*size)), (*size, *all), "size");
+        assert_same(rt, (*size, counts.of_size(*size)), (*size, *all), "size");
         for member in 0..5 {
             assert!(rt; member < counts.members());
             let found = (member, *size, counts.of_member_size(member, *size));
-            same(rt, found, (member, *size, each[member]), "member and size");
+            assert_same(rt, found, (member, *size, each[member]), "member and size");
         }
     }
 }
@@ -233,7 +233,7 @@ fn indices_of_the_security_council(rt: HostRuntime) {
     for (member, wanted) in [(0, 210), (4, 210), (5, 84), (14, 84)] {
         assert!(rt; counts.members() == 15);
         let found = counts.of_member_size(member, 9);
-        same(&rt, (member, found), (member, wanted), "coalitions of nine");
+        assert_same(&rt, (member, found), (member, wanted), "coalitions of nine");
     }
 }
 
@@ -273,7 +273,7 @@ fn any_two_of_forty_win(rt: HostRuntime) {
 fn lowest_terms(rt: HostRuntime) {
     for (top, bottom, wanted) in [(12, 60, (1, 5)), (0, 4, (0, 1))] {
         let found = lowest(top, bottom);
-        same(&rt, (found.top, found.bottom), wanted, "lowest terms");
+        assert_same(&rt, (found.top, found.bottom), wanted, "lowest terms");
     }
 }
 
@@ -284,14 +284,14 @@ fn decimals_are_cut_off(rt: HostRuntime) {
         top: most - 1,
         bottom: most,
     };
-    same(&rt, almost_one.decimals(), *b"0.999999", "almost one");
-    same(
+    assert_same(&rt, almost_one.decimals(), *b"0.999999", "almost one");
+    assert_same(
         &rt,
         Fraction { top: 2, bottom: 3 }.decimals(),
         *b"0.666666",
         "two thirds",
     );
-    same(
+    assert_same(
         &rt,
         Fraction { top: 1, bottom: 1 }.decimals(),
         *b"1.000000",

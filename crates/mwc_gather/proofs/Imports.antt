@@ -1,13 +1,13 @@
 -- The words of other libraries and of the definitions that two or more files of these proofs take.
 pub use Rattle.council_game.specs.Game.{GameView, votes_of}
-pub use Rattle.mwc_gather.specs.Inner.Dealing.{DealsInTurn, DealsOneEach, DeskView, IsFresh, IsWell, TakesTurn, given_slices}
-pub use Rattle.mwc_gather.specs.Inner.Deals.{AreDealt, share_from, share_of, shares_by, times_in}
-pub use Rattle.mwc_gather.specs.Inner.Desks.{AllOf, CanEndWith, DealsFirst, DealsTo, IsOf, IsPartOfDesk, view_of, views_of}
-pub use Rattle.mwc_gather.specs.Inner.Drafts.{Grows, Hears, IsDraftOf, LosesForWantOfRoom, fault_in_draft}
+pub use Rattle.mwc_gather.specs.Inner.Scheduling.{AssignsInTurn, AssignsOneEach, WorkerView, IsFresh, HasNotFailed, TakesTurn, given_slices}
+pub use Rattle.mwc_gather.specs.Inner.Holders.{AreAssigned, slices_from, slices_held_by, slices_by_worker, times_in}
+pub use Rattle.mwc_gather.specs.Inner.WorkerHandles.{AllOf, CanEndWith, AssignsFirst, AssignsTo, IsOf, IsPartOfWorker, view_of, views_of}
+pub use Rattle.mwc_gather.specs.Inner.PartBuilders.{Grows, AddsWords, IsBuilderOf, FailsOnlyWithoutRoom, fault_in_builder}
 pub use Rattle.mwc_gather.specs.declared.fault.GatherFault.{GatherFault, TheVariants.Memory, TheVariants.TooMany}
-pub use Rattle.mwc_gather.specs.{Inner.Gathering.IsComplete, Inner.Gathering.all_total, Inner.Gathering.slices_of, declared.desk.Desk.Desk}
-pub use Rattle.mwc_gather.specs.{Pieces.HasEnds, Slicing.Slicing, Slicing.slicing, declared.dealing.Deal.Deal, declared.draft.Draft.Draft}
-pub use Rattle.mwc_gather.specs.{Inner.Fault.first_of, Parts.HasPieces, Parts.shares, declared.part.Part.Part}
+pub use Rattle.mwc_gather.specs.{Inner.Gathering.IsComplete, Inner.Gathering.all_total, Inner.Gathering.slices_of, declared.worker_handle.WorkerHandle.WorkerHandle}
+pub use Rattle.mwc_gather.specs.{Pieces.HasEnds, Slicing.Slicing, Slicing.slicing, declared.scheduler.Scheduler.Scheduler, declared.part_builder.PartBuilder.PartBuilder}
+pub use Rattle.mwc_gather.specs.{Inner.Fault.first_of, Parts.HasPieces, Parts.part_slices, declared.part.Part.Part}
 pub use Rattle.mwc_gather.specs.Inner.Sending.{SendsFirst, SendsSome, end_words, is_done, is_end}
 pub use Rattle.mwc_gather.specs.Inner.Settled.{HasAllWords, IsPart, IsSentWhole, ends_from}
 pub use Rattle.mwc_gather.specs.Wording.{IsCutSending, IsWholeSending, coalition_count, cut_words, open_words, slice_words, wording}

@@ -2,7 +2,7 @@ mod Turns
 mod Firsts
 mod Settles
 mod Readings
-mod Shares
+mod PartSlices
 mod Tasks
 mod Rooms
 pub mod Searches
@@ -11,7 +11,7 @@ mod FirstWords
 mod UnderWay
 mod Words
 mod Joins
-mod Deals
+mod Holders
 mod Ends
 mod Finishing
 mod Wholes

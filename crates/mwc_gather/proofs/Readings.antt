@@ -3,7 +3,7 @@ use Rattle.mwc_gather.proofs.Imports.{flat_map, get_or, ap, arith, ◌∙◌, ap
 use Rattle.mwc_gather.proofs.Imports.{◌≡◌, ℕ, zero, suc, ◌+◌, ◌-◌, ◌<◌, ◌≤◌, Bool, List, [], ◌∷◌, ◌++◌, length, map, take, drop, refl}
 use Rattle.mwc_gather.proofs.Imports.{IsSentWhole, ends_from, Slicing, wording, coalition_count, Word, Open, One, Done, End, HasEnds}
 use Rattle.std.proofs.lemmas.List.{Concat.length-flat_map, Elements.filter_map-append}
-use Rattle.mwc_gather.specs.Inner.Drafts.{one_in, ones, done_counts}
+use Rattle.mwc_gather.specs.Inner.PartBuilders.{one_in, ones, done_counts}
 
 pub coalitions-cons : (g : Slicing) (j : ℕ) (s : List ℕ) → coalition_count g (j ∷ s) ≡ length (g.slice j) + coalition_count g s
 coalitions-cons g j s = sum_by-cons (λ i. length (g.slice i)) j s
@@ -80,9 +80,9 @@ pub record Reads (g : Slicing) (s got ends : List ℕ) : Type 0 where
   pub joins : got ≡ flat_map g.slice s
   pub ends_are : ends ≡ ends_from g 0 s
 
-pub reads : {g : Slicing} {most : ℕ} {s : List ℕ} {told : Bool} {words : List Word} (got ends : List ℕ) → IsSentWhole g most s told words
+pub reads : {g : Slicing} {most : ℕ} {s : List ℕ} {dismissed : Bool} {words : List Word} (got ends : List ℕ) → IsSentWhole g most s dismissed words
     → got ≡ ones words → ends ≡ done_counts 0 words → Reads g s got ends
-reads {g} {most} {s} {told} {words} got ends sent a b =
+reads {g} {most} {s} {dismissed} {words} got ends sent a b =
     grind (arith, append-nil, done_counts-append, done_counts-wording, ones-append, ones-wording)
 
 ends_of : (g : Slicing) (s : List ℕ) → HasEnds s (ends_from g 0 s) (length (flat_map g.slice s))

@@ -2,9 +2,9 @@
 use Rattle.std.proofs.{Common.zero-add, Common.length-take, Math.Seq.take-set-lt}
 use Rattle.mwc_gather.proofs.Imports.{common_steps, list_any-append, or-false, flat_map_more}
 use Rattle.mwc_gather.proofs.Readings.{done_counts-append, ones-append}
-use Rattle.coalitions.proofs.Shared.Ranges.{range-more}
+use Rattle.council_base.proofs.Shared.Ranges.{range-more}
 
-pub ruleset for_hear = (common_steps, done_counts-append, list_any-append, ones-append, or-false, zero-add)
+pub ruleset for_add_word = (common_steps, done_counts-append, list_any-append, ones-append, or-false, zero-add)
 
 pub ruleset for_in_order = (common_steps, flat_map_more, range-more)
 

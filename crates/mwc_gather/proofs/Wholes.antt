@@ -1,9 +1,9 @@
 -- All slices of a game, each once, and their coalitions.
-use Rattle.mwc_gather.proofs.Imports.{all_total, All-weaker, range_with_len, HasPieces, slicing, GameView, ◌<◌, Bool, cond, [], ◌∷◌, shares}
+use Rattle.mwc_gather.proofs.Imports.{all_total, All-weaker, range_with_len, HasPieces, slicing, GameView, ◌<◌, Bool, cond, [], ◌∷◌, part_slices}
 use Rattle.mwc_gather.proofs.Imports.{count_by, refl, flat_map, eqb, sum_by, nat_tests, common_steps, sum_by-append, sum_by-cons, times_in}
 use Rattle.mwc_gather.proofs.Imports.{arith, ◌≡◌, ℕ, ◌≤◌, List, length, All, ap, sym, ◌∙◌, votes_of, slices-joined, Slicing, IsPart, Part}
-use Rattle.mwc_gather.proofs.Imports.{AreDealt, ◌+◌, ◌++◌, map, map-append}
-use Rattle.mwc_gather.proofs.{Firsts.dealt_once, Readings.length-joined, Readings.piece_is}
+use Rattle.mwc_gather.proofs.Imports.{AreAssigned, ◌+◌, ◌++◌, map, map-append}
+use Rattle.mwc_gather.proofs.{Firsts.assigned_once, Readings.length-joined, Readings.piece_is}
 use Rattle.std.proofs.{Common.◌^◌, Common.lt-ltb, lemmas.List.Folds.flat_map-map, lemmas.List.FromFn.map-range_with_len_more}
 use Rattle.council_game.specs.Votes.{minimal_coalitions}
 use Rattle.mwc_gather.specs.Parts.{HasEachSliceOnce}
@@ -24,16 +24,16 @@ all_pieces g parts a = All-weaker (IsPart g) (HasPieces g.slice) (has_pieces g) 
 
 -- how often a slice stands in all parts
 count_is : (j : ℕ) (parts : List Part)
-    → count_by (λ i. eqb i j) (flat_map (λ (p : Part). p.slices.items) parts) ≡ sum_by (times_in j) (shares parts)
+    → count_by (λ i. eqb i j) (flat_map (λ (p : Part). p.slices.items) parts) ≡ sum_by (times_in j) (part_slices parts)
 count_is j [] = refl
 count_is j (p ∷ parts) = grind (arith, nat_tests, common_steps, count_is j parts, sum_by-append, sum_by-cons)
 
 -- where all slices are dealt, each stands in the parts once
-pub dealt_each_once : {n : ℕ} (parts : List Part) → AreDealt n (shares parts) → HasEachSliceOnce n parts
-dealt_each_once parts d j = count_is j parts ∙ dealt_once j d
+pub assigned_each_once : {n : ℕ} (parts : List Part) → AreAssigned n (part_slices parts) → HasEachSliceOnce n parts
+assigned_each_once parts d j = count_is j parts ∙ assigned_once j d
 
 -- each slice stands in a part
-pub each_once : (n : ℕ) (parts : List Part) → HasEachSliceOnce n parts → (j : ℕ) → j < n → sum_by (times_in j) (shares parts) ≡ 1
+pub each_once : (n : ℕ) (parts : List Part) → HasEachSliceOnce n parts → (j : ℕ) → j < n → sum_by (times_in j) (part_slices parts) ≡ 1
 each_once n parts h j l = sym (count_is j parts) ∙ h j ∙ ap (λ (b : Bool). cond {A = ℕ} b 1 0) (lt-ltb j n l)
 
 -- one more piece of a row

@@ -4,7 +4,7 @@ use Rattle.std.specs.List.{flat_map, range_with_len}
 use Rattle.std.specs.List.Sorted.{IsStrictlyIncreasing}
 use Rattle.council_game.specs.Votes.{Votes, minimal_coalitions}
 use Rattle.mwc_walk.specs.Slices.{slice}
-use Rattle.mwc_gather.specs.Parts.{HasPieces, shares}
+use Rattle.mwc_gather.specs.Parts.{HasPieces, part_slices}
 use Rattle.mwc_gather.specs.declared.part.Part.{Part}
 use Rattle.mwc_gather.specs.declared.gathered.Gathered.{Gathered}
 
@@ -16,6 +16,6 @@ pub record Gathers (v : Votes) (bits workers most : ℕ) (r : Gathered) : Type 0
   pub slices : r.slices ≡ 2 ^ bits
   pub ascend : All (λ (p : Part). IsStrictlyIncreasing p.slices.items) r.parts.items
   pub pieces : All (HasPieces (slice v bits)) r.parts.items
-  pub begins : (w : ℕ) → w < workers → w < 2 ^ bits → slice_get (slice_index_or (shares r.parts.items) w []) 0 ≡ Some w
+  pub begins : (w : ℕ) → w < workers → w < 2 ^ bits → slice_get (slice_index_or (part_slices r.parts.items) w []) 0 ≡ Some w
   pub few : length (minimal_coalitions v) ≤ most
   pub whole : flat_map (slice v bits) (range_with_len 0 r.slices) ≡ minimal_coalitions v

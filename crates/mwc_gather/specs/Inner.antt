@@ -1,9 +1,9 @@
 -- What only proofs, private functions and invariants need: no public contract mentions it.
-pub mod Drafts
-pub mod Deals
-pub mod Dealing
+pub mod PartBuilders
+pub mod Holders
+pub mod Scheduling
 pub mod Fault
 pub mod Settled
 pub mod Sending
-pub mod Desks
+pub mod WorkerHandles
 pub mod Gathering

@@ -12,8 +12,8 @@ abbrev pub HasPieces : (ℕ → List ℕ) → Part → Type 0
 HasPieces slice p = (m : ℕ) → m < length p.slices.items → piece p m ≡ slice (slice_index p.slices.items m)
 
 -- the slices of each part
-abbrev pub shares : List Part → List (List ℕ)
-shares parts = map (λ (p : Part). p.slices.items) parts
+abbrev pub part_slices : List Part → List (List ℕ)
+part_slices parts = map (λ (p : Part). p.slices.items) parts
 
 -- each of the slices 0 to n - 1 stands in the parts once, and no other number does
 abbrev pub HasEachSliceOnce : ℕ → List Part → Type 0

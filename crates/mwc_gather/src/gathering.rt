@@ -2,18 +2,16 @@
 ghost use Rattle.std.specs.Prelude.{◌≡◌, ◌≢◌, ◌<◌, ◌≤◌, ◌^◌, All, List, ℕ, Option, Some, None, IfOk, IfErr, length, vec_len};
 ghost use Rattle.std.specs.Option.{is_some};
 ghost use Rattle.std.specs.List.{AllZip};
-ghost use Rattle.coalitions.specs.declared.limits.TheConstants.{BITS, WORKERS, COALITIONS};
+ghost use Rattle.council_base.specs.declared.limits.TheConstants.{BITS, WORKERS, COALITIONS};
 ghost use Rattle.council_game.specs.Votes.{minimal_coalitions};
 ghost use Rattle.council_game.specs.Game.{votes_of};
-ghost use Rattle.mwc_gather.specs.Inner.Dealing.{IsFresh};
+ghost use Rattle.mwc_gather.specs.Inner.Scheduling.{IsFresh};
 ghost use Rattle.mwc_gather.specs.Inner.Fault.{fault_in, first_of_all};
-ghost use Rattle.mwc_gather.specs.Inner.Desks.{AllOf, DealsTo, CanEndWith, HasStarted, views_of};
-ghost use Rattle.mwc_gather.specs.declared.dealing.Deal.{Deal};
+ghost use Rattle.mwc_gather.specs.Inner.WorkerHandles.{AllOf, AssignsTo, CanEndWith, HasStarted, views_of};
+ghost use Rattle.mwc_gather.specs.declared.scheduler.Scheduler.{Scheduler};
 ghost use Rattle.mwc_gather.specs.Gathering.{Gathers};
 ghost use Rattle.mwc_gather.specs.Inner.Gathering.{slices_of, all_total, Answers, IsComplete};
 
-use crate::dealing::Deal;
-use crate::desk::Desk;
 use crate::fault::{GatherFault, first_of};
 use crate::gathered::Gathered;
 use crate::guarded::Guarded;
@@ -21,8 +19,10 @@ use crate::job::Job;
 use crate::marks::Marks;
 use crate::observer::SliceObserver;
 use crate::part::{Part, fits};
-use crate::waiting::Bells;
-use coalitions::Gate;
+use crate::scheduler::Scheduler;
+use crate::waiting::Wakers;
+use crate::worker_handle::WorkerHandle;
+use council_base::Gate;
 use mwc_walk::slice_count;
 use std::alloc::Global;
 use std::sync::Wait;
@@ -58,19 +58,19 @@ pub fn gather<R: Threads + Wait + Sync, G: Gate + Sync>(
         → most < length (minimal_coalitions (votes_of guarded.now)) }
 {
     let job = Job {
-        guarded: guarded.share(),
+        guarded: guarded.for_thread(),
         bits,
         most,
     };
-    let bells = Bells::new();
-    let bells = &bells;
+    let wakers = Wakers::new();
+    let wakers = &wakers;
     thread::scope(
         thread::scope_env(),
         rt,
         move |scope| -> Result<Gathered, GatherFault>
             requires { (1 ≤ workers) × (workers ≤ WORKERS) }
             ensures { Answers job.entry workers result }
-        { run(scope, rt, alloc, &job, workers, bells) },
+        { run(scope, rt, alloc, &job, workers, wakers) },
     )
 }
 
@@ -82,24 +82,28 @@ fn run<'s, E, R: Threads + Wait + Sync, G: SliceObserver + Sync>(
     alloc: Global,
     job: &Job<'s, G>,
     workers: u8,
-    bells: &'s Bells,
+    wakers: &'s Wakers,
 ) -> Result<Gathered, GatherFault>
     requires workers { (1 ≤ workers) × (workers ≤ WORKERS) }
     requires gate { (w j : ℕ) → w < workers → j < 2 ^ job.now.bits → G.takes w j }
     ensures { Answers job.now workers result }
 {
-    let (mut desks, met) = open_all(scope, rt, alloc, job, workers, bells);
-    let mut deal = Deal {
+    let (mut handles, met) = open_all(scope, rt, alloc, job, workers, wakers);
+    let mut scheduler = Scheduler {
         marks: Marks::new(slice_count(job.bits)),
         stopped: met.is_some(),
     };
-    deal.read_all(rt, job, desks.as_mut_slice(), bells);
-    let parts = finish_all(rt, alloc, job, desks, met)?;
-    all_of(job, workers, parts)
+    scheduler.read_all(rt, job, handles.as_mut_slice(), wakers);
+    let parts = finish_all(rt, alloc, job, handles, met)?;
+    combine_parts(job, workers, parts)
 }
 
 /// Returns all that was gathered, unless there is more than was asked for.
-fn all_of<G>(job: &Job<'_, G>, workers: u8, parts: Vec<Part>) -> Result<Gathered, GatherFault>
+fn combine_parts<G>(
+    job: &Job<'_, G>,
+    workers: u8,
+    parts: Vec<Part>,
+) -> Result<Gathered, GatherFault>
     requires { IsComplete (slices_of job.now) workers parts.items }
     ensures answers { Answers job.now workers result }
     ensures fault { IfErr result (λ fault. fault ≡ GatherFault.TooMany) }
@@ -122,8 +126,8 @@ fn open_all<'s, E, R: Threads + Wait + Sync, G: SliceObserver + Sync>(
     alloc: Global,
     job: &Job<'s, G>,
     workers: u8,
-    bells: &'s Bells,
-) -> (Vec<Desk>, Option<GatherFault>)
+    wakers: &'s Wakers,
+) -> (Vec<WorkerHandle>, Option<GatherFault>)
     requires workers { (1 ≤ workers) × (workers ≤ WORKERS) }
     requires gate { (w j : ℕ) → w < workers → j < 2 ^ job.now.bits → G.takes w j }
     ensures few { vec_len result.0 ≤ workers }
@@ -131,17 +135,17 @@ fn open_all<'s, E, R: Threads + Wait + Sync, G: SliceObserver + Sync>(
     ensures order { AllOf (slices_of job.now) job.now.most result.0.items }
     ensures fresh { All IsFresh (views_of result.0.items) }
 {
-    let mut desks = Vec::new(alloc);
-    if desks.reserve(usize::from(workers)).is_err() {
-        return (desks, Some(GatherFault::Memory));
+    let mut handles = Vec::new(alloc);
+    if handles.reserve(usize::from(workers)).is_err() {
+        return (handles, Some(GatherFault::Memory));
     }
     for worker in 0..workers {
-        match Desk::open(scope, rt, alloc, job, worker, bells) {
-            Ok(desk) => desks.push_reserved(desk),
-            Err(why) => return (desks, Some(why)),
+        match WorkerHandle::open(scope, rt, alloc, job, worker, wakers) {
+            Ok(handle) => handles.push_reserved(handle),
+            Err(why) => return (handles, Some(why)),
         }
     }
-    (desks, None)
+    (handles, None)
 }
 
 /// Joins all workers, and returns the part of each, or the fault that is answered.
@@ -149,25 +153,25 @@ fn finish_all<R: Threads, G>(
     rt: &R,
     alloc: Global,
     job: &Job<'_, G>,
-    desks: Vec<Desk>,
+    handles: Vec<WorkerHandle>,
     start: Option<GatherFault>,
 ) -> Result<Vec<Part>, GatherFault>
     requires start { start ≢ Some GatherFault.TooMany }
-    requires dealt { (deal : Deal) × DealsTo (slices_of job.now) job.now.most
-        (is_some start) deal desks.items }
+    requires assigned { (scheduler : Scheduler) × AssignsTo (slices_of job.now) job.now.most
+        (is_some start) scheduler handles.items }
     ensures first { (whys : List (Option GatherFault))
-        × AllZip (CanEndWith (slices_of job.now) job.now.most) desks.items whys
+        × AllZip (CanEndWith (slices_of job.now) job.now.most) handles.items whys
         × (fault_in result ≡ first_of_all start whys) }
     ensures none { IfOk result (λ v. start ≡ None) }
-    ensures parts { IfOk result (λ v. 0 < vec_len desks
-        → IsComplete (slices_of job.now) (vec_len desks) v.items) }
+    ensures parts { IfOk result (λ v. 0 < vec_len handles
+        → IsComplete (slices_of job.now) (vec_len handles) v.items) }
     ensures many { result ≡ Err GatherFault.TooMany
         → job.now.most < all_total (slices_of job.now) }
 {
     let mut met = start;
     let mut parts = Vec::new(alloc);
-    for desk in desks {
-        match desk.finish(rt) {
+    for handle in handles {
+        match handle.finish(rt) {
             Ok(part) => {
                 if parts.push(part).is_err() {
                     met = Some(first_of(met, GatherFault::Memory));

@@ -2,7 +2,7 @@
 ghost use Rattle.std.specs.Prelude.{◌≡◌};
 
 use crate::observer::SliceObserver;
-use coalitions::Gate;
+use council_base::Gate;
 use council_game::Game;
 use std::marker::Model;
 use std::snapshot::Snapshot;
@@ -56,7 +56,7 @@ impl<'a, G: SliceObserver> Guarded<'a, G> {
 
 impl<'a, G> Guarded<'a, G> {
     /// Returns the same game behind the same gate, for another thread.
-    pub(crate) fn share(&self) -> Guarded<'a, G>
+    pub(crate) fn for_thread(&self) -> Guarded<'a, G>
         ensures { result ≡ self.now }
     {
         Guarded {

@@ -1,6 +1,6 @@
 //! What the workers are to do.
 ghost use Rattle.std.specs.Prelude.{◌≡◌, ◌≤◌, length};
-ghost use Rattle.coalitions.specs.declared.limits.TheConstants.{BITS, COALITIONS};
+ghost use Rattle.council_base.specs.declared.limits.TheConstants.{BITS, COALITIONS};
 
 use crate::guarded::Guarded;
 use crate::promise::GivenJob;

@@ -7,10 +7,7 @@
 //! ```
 #![tactic(auto)]
 
-mod dealing;
-mod desk;
-mod draft;
-mod equipment;
+mod channels;
 mod fault;
 mod gathered;
 mod gathering;
@@ -18,17 +15,20 @@ mod guarded;
 mod job;
 mod marks;
 mod observer;
-mod parcel;
 mod part;
+mod part_builder;
 mod progress;
 mod promise;
 mod putting;
+mod scheduler;
 mod send;
 mod sent;
 mod waiting;
+mod word_buffer;
 mod worker;
+mod worker_handle;
 
-pub use coalitions::{Gate, NoGate};
+pub use council_base::{Gate, NoGate};
 pub use fault::GatherFault;
 pub use gathered::Gathered;
 pub use gathering::gather;

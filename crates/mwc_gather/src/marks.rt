@@ -1,9 +1,9 @@
 //! Which slice was given to which worker.
 ghost use Rattle.std.specs.Prelude.{◌≡◌, ℕ, ◌<◌, ◌≤◌, ◌↔◌, List, length, take, replicate, IsTrue, IsSome, All, MatchOption, slice_index_or, slice_set, if◌then◌else◌};
-ghost use Rattle.coalitions.specs.declared.limits.TheConstants.{SLICES, WORKERS};
+ghost use Rattle.council_base.specs.declared.limits.TheConstants.{SLICES, WORKERS};
 ghost use Rattle.mwc_gather.specs.Table.{IsFirstFree};
 
-use coalitions::limits;
+use council_base::limits;
 use std::marker::Model;
 
 /// Which slice was given to which worker: a fixed table for up to 1024 slices. Contracts see the
@@ -16,7 +16,7 @@ pub struct Marks {
 
 impl Model for Marks {
     ghost use Rattle.std.specs.Prelude.{ℕ, ◌≤◌, List, Option, take};
-    ghost use Rattle.coalitions.specs.declared.limits.TheConstants.{SLICES};
+    ghost use Rattle.council_base.specs.declared.limits.TheConstants.{SLICES};
 
     ghost Value = { List (Option ℕ) };
 

@@ -1,7 +1,7 @@
 //! The gate as the one function that passes it sees it.
 ghost use Rattle.std.specs.Prelude.{ℕ, ⊤};
 
-use coalitions::Gate;
+use council_base::Gate;
 
 /// An observer of slices, of which only this trait is known.
 ///

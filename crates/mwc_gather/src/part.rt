@@ -1,7 +1,7 @@
 //! The part of one worker.
 ghost use Rattle.std.specs.Prelude.{◌≡◌, ◌<◌, ◌≤◌, ◌∷◌, length, MatchOption, slice_index, true, false};
 ghost use Rattle.std.specs.List.{sum_by};
-ghost use Rattle.mwc_gather.specs.Inner.Deals.{times_in};
+ghost use Rattle.mwc_gather.specs.Inner.Holders.{times_in};
 ghost use Rattle.mwc_gather.specs.Pieces.{HasEnds};
 
 use council_game::Coalition;

@@ -7,7 +7,7 @@ use council_game::Coalition;
 use mwc_walk::{Seek, Walk};
 
 /// How many prefixes are examined between two reports.
-const EACH: u64 = 1 << 20;
+const REPORT_EVERY: u64 = 1 << 20;
 
 /// What was reported of a walk, and what was not.
 #[derive(Drop)]
@@ -42,11 +42,11 @@ impl Progress {
         ensures { 0 < result }
     {
         let visits = walk.visits().saturating_sub(self.visits);
-        if visits < EACH {
-            return EACH - visits;
+        if visits < REPORT_EVERY {
+            return REPORT_EVERY - visits;
         }
         self.report(guarded, walk);
-        EACH
+        REPORT_EVERY
     }
 
     /// Returns the next coalition of the slice, as `Walk::next` does, and reports on the way.

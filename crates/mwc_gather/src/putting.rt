@@ -5,7 +5,7 @@ use mwc_pipe::{PipeIn, Refused, RingIn, Word};
 
 /// How far a row of words came.
 #[derive(Clone, Copy)]
-pub(crate) struct Came {
+pub(crate) struct RowOutcome {
     /// How many of its words were accepted, the first ones.
     pub accepted: usize,
     /// Whether the pipe refused the next for good.
@@ -16,7 +16,7 @@ pub(crate) struct Came {
 /// refused.
 pub(crate) trait PutsRows<P: PipeIn<Word>> {
     /// Puts the row in, as far as there is room.
-    fn put_row(out: &mut P, words: &[Word]) -> Came
+    fn put_row(out: &mut P, words: &[Word]) -> RowOutcome
         ensures count { result.accepted ≤ length words.now }
         ensures identity { P.identity out.new ≡ P.identity out.old }
         ensures accepted { P.accepted out.new
@@ -30,16 +30,16 @@ pub(crate) struct WordByWord;
 
 impl<P: PipeIn<Word>> PutsRows<P> for WordByWord {
     #[tactic(auto, using(std::proofs::lemmas::Grind::common_steps))]
-    fn put_row(out: &mut P, words: &[Word]) -> Came {
+    fn put_row(out: &mut P, words: &[Word]) -> RowOutcome {
         for accepted in 0..words.len() {
             let refused = match out.put(words[accepted]) {
                 Ok(()) => continue,
                 Err(Refused::Full(_)) => false,
                 Err(Refused::Closed(_) | Refused::Memory(_)) => true,
             };
-            return Came { accepted, refused };
+            return RowOutcome { accepted, refused };
         }
-        Came {
+        RowOutcome {
             accepted: words.len(),
             refused: false,
         }
@@ -50,8 +50,8 @@ impl<P: PipeIn<Word>> PutsRows<P> for WordByWord {
 pub(crate) struct RowByRow;
 
 impl PutsRows<RingIn> for RowByRow {
-    fn put_row(out: &mut RingIn, words: &[Word]) -> Came {
-        Came {
+    fn put_row(out: &mut RingIn, words: &[Word]) -> RowOutcome {
+        RowOutcome {
             accepted: out.put_some(words),
             refused: false,
         }

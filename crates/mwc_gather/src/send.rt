@@ -1,18 +1,18 @@
 //! Sending the words of a slice.
 ghost use Rattle.std.specs.Prelude.{◌≡◌, ◌<◌, ◌≤◌, ◌^◌, ◌++◌, ◌∷◌, [], IsTrue, IsFalse, true, length, ◌+◌};
-ghost use Rattle.coalitions.specs.declared.limits.TheConstants.{BITS, WORKERS, COALITIONS};
+ghost use Rattle.council_base.specs.declared.limits.TheConstants.{BITS, WORKERS, COALITIONS};
 ghost use Rattle.mwc_gather.specs.Slicing.{slicing};
 ghost use Rattle.mwc_gather.specs.Sending.{Sends, BreaksOnlyIfRefused};
 ghost use Rattle.mwc_gather.specs.Inner.Sending.{SendsFirst, SendsSome};
 
 use crate::guarded::Guarded;
 use crate::observer::SliceObserver;
-use crate::parcel::Parcel;
 use crate::progress::Progress;
 use crate::putting::{PutsRows, WordByWord};
 use crate::sent::Sent;
-use crate::waiting::{Bell, BellPair, Patience};
-use coalitions::Gate;
+use crate::waiting::{Backoff, Waker, WakerPair};
+use crate::word_buffer::WordBuffer;
+use council_base::Gate;
 use mwc_pipe::{PipeIn, Word};
 use mwc_walk::Walk;
 use std::sync::Wait;
@@ -24,7 +24,7 @@ pub(crate) fn send<W: PutsRows<P>, R: Wait, P: PipeIn<Word>>(
     rt: &R,
     words: &[Word],
     out: &mut P,
-    pair: BellPair<'_>,
+    pair: WakerPair<'_>,
 ) -> bool
     ensures identity { P.identity out.new ≡ P.identity out.old }
     ensures sent { IsTrue result → (P.accepted out.new ≡ P.accepted out.old ++ words.now)
@@ -32,22 +32,22 @@ pub(crate) fn send<W: PutsRows<P>, R: Wait, P: PipeIn<Word>>(
     ensures refused { IsFalse result → SendsSome (P.accepted out.old) words.now (P.accepted out.new)
         × (P.broken out.new ≡ true) }
 {
-    let mut patience = Patience::new();
+    let mut backoff = Backoff::new();
     let mut rest = words;
     for _ in rt.forever() {
-        let came = W::put_row(out, rest);
-        if came.refused {
+        let outcome = W::put_row(out, rest);
+        if outcome.refused {
             return false;
         }
-        rest = rest.split_at(came.accepted).1;
-        if came.accepted > 0 {
-            patience.renew(pair.own);
-            pair.other.ring();
+        rest = rest.split_at(outcome.accepted).1;
+        if outcome.accepted > 0 {
+            backoff.renew(pair.own);
+            pair.other.wake();
         }
         if rest.is_empty() {
             return true;
         }
-        patience.wait(rt, pair.own);
+        backoff.wait(rt, pair.own);
     }
     unreachable!()
 }
@@ -57,26 +57,26 @@ pub(crate) fn send<W: PutsRows<P>, R: Wait, P: PipeIn<Word>>(
 #[tactic(auto, using(std::proofs::lemmas::Grind::common_steps))]
 fn add<W: PutsRows<P>, R: Wait, P: PipeIn<Word>>(
     rt: &R,
-    parcel: &mut Parcel,
+    buffer: &mut WordBuffer,
     word: Word,
     out: &mut P,
-    pair: BellPair<'_>,
+    pair: WakerPair<'_>,
 ) -> bool
     ensures identity { P.identity out.new ≡ P.identity out.old }
-    ensures added { IsTrue result → SendsFirst (P.accepted out.old) (parcel.old ++ word ∷ [])
-        (P.accepted out.new) parcel.new × (P.broken out.new ≡ P.broken out.old) }
-    ensures refused { IsFalse result → SendsSome (P.accepted out.old) parcel.old (P.accepted out.new)
+    ensures added { IsTrue result → SendsFirst (P.accepted out.old) (buffer.old ++ word ∷ [])
+        (P.accepted out.new) buffer.new × (P.broken out.new ≡ P.broken out.old) }
+    ensures refused { IsFalse result → SendsSome (P.accepted out.old) buffer.old (P.accepted out.new)
         × (P.broken out.new ≡ true) }
 {
-    if !parcel.is_full() {
-        parcel.push(word);
+    if !buffer.is_full() {
+        buffer.push(word);
         return true;
     }
-    if !send::<W, _, _>(rt, parcel.words(), out, pair) {
+    if !send::<W, _, _>(rt, buffer.words(), out, pair) {
         return false;
     }
-    parcel.clear();
-    parcel.push(word);
+    buffer.clear();
+    buffer.push(word);
     true
 }
 
@@ -84,21 +84,21 @@ fn add<W: PutsRows<P>, R: Wait, P: PipeIn<Word>>(
 /// for good.
 fn send_last<W: PutsRows<P>, R: Wait, P: PipeIn<Word>>(
     rt: &R,
-    parcel: &mut Parcel,
+    buffer: &mut WordBuffer,
     word: Word,
     out: &mut P,
-    pair: BellPair<'_>,
+    pair: WakerPair<'_>,
 ) -> bool
     ensures identity { P.identity out.new ≡ P.identity out.old }
-    ensures sent { IsTrue result → (P.accepted out.new ≡ P.accepted out.old ++ (parcel.old ++ word ∷ []))
+    ensures sent { IsTrue result → (P.accepted out.new ≡ P.accepted out.old ++ (buffer.old ++ word ∷ []))
         × (P.broken out.new ≡ P.broken out.old) }
-    ensures refused { IsFalse result → SendsSome (P.accepted out.old) (parcel.old ++ word ∷ [])
+    ensures refused { IsFalse result → SendsSome (P.accepted out.old) (buffer.old ++ word ∷ [])
         (P.accepted out.new) × (P.broken out.new ≡ true) }
 {
-    if !add::<W, _, _>(rt, parcel, word, out, pair) {
+    if !add::<W, _, _>(rt, buffer, word, out, pair) {
         return false;
     }
-    send::<W, _, _>(rt, parcel.words(), out, pair)
+    send::<W, _, _>(rt, buffer.words(), out, pair)
 }
 
 /// Passes the gate, and sends the words of a slice, up to its coalition number `left`.
@@ -125,18 +125,18 @@ pub fn send_slice<R: Wait, P: PipeIn<Word>, G: Gate>(
     ensures unbroken { BreaksOnlyIfRefused (P.broken out.old) (P.broken out.new) result }
 {
     // nobody waits beside it, so one bell stands for both
-    let bell = Bell::new();
-    let pair = BellPair {
-        own: &bell,
-        other: &bell,
+    let waker = Waker::new();
+    let pair = WakerPair {
+        own: &waker,
+        other: &waker,
     };
-    send_behind::<WordByWord, _, _, _>(rt, guarded, bits, slice, worker, left, out, pair)
+    send_slice_in_rows::<WordByWord, _, _, _>(rt, guarded, bits, slice, worker, left, out, pair)
 }
 
 /// Sends a slice as `send_slice` does, and informs the gate how far it has come. Only here a gate
 /// is passed: whatever sends a slice comes by. It rings the other bell for what it has put in,
 /// and sleeps at its own.
-pub(crate) fn send_behind<W: PutsRows<P>, R: Wait, P: PipeIn<Word>, G: SliceObserver>(
+pub(crate) fn send_slice_in_rows<W: PutsRows<P>, R: Wait, P: PipeIn<Word>, G: SliceObserver>(
     rt: &R,
     guarded: &Guarded<'_, G>,
     bits: u8,
@@ -144,7 +144,7 @@ pub(crate) fn send_behind<W: PutsRows<P>, R: Wait, P: PipeIn<Word>, G: SliceObse
     worker: u8,
     mut left: u32,
     out: &mut P,
-    pair: BellPair<'_>,
+    pair: WakerPair<'_>,
 ) -> Sent
     requires bits { (bits ≤ BITS) × (bits ≤ length guarded.now.names) }
     requires slice { slice < 2 ^ bits }
@@ -156,25 +156,25 @@ pub(crate) fn send_behind<W: PutsRows<P>, R: Wait, P: PipeIn<Word>, G: SliceObse
     ensures unbroken { BreaksOnlyIfRefused (P.broken out.old) (P.broken out.new) result }
 {
     let mut walk = Walk::new(guarded.admit(worker, slice), bits, slice);
-    let mut parcel = Parcel::new();
-    parcel.push(Word::Open(slice));
+    let mut buffer = WordBuffer::new();
+    buffer.push(Word::Open(slice));
     let mut progress = Progress::new();
     while let Some(coalition) = progress.next(guarded, &mut walk) {
         let word = Word::One(coalition);
         if left == 1 {
             progress.report(guarded, &walk);
-            if !send_last::<W, _, _>(rt, &mut parcel, word, out, pair) {
+            if !send_last::<W, _, _>(rt, &mut buffer, word, out, pair) {
                 return Sent::Refused;
             }
             return Sent::Cut;
         }
-        if !add::<W, _, _>(rt, &mut parcel, word, out, pair) {
+        if !add::<W, _, _>(rt, &mut buffer, word, out, pair) {
             return Sent::Refused;
         }
         left -= 1;
     }
     progress.report(guarded, &walk);
-    if !send_last::<W, _, _>(rt, &mut parcel, Word::Done(slice), out, pair) {
+    if !send_last::<W, _, _>(rt, &mut buffer, Word::Done(slice), out, pair) {
         return Sent::Refused;
     }
     Sent::Whole { left }

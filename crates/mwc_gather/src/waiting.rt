@@ -5,7 +5,7 @@
 //! and after a look that found something twice as often. No contract depends on this. A lost
 //! wake-up costs one millisecond, the longest sleep.
 ghost use Rattle.std.specs.Prelude.{◌<◌};
-ghost use Rattle.coalitions.specs.declared.limits.TheConstants.{WORKERS};
+ghost use Rattle.council_base.specs.declared.limits.TheConstants.{WORKERS};
 
 use council_game::limits;
 use std::sync::Wait;
@@ -25,7 +25,7 @@ const LONGEST: u64 = 1;
 
 /// What wakes a thread.
 #[derive(Drop)]
-pub(crate) struct Bell {
+pub(crate) struct Waker {
     /// Whether the thread sleeps, or is about to.
     asleep: AtomicBool,
     /// How often the thread looks again before it sleeps.
@@ -33,9 +33,9 @@ pub(crate) struct Bell {
     parker: Parker,
 }
 
-impl Bell {
-    pub fn new() -> Bell {
-        Bell {
+impl Waker {
+    pub fn new() -> Waker {
+        Waker {
             asleep: AtomicBool::new(false),
             looks: AtomicU32::new(MOST_LOOKS),
             parker: Parker::new(),
@@ -43,21 +43,21 @@ impl Bell {
     }
 
     /// Wakes the thread where it sleeps, or is about to: there may be something for it to do.
-    pub fn ring(&self) {
+    pub fn wake(&self) {
         if self.asleep.load(Ordering::SeqCst) && self.asleep.swap(false, Ordering::SeqCst) {
             self.parker.unpark();
         }
     }
 
     /// A look found something to do: the thread may look twice as often.
-    fn looks_found_it(&self) {
+    fn look_more_often(&self) {
         let looks = self.looks.load(Ordering::Relaxed);
         self.looks
             .store(MOST_LOOKS.min(looks.saturating_mul(2)), Ordering::Relaxed);
     }
 
     /// The thread had to sleep: it looks an eighth less often.
-    fn slept(&self) {
+    fn look_less_often(&self) {
         let looks = self.looks.load(Ordering::Relaxed);
         self.looks
             .store(FEWEST_LOOKS.max(looks - looks / 8), Ordering::Relaxed);
@@ -66,24 +66,24 @@ impl Bell {
 
 /// The bell of the gatherer, and those of 16 workers.
 #[derive(Drop)]
-pub(crate) struct Bells {
-    pub gatherer: Bell,
-    pub workers: [Bell; limits::WORKERS as usize],
+pub(crate) struct Wakers {
+    pub gatherer: Waker,
+    pub workers: [Waker; limits::WORKERS as usize],
 }
 
-impl Bells {
-    pub fn new() -> Bells {
-        Bells {
-            gatherer: Bell::new(),
-            workers: array::from_fn(|_| Bell::new()),
+impl Wakers {
+    pub fn new() -> Wakers {
+        Wakers {
+            gatherer: Waker::new(),
+            workers: array::from_fn(|_| Waker::new()),
         }
     }
 
     /// The bells of the ring of a worker, as the gatherer sees them.
-    pub fn pair(&self, worker: usize) -> BellPair<'_>
+    pub fn pair(&self, worker: usize) -> WakerPair<'_>
         requires { worker < WORKERS }
     {
-        BellPair {
+        WakerPair {
             own: &self.gatherer,
             other: &self.workers[worker],
         }
@@ -92,58 +92,60 @@ impl Bells {
 
 /// The bells of the two sides of a ring, as one of them sees them.
 #[derive(Clone, Copy)]
-pub(crate) struct BellPair<'a> {
+pub(crate) struct WakerPair<'a> {
     /// What wakes this side.
-    pub own: &'a Bell,
+    pub own: &'a Waker,
     /// What wakes the other side.
-    pub other: &'a Bell,
+    pub other: &'a Waker,
 }
 
 /// How a thread has waited since there was last something to do.
 #[derive(Drop)]
-pub(crate) struct Patience {
+pub(crate) struct Backoff {
     /// How often it looked again.
     looks: u32,
     /// Whether it has said that it is about to sleep.
-    told: bool,
+    announced: bool,
     /// Whether it has slept.
     slept: bool,
 }
 
-impl Patience {
-    pub fn new() -> Patience {
-        Patience {
+impl Backoff {
+    pub fn new() -> Backoff {
+        Backoff {
             looks: 0,
-            told: false,
+            announced: false,
             slept: false,
         }
     }
 
     /// There was something to do.
-    pub fn renew(&mut self, bell: &Bell) {
+    pub fn renew(&mut self, waker: &Waker) {
         if self.looks > 0 && !self.slept {
-            bell.looks_found_it();
+            waker.look_more_often();
         }
-        if self.told {
-            bell.asleep.store(false, Ordering::SeqCst);
+        if self.announced {
+            waker.asleep.store(false, Ordering::SeqCst);
         }
-        *self = Patience::new();
+        *self = Backoff::new();
     }
 
     /// There was nothing to do: returns when it is time to look again.
-    pub fn wait<R: Wait>(&mut self, rt: &R, bell: &Bell) {
-        if self.told {
-            bell.parker.park_timeout(rt, Duration::from_millis(LONGEST));
-            bell.asleep.store(false, Ordering::SeqCst);
-            bell.slept();
-            self.told = false;
+    pub fn wait<R: Wait>(&mut self, rt: &R, waker: &Waker) {
+        if self.announced {
+            waker
+                .parker
+                .park_timeout(rt, Duration::from_millis(LONGEST));
+            waker.asleep.store(false, Ordering::SeqCst);
+            waker.look_less_often();
+            self.announced = false;
             self.slept = true;
-        } else if self.looks < bell.looks.load(Ordering::Relaxed) && !self.slept {
+        } else if self.looks < waker.looks.load(Ordering::Relaxed) && !self.slept {
             self.looks += 1;
             hint::spin_loop();
         } else {
-            bell.asleep.store(true, Ordering::SeqCst);
-            self.told = true;
+            waker.asleep.store(true, Ordering::SeqCst);
+            self.announced = true;
         }
     }
 }

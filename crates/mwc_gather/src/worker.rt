@@ -1,6 +1,6 @@
 //! The body of a worker's thread.
 ghost use Rattle.std.specs.Prelude.{◌≡◌, ℕ, ◌+◌, ◌<◌, ◌≤◌, ◌^◌, ◌++◌, ◌∷◌, [], length, IfOk, MatchOption};
-ghost use Rattle.coalitions.specs.declared.limits.TheConstants.{BITS, WORKERS, COALITIONS};
+ghost use Rattle.council_base.specs.declared.limits.TheConstants.{BITS, WORKERS, COALITIONS};
 ghost use Rattle.mwc_gather.specs.Inner.Gathering.{slices_of};
 ghost use Rattle.mwc_gather.specs.Slicing.{slicing};
 ghost use Rattle.mwc_gather.specs.Sending.{HasWorked};
@@ -12,10 +12,10 @@ use crate::guarded::Guarded;
 use crate::job::Job;
 use crate::observer::SliceObserver;
 use crate::putting::RowByRow;
-use crate::send::{send, send_behind};
+use crate::send::{send, send_slice_in_rows};
 use crate::sent::Sent;
-use crate::waiting::{Bell, BellPair, Patience};
-use coalitions::Gate;
+use crate::waiting::{Backoff, Waker, WakerPair};
+use council_base::Gate;
 use mwc_pipe::{Closed, RingIn, RingOut, Unfinished, Word};
 use mwc_walk::slice_count;
 use std::sync::Wait;
@@ -31,19 +31,19 @@ fn slice_of(task: Word, slices: u16) -> Option<u16>
 }
 
 /// Waits for the next slice, and returns it, or `None` if the work ends.
-fn next_task<R: Wait>(rt: &R, slices: u16, tasks: &mut RingOut, pair: BellPair<'_>) -> Option<u16>
+fn next_task<R: Wait>(rt: &R, slices: u16, tasks: &mut RingOut, pair: WakerPair<'_>) -> Option<u16>
     ensures ring { tasks.new.ring ≡ tasks.old.ring }
     ensures taken { MatchOption result (TakesLast slices tasks.old.taken tasks.new.taken)
         (λ j. TakesTask slices j tasks.old.taken tasks.new.taken) }
 {
-    let mut patience = Patience::new();
+    let mut backoff = Backoff::new();
     for _ in rt.forever() {
         if let Some(task) = tasks.take() {
-            patience.renew(pair.own);
-            pair.other.ring();
+            backoff.renew(pair.own);
+            pair.other.wake();
             return slice_of(task, slices);
         }
-        patience.wait(rt, pair.own);
+        backoff.wait(rt, pair.own);
     }
     unreachable!()
 }
@@ -53,7 +53,7 @@ fn finish<R: Wait>(
     rt: &R,
     mut out: RingIn,
     cut: bool,
-    pair: BellPair<'_>,
+    pair: WakerPair<'_>,
 ) -> Result<Closed, Unfinished>
     ensures { IfOk result (λ c. (c.ring ≡ out.ring) × (c.accepted ≡ out.accepted ++ End cut ∷ [])) }
 {
@@ -90,28 +90,28 @@ pub fn work<R: Wait, G: Gate>(
     ensures { HasWorked (slicing guarded.now bits) most out tasks result }
 {
     // nobody waits beside it, so one bell stands for both
-    let bell = Bell::new();
-    let pair = BellPair {
-        own: &bell,
-        other: &bell,
+    let waker = Waker::new();
+    let pair = WakerPair {
+        own: &waker,
+        other: &waker,
     };
     let job = Job {
-        guarded: guarded.share(),
+        guarded: guarded.for_thread(),
         bits,
         most,
     };
-    work_beside(rt, &job, worker, out, tasks, pair)
+    run_worker(rt, &job, worker, out, tasks, pair)
 }
 
 /// As `work`. It rings the other bell for what it has put in or taken, and sleeps at its own.
 #[tactic(auto, using(std::proofs::lemmas::Grind::common_steps))]
-pub(crate) fn work_beside<R: Wait, G: SliceObserver>(
+pub(crate) fn run_worker<R: Wait, G: SliceObserver>(
     rt: &R,
     job: &Job<'_, G>,
     worker: u8,
     mut out: RingIn,
     mut tasks: RingOut,
-    pair: BellPair<'_>,
+    pair: WakerPair<'_>,
 ) -> (Result<Closed, Unfinished>, RingOut)
     requires worker { worker < WORKERS }
     requires fresh { (out.accepted ≡ []) × (tasks.taken ≡ []) }
@@ -124,7 +124,7 @@ pub(crate) fn work_beside<R: Wait, G: SliceObserver>(
         let Some(slice) = next_task(rt, slices, &mut tasks, pair) else {
             return (finish(rt, out, false, pair), tasks);
         };
-        let sent = send_behind::<RowByRow, _, _, _>(
+        let sent = send_slice_in_rows::<RowByRow, _, _, _>(
             rt,
             &job.guarded,
             job.bits,

@@ -1,10 +1,10 @@
 //! Making a ring.
 ghost use Rattle.std.specs.Prelude.{◌≡◌, ◌≤◌, [], IfOk};
-ghost use Rattle.coalitions.specs.declared.limits.TheConstants.{CAPACITY};
+ghost use Rattle.council_base.specs.declared.limits.TheConstants.{CAPACITY};
 
 use crate::ring_in::RingIn;
 use crate::ring_out::RingOut;
-use coalitions::Memory;
+use council_base::Memory;
 use rtrb::RingBuffer;
 use std::alloc::Global;
 

@@ -11,7 +11,7 @@ use crate::refused::Refused;
 use crate::reply::Reply;
 use crate::step::Step;
 use crate::taken::Taken;
-use coalitions::Memory;
+use council_base::Memory;
 use std::alloc::Global;
 
 /// What a pipe made of a list of steps.

@@ -11,9 +11,9 @@ use Rattle.mwc_walk.specs.Slices.{slice}
 use Rattle.mwc_walk.proofs.Shared.{Joined.slices-joined, One.slice-short}
 use Rattle.power_index.specs.Tables.{Tables, AreTallies, AreCounts, table_total}
 use Rattle.power_index.proofs.Shared.{Minimal.minimal-are-coalitions, Minimal.minimal-few, Sound.total-is, Sound.tallies-are_counts}
-use Rattle.coalitions.proofs.Shared.Ranges.{range-more, sum_by-range-more, sum_by-range-le}
-use Rattle.mwc_tally.specs.Inner.Shares.{CountedUpTo, CountSlices, CountWhole, IsShare, slice_of}
-use Rattle.mwc_tally.specs.declared.{share.Share.Share, sliced_game.SlicedGame.SlicedGame}
+use Rattle.council_base.proofs.Shared.Ranges.{range-more, sum_by-range-more, sum_by-range-le}
+use Rattle.mwc_tally.specs.Inner.SliceCounts.{CountedUpTo, CountSlices, CountWhole, AreThreadCounts, slice_of}
+use Rattle.mwc_tally.specs.declared.{thread_counts.ThreadCounts.ThreadCounts, sliced_game.SlicedGame.SlicedGame}
 
 -- a walk that is counted as it goes, where c is next
 module _ {g : GameView} {whole to_come rest : List ℕ} {c : ℕ} {t : Tables} (next : to_come ≡ c ∷ rest)
@@ -96,9 +96,9 @@ module _ {X : Type 0} (P : X → Type 0) {x : X} {rest all : List X} (begins : a
   others-of = All-tail P x rest (subst (All P) begins h)
 
 -- what a thread counted of the slices that it was given, as they are read
-pub same-share : {s given : SlicedGame} {taken : List ℕ} {t : Tables} (share : Share) → given ≡ s → IsShare given share
-    → taken ≡ share.taken.items → t ≡ share.counts.value → CountSlices s taken t
-same-share {s} {t = t} share own h items counts = grind (arith)
+pub same-totals : {s given : SlicedGame} {taken : List ℕ} {t : Tables} (totals : ThreadCounts) → given ≡ s → AreThreadCounts given totals
+    → taken ≡ totals.taken.items → t ≡ totals.counts.value → CountSlices s taken t
+same-totals {s} {t = t} totals own h items counts = grind (arith)
 
 -- what a row of numbers rests on
-pub ruleset shares = (common_steps, range-more)
+pub ruleset each_once = (common_steps, range-more)

@@ -1,3 +1,3 @@
 -- What only proofs, private functions and invariants need: no public contract mentions it.
-pub mod Shares
+pub mod SliceCounts
 pub mod Threads

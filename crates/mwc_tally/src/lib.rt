@@ -9,10 +9,10 @@
 
 mod fault;
 mod pieces;
-mod share;
 mod slice;
 mod slice_queue;
 mod sliced_game;
+mod thread_counts;
 mod threads;
 
 pub use fault::TallyFault;

@@ -1,10 +1,10 @@
 //! Counts of a list that lies in pieces, by several threads.
-ghost use Rattle.coalitions.specs.declared.limits.TheConstants.{MEMBERS, WORKERS};
+ghost use Rattle.council_base.specs.declared.limits.TheConstants.{MEMBERS, WORKERS};
 ghost use Rattle.council_game.specs.Game.{AreNonemptyCoalitions};
 ghost use Rattle.power_index.specs.Tables.{AreCounts, AreTallies};
 ghost use Rattle.std.specs.Prelude.{◌≡◌, ◌+◌, ◌*◌, ◌<◌, ◌≤◌, ◌^◌, ⊤, IfOk, IfErr, MatchOption, length, drop, take};
-ghost use Rattle.coalitions.specs.Lists.{joined};
-ghost use Rattle.mwc_tally.specs.Inner.Threads.{CanBeCounted, CountFirst, CountStretch, IsGivenStretch};
+ghost use Rattle.council_base.specs.Lists.{joined};
+ghost use Rattle.mwc_tally.specs.Inner.Threads.{CanBeCounted, CountFirst, CountChunk, IsGivenChunk};
 
 use crate::fault::TallyFault;
 use council_game::{Coalition, Game};
@@ -15,16 +15,16 @@ use std::thread::{Promise, PromisedHandle, Scope, Threads};
 
 /// What a thread was given, for proofs alone: a stretch of a list in pieces.
 #[derive(Clone, Copy)]
-pub(crate) struct GivenStretch<'s> {
+pub(crate) struct GivenChunk<'s> {
     pub game: &'s Game,
     pub pieces: &'s [&'s [Coalition]],
     pub skip: usize,
     pub most: usize,
 }
 
-impl<'s> Promise<Counts> for GivenStretch<'s> {
+impl<'s> Promise<Counts> for GivenChunk<'s> {
     ghost use Rattle.std.specs.Prelude.{take, drop};
-    ghost use Rattle.coalitions.specs.Lists.{joined};
+    ghost use Rattle.council_base.specs.Lists.{joined};
     ghost use Rattle.power_index.specs.Tables.{AreTallies};
 
     ghost kept_by = { λ t counts. AreTallies t.game.now
@@ -32,10 +32,10 @@ impl<'s> Promise<Counts> for GivenStretch<'s> {
 }
 
 /// A thread that counts a stretch.
-type Counting<'s> = PromisedHandle<Counts, GivenStretch<'s>>;
+type Counting<'s> = PromisedHandle<Counts, GivenChunk<'s>>;
 
 /// Returns how many coalitions pieces have together.
-#[tactic(auto, using(crate::proofs::Stretches::lengths))]
+#[tactic(auto, using(crate::proofs::Chunks::lengths))]
 fn length_of(pieces: &[&[Coalition]]) -> usize
     requires { length (joined pieces.now) ≤ 2 ^ MEMBERS }
     ensures { result ≡ length (joined pieces.now) }
@@ -44,9 +44,9 @@ fn length_of(pieces: &[&[Coalition]]) -> usize
 }
 
 /// Counts at most `most` coalitions of a list in pieces, past its first `skip`.
-fn of_stretch(game: &Game, pieces: &[&[Coalition]], skip: usize, most: usize) -> Counts
+fn count_chunk(game: &Game, pieces: &[&[Coalition]], skip: usize, most: usize) -> Counts
     requires list { CanBeCounted game.now (joined pieces.now) }
-    ensures { CountStretch game.now pieces.now skip most result }
+    ensures { CountChunk game.now pieces.now skip most result }
 {
     let mut counts = Counts::none(game);
     let mut skip = skip;
@@ -81,21 +81,21 @@ pub fn tally_pieces<R: Threads + Wait + Sync>(
     ensures ok { IfOk result (AreCounts game.now (joined pieces.now)) }
     ensures err { IfErr result (λ fault. fault ≡ TallyFault.Start) }
 {
-    let stretch = length_of(pieces) / usize::from(threads) + 1;
+    let chunk = length_of(pieces) / usize::from(threads) + 1;
     thread::scope(
         thread::scope_env(),
         rt,
         move |scope| -> Result<Counts, TallyFault>
             requires list { CanBeCounted game.now (joined pieces.now) }
-            requires stretch { stretch ≤ 2 ^ 41 }
-            requires enough { length (joined pieces.now) ≤ threads * stretch }
+            requires chunk { chunk ≤ 2 ^ 41 }
+            requires enough { length (joined pieces.now) ≤ threads * chunk }
             requires threads { (1 ≤ threads) × (threads ≤ WORKERS) }
             ensures ok { IfOk result
                 (AreTallies game.entry.now (joined pieces.entry.now)) }
             ensures err { IfErr result (λ fault. fault ≡ TallyFault.Start) }
         {
             let mut counts = Counts::none(game);
-            count_stretches(scope, rt, game, pieces, stretch, threads - 1, &mut counts)?;
+            count_chunks(scope, rt, game, pieces, chunk, threads - 1, &mut counts)?;
             Ok(counts)
         },
     )
@@ -110,10 +110,10 @@ fn start<'s, E>(
     most: usize,
 ) -> Option<Counting<'s>>
     requires list { CanBeCounted game.now (joined pieces.now) }
-    ensures { MatchOption result ⊤ (λ t. IsGivenStretch game.now (joined pieces.now)
+    ensures { MatchOption result ⊤ (λ t. IsGivenChunk game.now (joined pieces.now)
         skip most t.promise) }
 {
-    let given = GivenStretch {
+    let given = GivenChunk {
         game,
         pieces,
         skip,
@@ -121,69 +121,69 @@ fn start<'s, E>(
     };
     let body = move || -> Counts
         requires list { CanBeCounted game.now (joined pieces.now) }
-        ensures { CountStretch game.entry.now pieces.entry.now skip most result }
-    { of_stretch(game, pieces, skip, most) };
+        ensures { CountChunk game.entry.now pieces.entry.now skip most result }
+    { count_chunk(game, pieces, skip, most) };
     scope.spawn_with(given, body).ok()
 }
 
-/// Counts the first `stretch` coalitions of a list into `counts`.
+/// Counts the first `chunk` coalitions of a list into `counts`.
 #[inline(never)]
-fn count_first(game: &Game, pieces: &[&[Coalition]], stretch: usize, counts: &mut Counts)
+fn count_first(game: &Game, pieces: &[&[Coalition]], chunk: usize, counts: &mut Counts)
     requires list { CanBeCounted game.now (joined pieces.now) }
-    ensures { CountFirst game.now pieces.now stretch counts.new }
+    ensures { CountFirst game.now pieces.now chunk counts.new }
 {
-    *counts = of_stretch(game, pieces, 0, stretch);
+    *counts = count_chunk(game, pieces, 0, chunk);
 }
 
-/// Joins the thread that counts the `stretch` coalitions after the first `skip`, and adds its
+/// Joins the thread that counts the `chunk` coalitions after the first `skip`, and adds its
 /// counts to theirs.
 #[inline(never)]
-fn add_stretch<'s, R: Threads>(
+fn add_chunk<'s, R: Threads>(
     rt: &R,
     game: &Game,
     pieces: &[&[Coalition]],
     skip: usize,
-    stretch: usize,
+    chunk: usize,
     thread: Counting<'s>,
     counts: &mut Counts,
 )
     requires few { length (joined pieces.now) ≤ 2 ^ MEMBERS }
-    requires given { IsGivenStretch game.now (joined pieces.now) skip stretch thread.promise }
+    requires given { IsGivenChunk game.now (joined pieces.now) skip chunk thread.promise }
     requires before { CountFirst game.now pieces.now skip counts.old }
-    ensures { CountFirst game.now pieces.now (skip + stretch) counts.new }
+    ensures { CountFirst game.now pieces.now (skip + chunk) counts.new }
 {
     let own = thread.join(rt);
     counts.add(&own);
 }
 
-/// Counts the first stretches of a list, of `stretch` coalitions each.
+/// Counts the first stretches of a list, of `chunk` coalitions each.
 ///
 /// The calling thread counts one, and `others` threads one each. It calls itself for each thread,
 /// so it keeps no counts of its own on the stack.
-fn count_stretches<'s, E, R: Threads>(
+fn count_chunks<'s, E, R: Threads>(
     scope: &Scope<'s, E>,
     rt: &R,
     game: &'s Game,
     pieces: &'s [&'s [Coalition]],
-    stretch: usize,
+    chunk: usize,
     others: u8,
     counts: &mut Counts,
 ) -> Result<(), TallyFault>
     requires list { CanBeCounted game.now (joined pieces.now) }
-    requires room { stretch ≤ 2 ^ 41 }
-    ensures ok { IfOk result (λ _. CountFirst game.now pieces.now (others * stretch + stretch) counts.new) }
+    requires room { chunk ≤ 2 ^ 41 }
+    ensures ok { IfOk result (λ _. CountFirst game.now pieces.now (others * chunk + chunk) counts.new) }
     ensures err { IfErr result (λ fault. fault ≡ TallyFault.Start) }
 {
     if others == 0 {
-        count_first(game, pieces, stretch, counts);
+        count_first(game, pieces, chunk, counts);
         return Ok(());
     }
-    let skip = usize::from(others) * stretch;
-    let Some(thread) = start(scope, game, pieces, skip, stretch) else {
+    let skip = usize::from(others) * chunk;
+    let Some(thread) = start(scope, game, pieces, skip, chunk) else {
         // memory: the thread was not started
         return Err(TallyFault::Start);
     };
-    count_stretches(scope, rt, game, pieces, stretch, others - 1, counts)?;
-    add_stretch(rt, game, pieces, skip, stretch, thread, counts);
+    count_chunks(scope, rt, game, pieces, chunk, others - 1, counts)?;
+    add_chunk(rt, game, pieces, skip, chunk, thread, counts);
     Ok(())
 }

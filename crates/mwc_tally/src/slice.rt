@@ -1,25 +1,25 @@
 //! The counts of one slice.
 ghost use Rattle.std.specs.Prelude.{◌≡◌, ◌≤◌, ◌<◌, ◌^◌, length};
-ghost use Rattle.coalitions.specs.declared.limits.TheConstants.{BITS};
-ghost use Rattle.mwc_tally.specs.declared.slice.TheConstants.{EACH};
+ghost use Rattle.council_base.specs.declared.limits.TheConstants.{BITS};
+ghost use Rattle.mwc_tally.specs.declared.slice.TheConstants.{REPORT_EVERY};
 ghost use Rattle.council_game.specs.Game.{votes_of};
 ghost use Rattle.mwc_walk.specs.Slices.{slice};
 ghost use Rattle.power_index.specs.Tables.{AreTallies};
-ghost use Rattle.mwc_tally.specs.Inner.Shares.{slice_of};
+ghost use Rattle.mwc_tally.specs.Inner.SliceCounts.{slice_of};
 
 use crate::sliced_game::SlicedGame;
-use coalitions::{Gate, NoGate};
+use council_base::{Gate, NoGate};
 use council_game::Game;
 use mwc_walk::{Seek, Walk};
 use power_index::Counts;
 
 /// A gate is informed of each 1,048,576 prefixes or coalitions of a slice, and of the rest at its
 /// end.
-const EACH: u64 = 1 << 20;
+const REPORT_EVERY: u64 = 1 << 20;
 
 /// What the constant is, as a number: clauses name it.
 fn is_this_number()
-    ensures { EACH ≡ 2 ^ 20 }
+    ensures { REPORT_EVERY ≡ 2 ^ 20 }
 {}
 
 /// Counts slice `j` of a game at `bits` bits, by a walk over it. It allocates nothing.
@@ -41,14 +41,14 @@ pub(crate) fn count_slice<G: Gate>(slices: SlicedGame<'_>, j: u16, gate: &G) -> 
 {
     let mut walk = Walk::new(slices.game, slices.bits, j);
     let mut counts = Counts::none(slices.game);
-    let (mut told, mut found) = (walk.visits(), 0);
+    let (mut reported, mut found) = (walk.visits(), 0);
     loop {
-        if walk.visits() - told >= EACH || found == EACH {
-            gate.inform(walk.visits() - told, found);
-            told = walk.visits();
+        if walk.visits() - reported >= REPORT_EVERY || found == REPORT_EVERY {
+            gate.inform(walk.visits() - reported, found);
+            reported = walk.visits();
             found = 0;
         }
-        match walk.seek(EACH - (walk.visits() - told)) {
+        match walk.seek(REPORT_EVERY - (walk.visits() - reported)) {
             Seek::Found(coalition) => {
                 counts.count(coalition);
                 found += 1;
@@ -57,6 +57,6 @@ pub(crate) fn count_slice<G: Gate>(slices: SlicedGame<'_>, j: u16, gate: &G) -> 
             Seek::NotYet => {}
         }
     }
-    gate.inform(walk.visits() - told, found);
+    gate.inform(walk.visits() - reported, found);
     counts
 }

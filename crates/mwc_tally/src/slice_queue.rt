@@ -1,11 +1,11 @@
 //! What the workers of a tally share.
 ghost use Rattle.std.specs.Prelude.{◌≡◌, IfOk};
-ghost use Rattle.mwc_tally.specs.Inner.Shares.{IsShare};
+ghost use Rattle.mwc_tally.specs.Inner.SliceCounts.{AreThreadCounts};
 
-use crate::share::Share;
 use crate::slice::count_slice;
 use crate::sliced_game::SlicedGame;
-use coalitions::Gate;
+use crate::thread_counts::ThreadCounts;
+use council_base::Gate;
 use council_game::Memory;
 use std::alloc::Global;
 use std::sync::atomic::{AtomicU64, Ordering};
@@ -42,12 +42,12 @@ impl<'a, G: Gate> SliceQueue<'a, G> {
     /// Counts one slice after another that nobody took yet, until none is left.
     ///
     /// The last slice comes first: the heaviest members are out there, and it mostly takes longest.
-    fn count(&self, alloc: Global, worker: u8) -> Result<Share, Memory>
-        ensures { IfOk result (IsShare self.now.slices) }
+    fn count(&self, alloc: Global, worker: u8) -> Result<ThreadCounts, Memory>
+        ensures { IfOk result (AreThreadCounts self.now.slices) }
     {
         let slices = self.slices;
         let count = slices.count();
-        let mut share = Share::none(alloc, slices)?;
+        let mut totals = ThreadCounts::none(alloc, slices)?;
         for _ in 0..count {
             let taken = self.taken.fetch_add(1, Ordering::SeqCst);
             if taken >= u64::from(count) {
@@ -55,21 +55,21 @@ impl<'a, G: Gate> SliceQueue<'a, G> {
             }
             let slice = count - 1 - taken as u16;
             self.gate.pass(worker, slice);
-            share.add(slices, &[slice], &count_slice(slices, slice, self.gate))?;
+            totals.add(slices, &[slice], &count_slice(slices, slice, self.gate))?;
         }
-        Ok(share)
+        Ok(totals)
     }
 
     /// Counts as `count` does. If memory runs out, it leaves nothing to the other workers, since
     /// all is lost.
-    pub(crate) fn run(&self, alloc: Global, worker: u8) -> Result<Share, Memory>
-        ensures { IfOk result (IsShare self.now.slices) }
+    pub(crate) fn run(&self, alloc: Global, worker: u8) -> Result<ThreadCounts, Memory>
+        ensures { IfOk result (AreThreadCounts self.now.slices) }
     {
-        let share = self.count(alloc, worker);
+        let totals = self.count(alloc, worker);
         // memory: the one error of a share is Memory
-        if share.is_err() {
+        if totals.is_err() {
             self.stop();
         }
-        share
+        totals
     }
 }

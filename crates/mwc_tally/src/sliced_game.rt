@@ -1,8 +1,8 @@
 //! A game cut into slices.
 ghost use Rattle.std.specs.Prelude.{◌≡◌, ◌≤◌, ◌^◌, length};
-ghost use Rattle.coalitions.specs.declared.limits.TheConstants.{BITS};
+ghost use Rattle.council_base.specs.declared.limits.TheConstants.{BITS};
 
-use crate::share::Share;
+use crate::thread_counts::ThreadCounts;
 use council_game::{Game, Memory};
 use mwc_walk::slice_count;
 use std::thread::Promise;
@@ -26,9 +26,9 @@ impl<'a> SlicedGame<'a> {
 }
 
 /// A thread that was given these slices promises a share of them.
-impl<'a> Promise<Result<Share, Memory>> for SlicedGame<'a> {
+impl<'a> Promise<Result<ThreadCounts, Memory>> for SlicedGame<'a> {
     ghost use Rattle.std.specs.Prelude.{IfOk};
-    ghost use Rattle.mwc_tally.specs.Inner.Shares.{IsShare};
+    ghost use Rattle.mwc_tally.specs.Inner.SliceCounts.{AreThreadCounts};
 
-    ghost kept_by = { λ s r. IfOk r (IsShare s) };
+    ghost kept_by = { λ s r. IfOk r (AreThreadCounts s) };
 }

@@ -1,15 +1,15 @@
 //! The counts of all slices.
 ghost use Rattle.std.specs.Prelude.{◌≡◌, ◌≤◌, All, length, IfOk, MatchOption, ⊤};
-ghost use Rattle.coalitions.specs.declared.limits.TheConstants.{BITS, WORKERS};
+ghost use Rattle.council_base.specs.declared.limits.TheConstants.{BITS, WORKERS};
 ghost use Rattle.power_index.specs.Tables.{AreCountsOfGame};
-ghost use Rattle.mwc_tally.specs.Inner.Shares.{IsShare, IsShareAt, CountWhole};
+ghost use Rattle.mwc_tally.specs.Inner.SliceCounts.{AreThreadCounts, AreThreadCountsAt, CountWhole};
 
 use crate::fault::TallyFault;
-use crate::share::Share;
 use crate::slice::count_slice;
 use crate::slice_queue::SliceQueue;
 use crate::sliced_game::SlicedGame;
-use coalitions::Gate;
+use crate::thread_counts::ThreadCounts;
+use council_base::Gate;
 use council_game::{Game, Memory};
 use power_index::Counts;
 use std::alloc::Global;
@@ -19,7 +19,7 @@ use std::thread;
 use std::thread::{PromisedHandle, Scope, Threads};
 
 /// A thread that was started.
-type Started<'s> = PromisedHandle<Result<Share, Memory>, SlicedGame<'s>>;
+type Started<'s> = PromisedHandle<Result<ThreadCounts, Memory>, SlicedGame<'s>>;
 
 /// Counts all minimal winning coalitions of a game by `workers` threads, 1 to 16.
 ///
@@ -47,19 +47,19 @@ pub fn tally<R: Threads + Wait + Sync, G: Gate + Sync>(
 {
     let taken = AtomicU64::new(0);
     let taken = &taken;
-    let share = thread::scope(
+    let totals = thread::scope(
         thread::scope_env(),
         rt,
-        move |scope| -> Result<Share, TallyFault>
+        move |scope| -> Result<ThreadCounts, TallyFault>
             requires { (bits ≤ BITS) × (bits ≤ length game.now.names) }
-            ensures { IfOk result (IsShareAt game.entry.now bits) }
+            ensures { IfOk result (AreThreadCountsAt game.entry.now bits) }
         {
             let queue = SliceQueue::new(SlicedGame { game, bits }, taken, gate);
-            count_beside(scope, rt, alloc, &queue, workers)
+            count_in_threads(scope, rt, alloc, &queue, workers)
         },
     )?;
     let slices = SlicedGame { game, bits };
-    match share.whole(slices) {
+    match totals.whole(slices) {
         Some(counts) => Ok(counts),
         None => Ok(one_by_one(alloc, slices, gate)?),
     }
@@ -75,8 +75,8 @@ fn start<'s, E, G: Gate + Sync>(
     ensures { MatchOption result ⊤ (λ t. t.promise ≡ queue.now.slices) }
 {
     let own = SliceQueue { ..*queue };
-    let body = move || -> Result<Share, Memory>
-        ensures { IfOk result (IsShare own.entry.slices) }
+    let body = move || -> Result<ThreadCounts, Memory>
+        ensures { IfOk result (AreThreadCounts own.entry.slices) }
     { own.run(alloc, worker) };
     scope.spawn_with(queue.slices, body).ok()
 }
@@ -104,24 +104,24 @@ fn start_all<'s, E, G: Gate + Sync>(
 }
 
 /// Starts the workers, and adds up what they counted.
-fn count_beside<'s, E, R: Threads, G: Gate + Sync>(
+fn count_in_threads<'s, E, R: Threads, G: Gate + Sync>(
     scope: &Scope<'s, E>,
     rt: &R,
     alloc: Global,
     queue: &SliceQueue<'s, G>,
     workers: u8,
-) -> Result<Share, TallyFault>
-    ensures { IfOk result (IsShare queue.now.slices) }
+) -> Result<ThreadCounts, TallyFault>
+    ensures { IfOk result (AreThreadCounts queue.now.slices) }
 {
-    let none = Share::none(alloc, queue.slices)?;
+    let none = ThreadCounts::none(alloc, queue.slices)?;
     let threads = start_all(scope, alloc, queue, workers)?;
     let started = threads.len() == usize::from(workers);
-    let share = join_all(rt, queue.slices, threads, none);
+    let totals = join_all(rt, queue.slices, threads, none);
     if !started {
         // memory: a thread was not started
         return Err(TallyFault::Start);
     }
-    Ok(share?)
+    Ok(totals?)
 }
 
 /// Joins all threads, and adds what they counted to a share.
@@ -129,24 +129,24 @@ fn join_all<'s, R: Threads>(
     rt: &R,
     slices: SlicedGame<'s>,
     threads: Vec<Started<'s>>,
-    share: Share,
-) -> Result<Share, Memory>
+    totals: ThreadCounts,
+) -> Result<ThreadCounts, Memory>
     requires threads { All (λ t. t.promise ≡ slices) threads.items }
-    requires share { IsShare slices share }
-    ensures { IfOk result (IsShare slices.entry) }
+    requires totals { AreThreadCounts slices totals }
+    ensures { IfOk result (AreThreadCounts slices.entry) }
 {
-    let mut all = share;
-    let mut lost = false;
+    let mut all = totals;
+    let mut out_of_memory = false;
     for thread in threads {
         match thread.join(rt) {
             // memory: a growth that was refused
-            Ok(share) => lost |= all.add(slices, &share.taken, &share.counts).is_err(),
+            Ok(totals) => out_of_memory |= all.add(slices, &totals.taken, &totals.counts).is_err(),
             // memory: the one error of a thread is Memory
-            Err(_) => lost = true,
+            Err(_) => out_of_memory = true,
         }
     }
     // memory: a share that was lost, or not added
-    if lost { Err(Memory) } else { Ok(all) }
+    if out_of_memory { Err(Memory) } else { Ok(all) }
 }
 
 /// Counts all slices one after the other. (This fallback never runs: each slice is taken once.)

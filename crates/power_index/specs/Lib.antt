@@ -4,6 +4,6 @@ pub mod Counting
 pub mod Tables
 pub mod Fractions
 pub mod Indices
-pub mod Both
+pub mod MemberIndices
 pub mod Renaming
 pub mod Inner

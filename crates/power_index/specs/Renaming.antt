@@ -2,7 +2,7 @@
 use Rattle.std.specs.Prelude.{ℕ, ◌≡◌, ◌<◌, length}
 use Rattle.council_game.specs.Game.{GameView, votes_of}
 use Rattle.council_game.specs.Votes.{minimal_coalitions}
-use Rattle.power_index.specs.Both.{indices_of_member}
+use Rattle.power_index.specs.MemberIndices.{indices_of_member}
 use Rattle.power_index.specs.Counting.{count_of_size, count_of_member, count_of_member_size}
 
 -- the minimal winning coalitions of two games have the same counts, those of a member under its new

@@ -1,6 +1,6 @@
 //! Counts of coalitions, by member and by size.
-ghost use Rattle.coalitions.specs.SizeCounts.{AreAdded};
-ghost use Rattle.coalitions.specs.declared.limits.TheConstants.{MEMBERS};
+ghost use Rattle.council_base.specs.SizeCounts.{AreAdded};
+ghost use Rattle.council_base.specs.declared.limits.TheConstants.{MEMBERS};
 ghost use Rattle.council_game.specs.Game.{GameView, AreNonemptyCoalitions};
 ghost use Rattle.council_game.specs.Votes.{has};
 ghost use Rattle.power_index.specs.Tables.{AreCounts, AreOfOneGame, AreSizeCounts, AreSound, AreTallies};
@@ -9,7 +9,7 @@ ghost use Rattle.power_index.specs.Tables.{table_of_member_size, table_of_size, 
 ghost use Rattle.power_index.specs.Inner.Tables.{with_one};
 ghost use Rattle.std.specs.Prelude.{◌≡◌, ℕ, ◌+◌, ◌-◌, ◌*◌, ◌<◌, ◌≤◌, ◌^◌, if◌then◌else◌, List, [], ◌∷◌, ◌++◌, length, slice_index, slice_index_or, All, min, true};
 
-use coalitions::{SizeCounts, add_counts};
+use council_base::{SizeCounts, add_counts};
 use council_game::{Coalition, Game, limits};
 use std::marker::Model;
 

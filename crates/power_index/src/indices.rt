@@ -2,7 +2,7 @@
 ghost use Rattle.council_game.specs.Game.{GameView};
 ghost use Rattle.power_index.specs.Fractions.{IsIndex, IsLowestOf, lowest_terms, pair_of};
 ghost use Rattle.power_index.specs.Indices.{deegan_packel, public_good};
-ghost use Rattle.coalitions.specs.declared.limits.TheConstants.{MEMBERS};
+ghost use Rattle.council_base.specs.declared.limits.TheConstants.{MEMBERS};
 ghost use Rattle.power_index.specs.declared.indices.TheConstants.{DENOMINATOR};
 ghost use Rattle.power_index.specs.Tables.{AreCounts, table_deegan_packel, table_public_good, table_total};
 ghost use Rattle.power_index.specs.Tables.{table_of_member_size, weighted_sum};
@@ -14,7 +14,7 @@ use crate::{Counts, Fraction, lowest};
 const DENOMINATOR: u128 = 5_342_931_457_063_200;
 
 /// Divides a part by a whole, in lowest terms: 0/1 if there is nothing to share.
-fn share(part: u128, whole: u128) -> Fraction
+fn ratio(part: u128, whole: u128) -> Fraction
     requires part { part ≤ whole }
     requires small { whole ≤ 10 ^ 30 }
     ensures lowest { IsLowestOf (part, whole) (pair_of result) }
@@ -54,7 +54,7 @@ pub fn deegan_packel(counts: &Counts, member: usize) -> Fraction
     ensures index { IsIndex (pair_of result) }
 {
     let sum = weight(counts, member);
-    share(sum, DENOMINATOR * u128::from(counts.wide_total()))
+    ratio(sum, DENOMINATOR * u128::from(counts.wide_total()))
 }
 
 /// Computes the public good index of a member, in lowest terms.
@@ -72,7 +72,7 @@ pub fn public_good(counts: &Counts, member: usize) -> Fraction
         pair_of result ≡ lowest_terms (table_public_good counts.now member) }
     ensures index { IsIndex (pair_of result) }
 {
-    share(
+    ratio(
         u128::from(counts.wide_of_member(member)),
         u128::from(counts.memberships()),
     )

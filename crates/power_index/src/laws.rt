@@ -1,10 +1,10 @@
 //! Laws of the definitions, with nothing to run: each index adds up to 1, what lowest terms are,
 //! and that two indices which are the same number are equal.
-ghost use Rattle.coalitions.specs.declared.limits.TheConstants.{MEMBERS};
+ghost use Rattle.council_base.specs.declared.limits.TheConstants.{MEMBERS};
 ghost use Rattle.council_game.specs.Game.{GameView, IsGame, votes_of, AreNonemptyCoalitions};
 ghost use Rattle.council_game.specs.Renaming.{AreSymmetric, IsRenaming};
 ghost use Rattle.council_game.specs.Votes.{minimal_coalitions};
-ghost use Rattle.power_index.specs.Both.{indices_of_member};
+ghost use Rattle.power_index.specs.MemberIndices.{indices_of_member};
 ghost use Rattle.power_index.specs.Counting.{members};
 ghost use Rattle.power_index.specs.Fractions.{AddUpToOne, HasLowestTerms, IsIndex, SameFraction};
 ghost use Rattle.power_index.specs.Indices.{deegan_packel, public_good};

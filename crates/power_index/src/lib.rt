@@ -12,16 +12,16 @@
 //! ```
 #![tactic(auto)]
 
-mod both;
 mod counts;
 mod fraction;
 mod index;
 mod indices;
 pub mod laws;
+mod member_indices;
 mod order;
 
-pub use both::{MemberIndices, all_indices};
 pub use counts::Counts;
 pub use fraction::{Fraction, lowest};
 pub use index::Index;
 pub use indices::{deegan_packel, public_good};
+pub use member_indices::{MemberIndices, all_indices};

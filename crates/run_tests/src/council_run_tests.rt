@@ -6,9 +6,9 @@ mod tallies;
 mod texts;
 
 ghost use Rattle.std.specs.Prelude.{◌≤◌, ◌<◌};
-ghost use Rattle.coalitions.specs.declared.limits.TheConstants.{BITS, COALITIONS, WORKERS};
+ghost use Rattle.council_base.specs.declared.limits.TheConstants.{BITS, COALITIONS, WORKERS};
 
-use crate::helpers::same;
+use crate::helpers::assert_same;
 use council_game::GameFault;
 use council_report::ReportLines;
 use council_run::{Cause, Options, RunFault, run, status, tally};
@@ -255,13 +255,13 @@ fn writes<R: Abort + Threads + Wait + Sync>(
         part,
     };
     let answer = run(rt, alloc, &mut reader, options, &NoGate, &mut writer);
-    same(rt, answer, Ok(report.len() as u64), part);
-    same(rt, (writer.awaited.len(), writer.differs), (0, false), part);
+    assert_same(rt, answer, Ok(report.len() as u64), part);
+    assert_same(rt, (writer.awaited.len(), writer.differs), (0, false), part);
 }
 
 #[test]
 fn writes_the_worked_reports(rt: HostRuntime) {
-    same(
+    assert_same(
         &rt,
         BOARD_REPORT.len(),
         158,
@@ -325,9 +325,9 @@ fn takes<R: Abort + Threads + Wait + Sync>(
     let mut writer = writer;
     let mut reader = BOARD;
     let answer = run(rt, alloc, &mut reader, &plain(), &NoGate, &mut writer);
-    same(rt, answer, wanted, room);
-    same(rt, writer.taken.len(), room, "bytes taken");
-    same(rt, BOARD_REPORT.starts_with(&writer.taken), true, room);
+    assert_same(rt, answer, wanted, room);
+    assert_same(rt, writer.taken.len(), room, "bytes taken");
+    assert_same(rt, BOARD_REPORT.starts_with(&writer.taken), true, room);
 }
 
 /// A write that failed after `written` bytes.
@@ -404,8 +404,8 @@ fn reads<R: Abort + Threads + Wait + Sync>(
     let mut reader = reader;
     let mut written = Vec::new(alloc);
     let answer = run(rt, alloc, &mut reader, &plain(), &NoGate, &mut written);
-    same(rt, answer, wanted, end);
-    same(rt, written.as_slice(), report, end);
+    assert_same(rt, answer, wanted, end);
+    assert_same(rt, written.as_slice(), report, end);
 }
 
 #[test]
@@ -458,8 +458,8 @@ fn refuses_more_than_the_most(rt: HostRuntime) {
             cause: Cause::Gather(GatherFault::TooMany),
             written: 0,
         };
-        same(&rt, answer == Err(wanted), many, "too many");
-        same(&rt, written.is_empty(), many, "nothing is written");
+        assert_same(&rt, answer == Err(wanted), many, "too many");
+        assert_same(&rt, written.is_empty(), many, "nothing is written");
     }
 }
 
@@ -492,8 +492,8 @@ fn gated<R: Abort + Threads + Wait + Sync, G: Gate + Sync>(
     let mut reader = FIVE;
     let mut written = Vec::new(alloc);
     let answer = run(rt, alloc, &mut reader, &options, gate, &mut written);
-    same(rt, answer, Ok(FIVE_REPORT.len() as u64), (workers, bits));
-    same(rt, written.as_slice(), FIVE_REPORT, (workers, bits));
+    assert_same(rt, answer, Ok(FIVE_REPORT.len() as u64), (workers, bits));
+    assert_same(rt, written.as_slice(), FIVE_REPORT, (workers, bits));
 }
 
 #[test]
@@ -518,7 +518,7 @@ fn each_slice_passes_once(rt: HostRuntime) {
         };
         gated(&rt, rt.alloc(), workers, 2, &passes);
         for slice in 0..4usize {
-            same(&rt, passes.of[slice].load(Ordering::SeqCst), 1, workers);
+            assert_same(&rt, passes.of[slice].load(Ordering::SeqCst), 1, workers);
         }
     }
 }
@@ -570,7 +570,7 @@ fn two_workers_meet(rt: HostRuntime) {
         meeting.here[1].load(Ordering::SeqCst),
         meeting.missed.load(Ordering::SeqCst),
     );
-    same(&rt, found, (1, 1, 0), "who came, and who was missed");
+    assert_same(&rt, found, (1, 1, 0), "who came, and who was missed");
 }
 
 #[test]
@@ -587,12 +587,12 @@ fn statuses(rt: HostRuntime) {
         (Cause::Memory, 5, 4),
     ];
     for (cause, wanted, number) in causes {
-        same(
+        assert_same(
             &rt,
             status(&RunFault { cause, written: 0 }),
             wanted,
             "status",
         );
-        same(&rt, cause.number(), number, "cause.number");
+        assert_same(&rt, cause.number(), number, "cause.number");
     }
 }

@@ -7,7 +7,7 @@ use std::io::Print;
 use std::process::Abort;
 
 /// Fails with the label where what was found is not what was wanted.
-pub(crate) fn same<T: PartialEq + Debug + Drop, L: Debug + Drop>(
+pub(crate) fn assert_same<T: PartialEq + Debug + Drop, L: Debug + Drop>(
     rt: &impl Abort,
     found: T,
     wanted: T,
@@ -16,14 +16,14 @@ pub(crate) fn same<T: PartialEq + Debug + Drop, L: Debug + Drop>(
     assert_eq!(rt; found, wanted, "{label:?}");
 }
 
-/// Prints a line, for `tests/refusals.sh`.
-pub(crate) fn say<R: Abort + Print>(rt: &R, line: &str) {
+/// Prints a line, for `tests/call_allocations.sh`.
+pub(crate) fn print_line<R: Abort + Print>(rt: &R, line: &str) {
     rt.println(line).expect(rt, "the line is printed");
 }
 
 /// Prints whether a call that takes memory worked.
-pub(crate) fn say_memory<R: Abort + Print>(rt: &R, worked: bool) {
-    say(rt, if worked { "worked" } else { "out of memory" });
+pub(crate) fn print_memory<R: Abort + Print>(rt: &R, worked: bool) {
+    print_line(rt, if worked { "worked" } else { "out of memory" });
 }
 
 /// Puts the word in until it is refused, at most `most` times, and says how often it went in.

@@ -5,7 +5,7 @@ mod refusals;
 
 ghost use Rattle.std.specs.Prelude.{◌≡◌, length};
 
-use crate::helpers::same;
+use crate::helpers::assert_same;
 use council_game::{Coalition, Game};
 use mwc_gather::{
     Gate, GatherFault, Gathered, Guarded, Marks, NoGate, Sent, gather, send_slice, work,
@@ -63,9 +63,9 @@ fn forty(rt: &impl Abort, alloc: Global, quota: u64) -> Game {
 
 /// Fails with the label where the coalitions are not those of these masks, in that order.
 fn are_masks(rt: &impl Abort, list: &[Coalition], masks: &[u64], label: &str) {
-    same(rt, list.len(), masks.len(), label);
+    assert_same(rt, list.len(), masks.len(), label);
     for (coalition, mask) in list.iter().zip(masks) {
-        same(rt, coalition.mask(), *mask, label);
+        assert_same(rt, coalition.mask(), *mask, label);
     }
 }
 
@@ -113,7 +113,7 @@ fn count<R: Threads + Wait + Abort + Sync>(
     match gathered(rt, alloc, game, &NoGate, bits, workers, most) {
         Ok(gathered) => gathered.in_order(alloc).expect(rt, "a list").len(),
         Err(fault) => {
-            same(rt, fault, GatherFault::TooMany, "a fault");
+            assert_same(rt, fault, GatherFault::TooMany, "a fault");
             0
         }
     }
@@ -168,7 +168,7 @@ fn cuts_above_the_most(rt: HostRuntime) {
             for bits in 0..6 {
                 let wanted = if most == 5 { 5 } else { 0 };
                 let found = count(&rt, rt.alloc(), &game, bits, workers, most);
-                same(&rt, found, wanted, (most, workers, bits));
+                assert_same(&rt, found, wanted, (most, workers, bits));
             }
         }
     }
@@ -185,7 +185,7 @@ fn counts_pairs(rt: HostRuntime) {
     ] {
         let game = forty(&rt, rt.alloc(), quota);
         let found = count(&rt, rt.alloc(), &game, bits, workers, most);
-        same(&rt, found, wanted, (quota, bits, workers, most));
+        assert_same(&rt, found, wanted, (quota, bits, workers, most));
     }
 }
 
@@ -235,7 +235,7 @@ fn each_slice_passes_once(rt: HostRuntime) {
     for workers in 1..17 {
         let passes = Passes::none();
         lists(&rt, rt.alloc(), &game, &passes, 2, workers, &FIVE);
-        same(&rt, passes.counts(), [1, 1, 1, 1], workers);
+        assert_same(&rt, passes.counts(), [1, 1, 1, 1], workers);
     }
 }
 
@@ -267,13 +267,13 @@ fn workers_have_ended_after_a_refusal(rt: HostRuntime) {
         let refused = gathered(&rt, rt.alloc(), &game, &slow, 2, workers, 1).err();
         let went = slow.went.load(Ordering::SeqCst);
         let came = slow.came.load(Ordering::SeqCst);
-        same(&rt, refused, Some(GatherFault::TooMany), workers);
-        same(&rt, 0 < came, true, workers);
-        same(&rt, went, came, workers);
+        assert_same(&rt, refused, Some(GatherFault::TooMany), workers);
+        assert_same(&rt, 0 < came, true, workers);
+        assert_same(&rt, went, came, workers);
         for _ in 0..1000 {
             thread::yield_now();
         }
-        same(&rt, slow.came.load(Ordering::SeqCst), came, workers);
+        assert_same(&rt, slow.came.load(Ordering::SeqCst), came, workers);
     }
 }
 
@@ -322,7 +322,7 @@ fn two_workers_meet(rt: HostRuntime) {
         meeting.here[1].load(Ordering::SeqCst),
         meeting.missed.load(Ordering::SeqCst),
     );
-    same(&rt, found, (1, 1, 0), "who came, and who was missed");
+    assert_same(&rt, found, (1, 1, 0), "who came, and who was missed");
 }
 
 /// A gate that holds one worker at its first slice until slice 2 has passed.
@@ -355,8 +355,8 @@ fn held_parts<R: Threads + Wait + Abort + Sync>(
         missed: AtomicU64::new(0),
     };
     let gathered = gathered(rt, alloc, game, &gate, 2, 2, 5).expect(rt, "parts");
-    same(rt, gate.missed.load(Ordering::SeqCst), 0, held);
-    same(rt, gate.passes.counts(), [1, 1, 1, 1], held);
+    assert_same(rt, gate.missed.load(Ordering::SeqCst), 0, held);
+    assert_same(rt, gate.passes.counts(), [1, 1, 1, 1], held);
     gathered
 }
 
@@ -367,7 +367,7 @@ fn begin_with(rt: &impl Abort, gathered: &Gathered, first: &[u16], second: &[u16
         gathered.parts[0].slices.starts_with(first),
         gathered.parts[1].slices.starts_with(second),
     );
-    same(rt, found, (true, true), held);
+    assert_same(rt, found, (true, true), held);
 }
 
 #[test]
@@ -395,12 +395,12 @@ fn sends_a_slice(rt: HostRuntime) {
         assert!(rt; 0 < left && left < 7);
         let mut batch = Batch::new(rt.alloc(), 16);
         let sent = send_slice(&rt, &guarded, 2, 1, 1, left, &mut batch);
-        same(&rt, sent, wanted, ("left", left));
+        assert_same(&rt, sent, wanted, ("left", left));
         let mut pipe = batch.close();
         for word in words.iter().take(count) {
-            same(&rt, pipe.take(), Taken::Item(*word), ("left", left));
+            assert_same(&rt, pipe.take(), Taken::Item(*word), ("left", left));
         }
-        same(&rt, pipe.take(), Taken::Ended, ("left", left));
+        assert_same(&rt, pipe.take(), Taken::Ended, ("left", left));
     }
 }
 
@@ -419,9 +419,9 @@ fn works_on_its_tasks(rt: HostRuntime) {
         let (closed, _list) = work(&rt, &guarded, 2, 1, 5, out, list);
         let mut rest = words.end(closed.expect(&rt, "a closed end"));
         for word in wanted.iter().take(if with_slice { 5 } else { 0 }) {
-            same(&rt, rest.next(), Some(*word), with_slice);
+            assert_same(&rt, rest.next(), Some(*word), with_slice);
         }
         let end = (rest.next(), rest.next());
-        same(&rt, end, (Some(Word::End { cut: false }), None), with_slice);
+        assert_same(&rt, end, (Some(Word::End { cut: false }), None), with_slice);
     }
 }

@@ -2,7 +2,7 @@
 mod refusals;
 mod rings;
 
-use crate::helpers::{fill, same};
+use crate::helpers::{assert_same, fill};
 use mwc_pipe::{Batch, Pipe, PipeIn, Refused, Reply, Step, Taken, Word, replay, ring};
 use std::alloc::Global;
 use std::process::Abort;
@@ -40,44 +40,44 @@ const REPLIES: [Reply<char>; 12] = [
 #[test]
 fn replays_a_history(rt: HostRuntime) {
     let trace = replay(rt.alloc(), 2, &STEPS).expect(&rt, "a trace");
-    same(
+    assert_same(
         &rt,
         trace.replies.as_slice(),
         REPLIES.as_slice(),
         "trace.replies",
     );
-    same(
+    assert_same(
         &rt,
         trace.came.as_slice(),
         ['a', 'b', 'c'].as_slice(),
         "trace.came",
     );
-    same(
+    assert_same(
         &rt,
         trace.gone.as_slice(),
         ['a', 'b', 'c'].as_slice(),
         "trace.gone",
     );
-    same(&rt, trace.inside.len(), 0, "trace.inside.len");
+    assert_same(&rt, trace.inside.len(), 0, "trace.inside.len");
     assert!(rt; trace.closed);
 }
 
 #[test]
 fn serves_the_same_calls(rt: HostRuntime) {
     let mut pipe = Pipe::new(rt.alloc(), 2);
-    same(&rt, pipe.take(), Taken::Empty, "pipe.take");
-    same(&rt, pipe.put('a'), Ok(()), "pipe.put");
-    same(&rt, pipe.put('b'), Ok(()), "pipe.put 2");
-    same(&rt, pipe.put('c'), Err(Refused::Full('c')), "pipe.put 3");
-    same(&rt, pipe.take(), Taken::Item('a'), "pipe.take 2");
-    same(&rt, pipe.put('c'), Ok(()), "pipe.put 4");
-    same(&rt, pipe.len(), 2, "pipe.len");
+    assert_same(&rt, pipe.take(), Taken::Empty, "pipe.take");
+    assert_same(&rt, pipe.put('a'), Ok(()), "pipe.put");
+    assert_same(&rt, pipe.put('b'), Ok(()), "pipe.put 2");
+    assert_same(&rt, pipe.put('c'), Err(Refused::Full('c')), "pipe.put 3");
+    assert_same(&rt, pipe.take(), Taken::Item('a'), "pipe.take 2");
+    assert_same(&rt, pipe.put('c'), Ok(()), "pipe.put 4");
+    assert_same(&rt, pipe.len(), 2, "pipe.len");
     assert!(rt; !pipe.is_closed());
     assert!(rt; pipe.close());
-    same(&rt, pipe.put('d'), Err(Refused::Closed('d')), "pipe.put 5");
-    same(&rt, pipe.take(), Taken::Item('b'), "pipe.take 3");
-    same(&rt, pipe.take(), Taken::Item('c'), "pipe.take 4");
-    same(&rt, pipe.take(), Taken::Ended, "pipe.take 5");
+    assert_same(&rt, pipe.put('d'), Err(Refused::Closed('d')), "pipe.put 5");
+    assert_same(&rt, pipe.take(), Taken::Item('b'), "pipe.take 3");
+    assert_same(&rt, pipe.take(), Taken::Item('c'), "pipe.take 4");
+    assert_same(&rt, pipe.take(), Taken::Ended, "pipe.take 5");
     assert!(rt; !pipe.close());
 }
 
@@ -86,35 +86,35 @@ const END: Word = Word::End { cut: false };
 #[test]
 fn fills_a_batch(rt: HostRuntime) {
     let mut batch = Batch::new(rt.alloc(), 2);
-    same(&rt, batch.put(Word::Open(0)), Ok(()), "batch.put");
-    same(&rt, batch.put(Word::Done(0)), Ok(()), "batch.put 2");
-    same(&rt, batch.put(END), Err(Refused::Full(END)), "batch.put 3");
+    assert_same(&rt, batch.put(Word::Open(0)), Ok(()), "batch.put");
+    assert_same(&rt, batch.put(Word::Done(0)), Ok(()), "batch.put 2");
+    assert_same(&rt, batch.put(END), Err(Refused::Full(END)), "batch.put 3");
     let mut pipe = batch.close();
-    same(&rt, pipe.take(), Taken::Item(Word::Open(0)), "pipe.take");
-    same(&rt, pipe.take(), Taken::Item(Word::Done(0)), "pipe.take 2");
-    same(&rt, pipe.take(), Taken::Ended, "pipe.take 3");
-    same(&rt, pipe.take(), Taken::Ended, "pipe.take 4");
-    same(&rt, pipe.put(END), Err(Refused::Closed(END)), "pipe.put");
+    assert_same(&rt, pipe.take(), Taken::Item(Word::Open(0)), "pipe.take");
+    assert_same(&rt, pipe.take(), Taken::Item(Word::Done(0)), "pipe.take 2");
+    assert_same(&rt, pipe.take(), Taken::Ended, "pipe.take 3");
+    assert_same(&rt, pipe.take(), Taken::Ended, "pipe.take 4");
+    assert_same(&rt, pipe.put(END), Err(Refused::Closed(END)), "pipe.put");
     assert!(rt; !pipe.close());
-    same(&rt, pipe.len(), 0, "pipe.len");
-    same(&rt, pipe.capacity(), 2, "pipe.capacity");
+    assert_same(&rt, pipe.len(), 0, "pipe.len");
+    assert_same(&rt, pipe.capacity(), 2, "pipe.capacity");
     assert!(rt; pipe.is_closed());
 }
 
 #[test]
 fn fills_both_kinds_of_pipe(rt: HostRuntime) {
     let mut batch = Batch::new(rt.alloc(), 3);
-    same(&rt, fill(&mut batch, Word::Done(7), 5), 3, "fill");
+    assert_same(&rt, fill(&mut batch, Word::Done(7), 5), 3, "fill");
     let (mut to, mut from) = ring(rt.alloc(), 3).expect(&rt, "a ring");
-    same(&rt, fill(&mut to, Word::Done(7), 5), 3, "fill 2");
-    same(
+    assert_same(&rt, fill(&mut to, Word::Done(7), 5), 3, "fill 2");
+    assert_same(
         &rt,
         PipeIn::put(&mut to, Word::Open(7)),
         Err(Refused::Full(Word::Open(7))),
         "PipeIn::put",
     );
-    same(&rt, from.take(), Some(Word::Done(7)), "from.take");
-    same(&rt, fill(&mut to, Word::Done(7), 5), 1, "fill 3");
+    assert_same(&rt, from.take(), Some(Word::Done(7)), "from.take");
+    assert_same(&rt, fill(&mut to, Word::Done(7), 5), 1, "fill 3");
 }
 
 /// How many items the pure pipes below are given.
@@ -132,14 +132,14 @@ fn holds_thousands_of_items(rt: HostRuntime) {
             } else {
                 Err(Refused::Full(item))
             };
-            same(&rt, pipe.put(item), wanted, ("capacity", capacity));
+            assert_same(&rt, pipe.put(item), wanted, ("capacity", capacity));
         }
-        same(&rt, pipe.len(), inside, "pipe.len");
+        assert_same(&rt, pipe.len(), inside, "pipe.len");
         assert!(rt; pipe.close());
         for item in 0..inside {
-            same(&rt, pipe.take(), Taken::Item(item), ("capacity", capacity));
+            assert_same(&rt, pipe.take(), Taken::Item(item), ("capacity", capacity));
         }
-        same(&rt, pipe.take(), Taken::Ended, ("capacity", capacity));
+        assert_same(&rt, pipe.take(), Taken::Ended, ("capacity", capacity));
     }
 }
 
@@ -161,10 +161,10 @@ fn steps(rt: &impl Abort, alloc: Global) -> Vec<Step<u32>> {
 
 /// The items are `count` numbers, from `first` on.
 fn are_numbers(rt: &impl Abort, items: &[u32], first: u32, count: usize) {
-    same(rt, items.len(), count, "how many items");
+    assert_same(rt, items.len(), count, "how many items");
     let mut wanted = first;
     for item in items {
-        same(rt, *item, wanted, "an item");
+        assert_same(rt, *item, wanted, "an item");
         wanted = wanted.wrapping_add(1);
     }
 }
@@ -178,6 +178,6 @@ fn replays_thousands_of_steps(rt: HostRuntime) {
     are_numbers(&rt, &trace.came, 0, ITEMS as usize);
     are_numbers(&rt, &trace.gone, 0, half as usize);
     are_numbers(&rt, &trace.inside, half, half as usize);
-    same(&rt, trace.replies.len(), steps.len(), "replies");
-    same(&rt, trace.closed, true, "closed");
+    assert_same(&rt, trace.replies.len(), steps.len(), "replies");
+    assert_same(&rt, trace.closed, true, "closed");
 }

@@ -4,8 +4,8 @@ mod refusals;
 
 ghost use Rattle.std.specs.Prelude.{◌≡◌, length};
 
-use crate::helpers::{game, same};
-use coalitions::{Gate, NoGate};
+use crate::helpers::{assert_same, game};
+use council_base::{Gate, NoGate};
 use council_game::Game;
 use mwc_tally::{tally, tally_slice};
 use mwc_walk::Walk;
@@ -36,14 +36,14 @@ fn forty(rt: &impl Abort, alloc: Global, quota: u64) -> Game
 /// The counts of the five members of weights 35, 20, 15, 15, 15 with quota 51.
 fn assert_of_five(rt: &impl Abort, counts: &Counts) {
     assert!(rt; counts.members() == 5);
-    same(rt, counts.wide_total(), 5, "counts.total");
+    assert_same(rt, counts.wide_total(), 5, "counts.total");
     for (size, count) in [0, 0, 1, 3, 1, 0].iter().enumerate() {
         assert!(rt; size <= 5);
-        same(rt, counts.wide_of_size(size), *count, "counts.of_size");
+        assert_same(rt, counts.wide_of_size(size), *count, "counts.of_size");
     }
     for (member, count) in [4, 2, 3, 3, 3].iter().enumerate() {
         assert!(rt; member < 5);
-        same(
+        assert_same(
             rt,
             counts.wide_of_member(member),
             *count,
@@ -70,9 +70,9 @@ fn one_slice(rt: HostRuntime) {
     let game = five(&rt, rt.alloc());
     let counts = tally_slice(&game, 2, 1);
     assert!(rt; counts.members() == 5);
-    same(&rt, counts.wide_total(), 3, "counts.total");
-    same(&rt, counts.wide_of_member(0), 3, "counts.of_member");
-    same(&rt, counts.wide_of_member(1), 0, "counts.of_member 2");
+    assert_same(&rt, counts.wide_total(), 3, "counts.total");
+    assert_same(&rt, counts.wide_of_member(0), 3, "counts.of_member");
+    assert_same(&rt, counts.wide_of_member(1), 0, "counts.of_member 2");
 }
 
 #[test]
@@ -80,9 +80,9 @@ fn five_of_forty_win(rt: HostRuntime) {
     let game = forty(&rt, rt.alloc(), 5);
     let counts = tally(&rt, rt.alloc(), &game, 6, 4, &NoGate).expect(&rt, "counts");
     assert!(rt; counts.members() == 40);
-    same(&rt, counts.wide_total(), 658_008, "counts.total");
+    assert_same(&rt, counts.wide_total(), 658_008, "counts.total");
     for member in 0..40 {
-        same(
+        assert_same(
             &rt,
             counts.wide_of_member(member),
             82_251,
@@ -129,20 +129,20 @@ fn each_slice_is_passed_once(rt: HostRuntime) {
         let counts = tally(&rt, rt.alloc(), &game, 5, workers, &once).expect(&rt, "counts");
         assert_of_five(&rt, &counts);
         let all: u64 = (1 << 32) - 1;
-        same(
+        assert_same(
             &rt,
             once.seen.load(Ordering::SeqCst),
             all,
             ("seen", workers),
         );
-        same(
+        assert_same(
             &rt,
             once.again.load(Ordering::SeqCst),
             0,
             ("again", workers),
         );
         let descending = once.descending.load(Ordering::SeqCst);
-        same(&rt, workers > 1 || descending == 32, true, workers);
+        assert_same(&rt, workers > 1 || descending == 32, true, workers);
     }
 }
 
@@ -212,7 +212,7 @@ fn a_held_worker_holds_no_slice(rt: HostRuntime) {
             holding.missed.load(Ordering::SeqCst),
             holding.workers.load(Ordering::SeqCst),
         );
-        same(&rt, found, (32, 0, numbers), workers);
+        assert_same(&rt, found, (32, 0, numbers), workers);
     }
 }
 
@@ -270,14 +270,14 @@ fn informs_add_up(rt: HostRuntime) {
         late: AtomicU64::new(0),
     };
     let counts = tally(&rt, rt.alloc(), &game, 1, 1, &informed).expect(&rt, "counts");
-    same(&rt, counts.wide_total(), 3_838_380, "coalitions");
+    assert_same(&rt, counts.wide_total(), 3_838_380, "coalitions");
     let found = (
         informed.found.load(Ordering::SeqCst),
         informed.prefixes.load(Ordering::SeqCst),
         informed.early.load(Ordering::SeqCst),
         informed.late.load(Ordering::SeqCst),
     );
-    same(
+    assert_same(
         &rt,
         found,
         (3_838_380, prefixes_of(&game), 2, 0),

@@ -1,7 +1,7 @@
 -- What a command line asks of a run.
 use Rattle.std.specs.Prelude.{ℕ, Option, None, Some, if◌then◌else◌}
-use Rattle.coalitions.specs.Options.{lines_of, without_list}
-use Rattle.coalitions.specs.declared.report_lines.ReportLines.{ReportLines}
+use Rattle.council_base.specs.Options.{lines_of, without_list}
+use Rattle.council_base.specs.declared.report_lines.ReportLines.{ReportLines}
 use Rattle.council_words.specs.declared.words.Arguments.{Arguments}
 
 -- the optional lines of the report: a tally has none for a coalition

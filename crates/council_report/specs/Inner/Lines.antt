@@ -1,7 +1,7 @@
 -- The lines of sizes and members, from the counts of a list that need not be there.
 use Rattle.std.specs.Prelude.{ℕ, List, [], ◌++◌, if◌then◌else◌}
 use Rattle.std.specs.List.{flat_map, range_with_len}
-use Rattle.coalitions.specs.declared.report_lines.ReportLines.{ReportLines}
+use Rattle.council_base.specs.declared.report_lines.ReportLines.{ReportLines}
 use Rattle.power_index.specs.Fractions.{lowest_terms}
 use Rattle.power_index.specs.Tables.{table_of_size, table_of_member, table_of_member_size, table_deegan_packel, table_public_good}
 use Rattle.council_report.specs.declared.counted.Counted.{Counted}

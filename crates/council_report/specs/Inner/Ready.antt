@@ -19,14 +19,14 @@ abbrev pub CanCount : Block → List ℕ → Type 0
 CanCount block text = block.written + length block.bytes.items + length text < 2 ^ 64
 
 -- a text was put at its end, unless memory was refused
-pub record Adds (old new : Block) (text : List ℕ) : Type 0 where
+pub record AppendsText (old new : Block) (text : List ℕ) : Type 0 where
   pub kept : new.refused ≡ false → old.refused ≡ false
   pub items : new.refused ≡ false → new.bytes.items ≡ old.bytes.items ++ text
   pub capacity : vec_capacity old.bytes ≤ vec_capacity new.bytes
   pub written : new.written ≡ old.written
 
 -- and it was not refused where the text fits the room
-pub record Takes (old new : Block) (text : List ℕ) : Type 0 where
-  pub adds : Adds old new text
+pub record AppendsInRoom (old new : Block) (text : List ℕ) : Type 0 where
+  pub adds : AppendsText old new text
   pub fits : old.refused ≡ false → length old.bytes.items + length text ≤ vec_capacity old.bytes
       → new.refused ≡ false

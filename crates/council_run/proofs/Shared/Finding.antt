@@ -1,6 +1,6 @@
 -- What was found of a game.
 use Rattle.std.proofs.Common.{Option, Result, Ok, Err, IfOk, ℕ}
-use Rattle.coalitions.specs.declared.report_lines.ReportLines.{ReportLines}
+use Rattle.council_base.specs.declared.report_lines.ReportLines.{ReportLines}
 use Rattle.council_game.specs.Game.{GameView}
 use Rattle.council_run.specs.Found.{Finds, IsFound}
 use Rattle.council_run.specs.declared.fault.RunFault.{RunFault}

@@ -69,7 +69,7 @@ fn a_failed_read_is_not_tried_again(rt: HostRuntime) {
             let mut reader = Asked::new(bytes, 1, Some((k as u64, kind)));
             let said = shown(&rt, alloc, read_game(alloc, &mut reader));
             let wanted = (k, "the game file cannot be read", 0);
-            same(
+            assert_same(
                 &rt,
                 (k, said.as_str(), reader.after),
                 wanted,
@@ -96,7 +96,7 @@ fn reads_as_seldom_as_it_can(rt: HostRuntime) {
         let said = shown(&rt, alloc, read_game(alloc, &mut reader));
         let seldom = reader.reads <= most;
         let found = (length, at_once, said.as_str(), seldom, reader.after);
-        same(
+        assert_same(
             &rt,
             found,
             (text.len(), at_once, "1 [1; 1]", true, 0),

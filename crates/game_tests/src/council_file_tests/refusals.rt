@@ -1,7 +1,7 @@
-//! The calls that take memory. `tests/refusals.sh` refuses the allocations between the line `call` and
+//! The calls that take memory. `tests/call_allocations.sh` refuses the allocations between the line `call` and
 //! the line of the answer, one after the other.
 use super::*;
-use crate::helpers::say;
+use crate::helpers::print_line;
 use council_game::{push_decimal, push_joined};
 use std::io::Print;
 
@@ -13,26 +13,26 @@ fn tells_game<R: Abort + Print>(
     wanted: &str,
 ) {
     if let Err(fault) = &answer {
-        say(rt, "out of memory");
-        same(rt, *fault, GameFault::Memory, "fault");
+        print_line(rt, "out of memory");
+        assert_same(rt, *fault, GameFault::Memory, "fault");
         return;
     }
-    say(rt, "worked");
-    same(rt, shown(rt, alloc, answer).as_str(), wanted, "game");
+    print_line(rt, "worked");
+    assert_same(rt, shown(rt, alloc, answer).as_str(), wanted, "game");
 }
 
 #[test]
 fn parses_toml(rt: HostRuntime) {
     let file =
         "title = \"Board\"\nquotas = [51, 2]\nmember = [{name = \"A\", weights = [50, 1]}, {name = \"B\", weights = [49, 1]}]";
-    say(&rt, "call");
+    print_line(&rt, "call");
     let answer = parse_game(rt.alloc(), file.as_bytes());
     tells_game(&rt, rt.alloc(), answer, "Board: A B [51; 50, 49] [2; 1, 1]");
 }
 
 #[test]
 fn parses_brackets(rt: HostRuntime) {
-    say(&rt, "call");
+    print_line(&rt, "call");
     let answer = parse_game(rt.alloc(), b"[51; 50, 49, 1]");
     tells_game(&rt, rt.alloc(), answer, "1 2 3 [51; 50, 49, 1]");
 }
@@ -44,7 +44,7 @@ fn reads_pieces(rt: HostRuntime) {
         at_once: 7,
         error: None,
     };
-    say(&rt, "call");
+    print_line(&rt, "call");
     let answer = read_game(rt.alloc(), &mut reader);
     tells_game(&rt, rt.alloc(), answer, "A B C [51; 50, 49, 1]");
 }
@@ -56,25 +56,25 @@ fn writes_notation(rt: HostRuntime) {
     let mut out = Vec::new(alloc);
     out.push(b'x').expect(&rt, "room");
     assert!(rt; 0 < game.rules());
-    say(&rt, "call");
+    print_line(&rt, "call");
     match write_notation(&game, 0, &mut out) {
-        Ok(()) => say(&rt, "worked"),
+        Ok(()) => print_line(&rt, "worked"),
         Err(_) => {
-            say(&rt, "out of memory");
-            same(&rt, out.as_slice(), b"x", "what is there");
+            print_line(&rt, "out of memory");
+            assert_same(&rt, out.as_slice(), b"x", "what is there");
             write_notation(&game, 0, &mut out).expect(&rt, "room");
         }
     }
-    same(&rt, out.as_slice(), b"x[51; 50, 49, 1]", "notation");
+    assert_same(&rt, out.as_slice(), b"x[51; 50, 49, 1]", "notation");
 }
 
 /// Tells the answer of a call on a file that has this fault: the fault, or want of memory.
 fn tells_fault<R: Abort + Print>(rt: &R, answer: Result<Game, GameFault>, wanted: GameFault) {
     match answer.err() {
-        Some(GameFault::Memory) => say(rt, "out of memory"),
+        Some(GameFault::Memory) => print_line(rt, "out of memory"),
         said => {
-            say(rt, "worked");
-            same(rt, said, Some(wanted), "fault");
+            print_line(rt, "worked");
+            assert_same(rt, said, Some(wanted), "fault");
         }
     }
 }
@@ -83,7 +83,7 @@ fn tells_fault<R: Abort + Print>(rt: &R, answer: Result<Game, GameFault>, wanted
 fn finds_a_repeated_name(rt: HostRuntime) {
     let file =
         "title = \"Board\"\nquotas = [51, 2]\nmember = [{name = \"A\", weights = [50, 1]}, {name = \"A\", weights = [49, 1]}]";
-    say(&rt, "call");
+    print_line(&rt, "call");
     let answer = parse_game(rt.alloc(), file.as_bytes());
     tells_fault(&rt, answer, GameFault::SameName { member: 2 });
 }
@@ -92,7 +92,7 @@ fn finds_a_repeated_name(rt: HostRuntime) {
 fn finds_an_unknown_key(rt: HostRuntime) {
     let file =
         "quota = 51\nmember = [{name = \"A\", weight = 50}, {name = \"B\", weight = 49, vote = 1}]";
-    say(&rt, "call");
+    print_line(&rt, "call");
     let answer = parse_game(rt.alloc(), file.as_bytes());
     tells_fault(&rt, answer, GameFault::UnknownKey);
 }
@@ -100,7 +100,7 @@ fn finds_an_unknown_key(rt: HostRuntime) {
 #[test]
 fn finds_a_bad_weight(rt: HostRuntime) {
     let file = "quota = 51\nmember = [{name = \"A\", weight = 50}, {name = \"B\", weight = 49.0}]";
-    say(&rt, "call");
+    print_line(&rt, "call");
     let answer = parse_game(rt.alloc(), file.as_bytes());
     tells_fault(&rt, answer, GameFault::Weight { member: 2 });
 }
@@ -108,21 +108,21 @@ fn finds_a_bad_weight(rt: HostRuntime) {
 #[test]
 fn finds_no_toml(rt: HostRuntime) {
     let file = "quota = 51\nmember = [{name = \"A\", weight = 50}, {name = \"B\"";
-    say(&rt, "call");
+    print_line(&rt, "call");
     let answer = parse_game(rt.alloc(), file.as_bytes());
     tells_fault(&rt, answer, GameFault::Text);
 }
 
 #[test]
 fn finds_a_bad_bracket_text(rt: HostRuntime) {
-    say(&rt, "call");
+    print_line(&rt, "call");
     let answer = parse_game(rt.alloc(), b"[51; 50, 49, 1, 1, 1, 1, 1, 1, 1,, 1]");
     tells_fault(&rt, answer, GameFault::Bracket);
 }
 
 #[test]
 fn finds_a_quota_out_of_range(rt: HostRuntime) {
-    say(&rt, "call");
+    print_line(&rt, "call");
     let answer = parse_game(rt.alloc(), b"[101; 50, 49, 1]");
     tells_fault(&rt, answer, GameFault::QuotaRange);
 }
@@ -134,7 +134,7 @@ fn reads_a_fault(rt: HostRuntime) {
         at_once: 7,
         error: None,
     };
-    say(&rt, "call");
+    print_line(&rt, "call");
     let answer = read_game(rt.alloc(), &mut reader);
     tells_fault(&rt, answer, GameFault::Bracket);
 }
@@ -146,7 +146,7 @@ fn reads_up_to_an_error(rt: HostRuntime) {
         at_once: 7,
         error: Some(ErrorKind::TimedOut),
     };
-    say(&rt, "call");
+    print_line(&rt, "call");
     let answer = read_game(rt.alloc(), &mut reader);
     tells_fault(&rt, answer, GameFault::Read);
 }
@@ -154,7 +154,7 @@ fn reads_up_to_an_error(rt: HostRuntime) {
 #[test]
 fn reads_too_much(rt: HostRuntime) {
     let mut reader = Blanks { reads: 0 };
-    say(&rt, "call");
+    print_line(&rt, "call");
     let answer = read_game(rt.alloc(), &mut reader);
     tells_fault(&rt, answer, GameFault::TooLong);
 }
@@ -164,17 +164,17 @@ fn reads_too_much(rt: HostRuntime) {
 fn puts_numbers(rt: HostRuntime) {
     let mut text = Vec::new(rt.alloc());
     text.extend_from_slice(b"x").expect(&rt, "room");
-    say(&rt, "call");
+    print_line(&rt, "call");
     let joined = push_joined(&mut text, b", ", 300, |i| 1_000_000 + i as u64);
     let length = text.len();
     let last = push_decimal(&mut text, 7);
     if joined.is_ok() && last.is_ok() {
-        say(&rt, "worked");
-        same(&rt, text.len(), 2_700, "length");
+        print_line(&rt, "worked");
+        assert_same(&rt, text.len(), 2_700, "length");
     } else {
-        say(&rt, "out of memory");
+        print_line(&rt, "out of memory");
         let kept = last.is_ok() || text.len() == length;
-        same(
+        assert_same(
             &rt,
             (text.starts_with(b"x"), kept),
             (true, true),

@@ -1,4 +1,4 @@
-//! The calls that take memory. `tests/refusals.sh` refuses the allocations between the line `call` and
+//! The calls that take memory. `tests/call_allocations.sh` refuses the allocations between the line `call` and
 //! the line of the answer, one after the other.
 use super::*;
 
@@ -12,12 +12,12 @@ fn tells_game<R: Abort + Print>(
 ) {
     match answer {
         Ok(game) => {
-            say(rt, "worked");
+            print_line(rt, "worked");
             check(rt, alloc, &game, wanted)
         }
         Err(fault) => {
-            say(rt, "out of memory");
-            same(rt, fault, GameFault::Memory, "fault");
+            print_line(rt, "out of memory");
+            assert_same(rt, fault, GameFault::Memory, "fault");
         }
     }
 }
@@ -28,7 +28,7 @@ fn makes_a_game(rt: HostRuntime) {
     let names = letters(&rt, alloc, 3);
     let weights = [50, 49, 1].to_vec(alloc).expect(&rt, "weights");
     assert!(rt; weights.len() == names.len());
-    say(&rt, "call");
+    print_line(&rt, "call");
     let answer = Game::new(alloc, None, names, weights, 51);
     tells_game(&rt, alloc, answer, &[6, 5]);
 }
@@ -43,13 +43,13 @@ fn makes_a_game_of_two_rules(rt: HostRuntime) {
 /// The list of a game, or want of memory.
 fn tells_list<R: Abort + Print>(rt: &R, alloc: Global, game: &Game) {
     assert!(rt; game.members() <= 20);
-    say(rt, "call");
+    print_line(rt, "call");
     match plain_list(alloc, game) {
         Ok(list) => {
-            say(rt, "worked");
+            print_line(rt, "worked");
             are_masks(rt, &list, &[24, 22, 21, 19, 15]);
         }
-        Err(_) => say(rt, "out of memory"),
+        Err(_) => print_line(rt, "out of memory"),
     }
 }
 
@@ -62,13 +62,13 @@ fn lists_plainly(rt: HostRuntime) {
 #[test]
 fn lists_members(rt: HostRuntime) {
     let all = game(&rt, rt.alloc(), 5, &[1; 26]);
-    say(&rt, "call");
+    print_line(&rt, "call");
     match all.members_of(rt.alloc(), Coalition::of_mask((1 << 25) + 1)) {
         Ok(members) => {
-            say(&rt, "worked");
-            same(&rt, members.as_slice(), &[0, 25], "members");
+            print_line(&rt, "worked");
+            assert_same(&rt, members.as_slice(), &[0, 25], "members");
         }
-        Err(_) => say(&rt, "out of memory"),
+        Err(_) => print_line(&rt, "out of memory"),
     }
 }
 
@@ -78,17 +78,17 @@ fn lists_members(rt: HostRuntime) {
 fn orders_by_contribution(rt: HostRuntime) {
     let alloc = rt.alloc();
     let game = game_of_rules(&rt, alloc, &[(2, &[1, 1, 1]), (4, &[1, 2, 3])]);
-    say(&rt, "call");
+    print_line(&rt, "call");
     match game.by_contribution(alloc) {
         Ok(Some(other)) => {
-            say(&rt, "worked");
+            print_line(&rt, "worked");
             assert!(rt; other.members() <= 20);
             let mut list = plain_list(alloc, &other).expect(&rt, "a list");
             are_masks(&rt, &list, &[6, 5]);
             other.renumber_all(&mut list, &game);
             are_masks(&rt, &list, &[5, 3]);
         }
-        Ok(None) => say(&rt, "the places are in this order"),
-        Err(_) => say(&rt, "out of memory"),
+        Ok(None) => print_line(&rt, "the places are in this order"),
+        Err(_) => print_line(&rt, "out of memory"),
     }
 }

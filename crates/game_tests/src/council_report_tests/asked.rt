@@ -100,9 +100,9 @@ fn writes_in_blocks_and_flushes_once(rt: HostRuntime) {
         let long = 150_000 < writer.bytes;
         let blocks = step < 65_536 || writer.short == 0;
         let found = (step, answer, long, blocks);
-        same(&rt, found, (step, Ok(writer.bytes), true, true), "blocks");
+        assert_same(&rt, found, (step, Ok(writer.bytes), true, true), "blocks");
         let found = (writer.empty, writer.flushes, writer.after);
-        same(&rt, found, (0, 1, 0), "empty writes, flushes, later calls");
+        assert_same(&rt, found, (0, 1, 0), "empty writes, flushes, later calls");
     }
 }
 
@@ -122,12 +122,12 @@ fn no_failure_is_tried_again(rt: HostRuntime) {
         let answer = write_report(alloc, &game, &list, shown, &mut writer);
         let found = (answer, writer.writes, writer.flushes, writer.after);
         let fault = Err(ReportFault::Write { written: 0 });
-        same(&rt, found, (fault, 1, 0, 0), "a write that fails");
+        assert_same(&rt, found, (fault, 1, 0, 0), "a write that fails");
         let mut writer = Asked::new(1_000_000, None, Some(kind));
         let answer = write_report(alloc, &game, &list, shown, &mut writer);
         let written = writer.bytes;
         let found = (answer, writer.writes, writer.flushes, writer.after);
         let fault = Err(ReportFault::Write { written });
-        same(&rt, found, (fault, 1, 1, 0), "a flush that fails");
+        assert_same(&rt, found, (fault, 1, 1, 0), "a flush that fails");
     }
 }

@@ -1,7 +1,7 @@
-//! The calls that take memory, and those that take none. `tests/refusals.sh` refuses the
+//! The calls that take memory, and those that take none. `tests/call_allocations.sh` refuses the
 //! allocations between the line `call` and the line of the answer.
 use super::*;
-use crate::helpers::say;
+use crate::helpers::print_line;
 use council_game::Memory;
 use std::io::Print;
 
@@ -9,10 +9,10 @@ use std::io::Print;
 fn tells<R: Abort + Print>(rt: &R, answer: Result<Vec<Coalition>, Memory>) {
     match answer {
         Ok(list) => {
-            say(rt, "worked");
+            print_line(rt, "worked");
             are_masks(rt, &list, &FIVE, "coalitions");
         }
-        Err(_) => say(rt, "out of memory"),
+        Err(_) => print_line(rt, "out of memory"),
     }
 }
 
@@ -20,44 +20,44 @@ fn tells<R: Abort + Print>(rt: &R, answer: Result<Vec<Coalition>, Memory>) {
 fn lists_a_slice(rt: HostRuntime) {
     let game = worked(&rt, rt.alloc());
     assert!(rt; game.members() == 5);
-    say(&rt, "call");
+    print_line(&rt, "call");
     tells(&rt, list_slice(rt.alloc(), &game, 0, 0, u32::MAX));
 }
 
 #[test]
 fn lists_all(rt: HostRuntime) {
     let game = worked(&rt, rt.alloc());
-    say(&rt, "call");
+    print_line(&rt, "call");
     let answer = list_all(rt.alloc(), &game, 9);
     tells(&rt, answer.map(|all| all.expect(&rt, "at most nine")));
 }
 
 /// The walk gives `coalitions` coalitions by `visits` visits, and takes no memory.
 fn walks<R: Abort + Print>(rt: &R, walk: &mut Walk<'_>, coalitions: u64, visits: u64) {
-    same(rt, count(walk), coalitions, "coalitions");
-    same(rt, walk.next(), None, "after the end");
-    same(rt, walk.visits(), visits, "visits");
-    say(rt, "worked");
+    assert_same(rt, count(walk), coalitions, "coalitions");
+    assert_same(rt, walk.next(), None, "after the end");
+    assert_same(rt, walk.visits(), visits, "visits");
+    print_line(rt, "worked");
 }
 
 #[test]
 fn walks_without_memory(rt: HostRuntime) {
     let game = worked(&rt, rt.alloc());
     assert!(rt; game.members() == 5);
-    say(&rt, "call");
+    print_line(&rt, "call");
     walks(&rt, &mut Walk::new(&game, 2, 1), 3, 7);
 }
 
 #[test]
 fn walks_under_two_rules_without_memory(rt: HostRuntime) {
     let game = game_by_groups(&rt, rt.alloc(), &[0, 1], &TWO_RULES);
-    say(&rt, "call");
+    print_line(&rt, "call");
     walks(&rt, &mut Walk::new(&game, 0, 0), 2, 6);
 }
 
 #[test]
 fn walks_under_four_rules_without_memory(rt: HostRuntime) {
     let game = game_by_groups(&rt, rt.alloc(), &[0, 1, 2, 3], &FOUR_GROUPS);
-    say(&rt, "call");
+    print_line(&rt, "call");
     walks(&rt, &mut Walk::new(&game, 0, 0), 81, 159);
 }

@@ -50,7 +50,7 @@ fn random_statutes_by_every_subset(rt: HostRuntime) {
             let whole = list_all(rt.alloc(), &game, 4_000_000).expect(&rt, "memory");
             let whole = whole.expect(&rt, "no more than the limit");
             let agree = whole.as_slice() == plain.as_slice();
-            same(&rt, agree, true, (seed, rules));
+            assert_same(&rt, agree, true, (seed, rules));
         }
     }
 }
@@ -69,14 +69,14 @@ fn seeks_within_so_many_visits(rt: HostRuntime) {
         (Seek::End, 41),
         (Seek::End, 41),
     ] {
-        same(&rt, walk.seek(16), sought, "sought by 16 visits");
-        same(&rt, walk.visits(), visits, "visits");
+        assert_same(&rt, walk.seek(16), sought, "sought by 16 visits");
+        assert_same(&rt, walk.visits(), visits, "visits");
     }
     let one = worked(&rt, rt.alloc());
     let mut walk = Walk::new(&one, 0, 0);
     for mask in FIVE {
         let found = Seek::Found(Coalition::of_mask(mask));
-        same(&rt, walk.seek(1), found, "sought by one visit");
+        assert_same(&rt, walk.seek(1), found, "sought by one visit");
     }
-    same(&rt, walk.seek(1), Seek::End, "the end");
+    assert_same(&rt, walk.seek(1), Seek::End, "the end");
 }

@@ -9,16 +9,16 @@ use super::*;
 fn gives(rt: &impl Abort, walk: &mut Walk<'_>, coalitions: &[(u64, u64)], visits: u64) {
     for (mask, visits) in coalitions {
         let given = walk.next().map(Coalition::mask);
-        same(
+        assert_same(
             rt,
             (given, walk.visits()),
             (Some(*mask), *visits),
             "a coalition and visits up to it",
         );
     }
-    same(rt, walk.next(), None, "the end");
-    same(rt, walk.next(), None, "after the end");
-    same(rt, walk.visits(), visits, "visits up to the end");
+    assert_same(rt, walk.next(), None, "the end");
+    assert_same(rt, walk.next(), None, "after the end");
+    assert_same(rt, walk.visits(), visits, "visits up to the end");
 }
 
 /// The visits, counted by hand: of the worked game, two fixed places, and five decisions in the
@@ -51,7 +51,7 @@ fn a_walk_makes_few_visits(rt: HostRuntime) {
 pub(super) fn counts(rt: &impl Abort, game: &Game, coalitions: u64, visits: u64) {
     let mut walk = Walk::new(game, 0, 0);
     let found = (count(&mut walk), walk.visits());
-    same(rt, found, (coalitions, visits), "coalitions and visits");
+    assert_same(rt, found, (coalitions, visits), "coalitions and visits");
 }
 
 /// A statute, how many coalitions it has, and by how many visits a walk gives them, with its places
@@ -149,7 +149,7 @@ fn visits_of_slices(rt: &impl Abort, game: &Game, visits: [u64; 4]) {
     for j in 0..4u16 {
         let mut walk = Walk::new(game, 2, j);
         count(&mut walk);
-        same(rt, walk.visits(), visits[j as usize], "visits to a slice");
+        assert_same(rt, walk.visits(), visits[j as usize], "visits to a slice");
     }
 }
 

@@ -1,5 +1,5 @@
 //! Indices as values: what they keep, and their order.
-use super::{FIVE, Printed, counts, same};
+use super::{FIVE, Printed, assert_same, counts};
 use power_index::{Fraction, Index, deegan_packel, lowest, public_good};
 use std::cmp::Ordering;
 use std::process::Abort;
@@ -31,7 +31,7 @@ fn indices_are_ordered_exactly(rt: HostRuntime) {
         let (x, y) = (index(&rt, first), index(&rt, second));
         let found = (first, second, x.compare(y), y.compare(x), x == y);
         let alike = wanted == Ordering::Equal;
-        same(
+        assert_same(
             &rt,
             found,
             (first, second, wanted, wanted.reverse(), alike),
@@ -42,13 +42,13 @@ fn indices_are_ordered_exactly(rt: HostRuntime) {
 
 /// An index, as a value and as a fraction, has these parts.
 fn check(rt: &impl Abort, index: Index, fraction: Fraction, wanted: Printed) {
-    same(
+    assert_same(
         rt,
         (index.top(), index.bottom(), index.decimals()),
         wanted,
         "index",
     );
-    same(rt, index.fraction(), fraction, "fraction");
+    assert_same(rt, index.fraction(), fraction, "fraction");
 }
 
 #[test]
@@ -64,7 +64,7 @@ fn an_index_is_stored_and_compared(rt: HostRuntime) {
         second.compare(first),
         first.compare(first),
     ];
-    same(
+    assert_same(
         &rt,
         found,
         [Ordering::Greater, Ordering::Less, Ordering::Equal],

@@ -9,10 +9,10 @@ use super::*;
 fn check_five(rt: &impl Abort, counts: &Counts, label: &str) {
     assert!(rt; counts.members() == 5);
     for (size, wanted) in [(0, 0), (1, 0), (2, 1), (3, 3), (4, 1), (5, 0)] {
-        same(rt, (size, counts.wide_of_size(size)), (size, wanted), label);
+        assert_same(rt, (size, counts.wide_of_size(size)), (size, wanted), label);
     }
     for (member, wanted) in [(0, 4), (1, 2), (2, 3), (3, 3), (4, 3)] {
-        same(
+        assert_same(
             rt,
             (member, counts.wide_of_member(member)),
             (member, wanted),
@@ -23,8 +23,8 @@ fn check_five(rt: &impl Abort, counts: &Counts, label: &str) {
         counts.wide_of_member_size(0, 3),
         counts.wide_of_member_size(1, 4),
     ];
-    same(rt, found, [3, 1], label);
-    same(rt, counts.wide_total(), 5, label);
+    assert_same(rt, found, [3, 1], label);
+    assert_same(rt, counts.wide_total(), 5, label);
     check_indices(rt, counts, 4, [(11, 60, *b"0.183333"), FIFTH]);
 }
 
@@ -38,7 +38,7 @@ fn check_none(rt: &impl Abort, game: &Game) {
         counts.wide_of_member(4),
         counts.wide_of_member_size(4, 5),
     ];
-    same(rt, found, [0; 4], "no coalition");
+    assert_same(rt, found, [0; 4], "no coalition");
     check_indices(rt, &counts, 4, [NONE, NONE]);
 }
 
@@ -50,7 +50,7 @@ fn check_added(rt: &impl Abort, game: &Game, first: &[Coalition], second: &[Coal
 {
     let mut counts = Counts::of(game, first);
     let more = Counts::of(game, second);
-    same(
+    assert_same(
         rt,
         [counts.wide_total(), more.wide_total()],
         [2, 3],
@@ -132,7 +132,7 @@ fn more_than_32_bits_hold(rt: HostRuntime) {
         counts.of_member(0),
         counts.of_member_size(0, 3),
     ];
-    same(&rt, found, [u32::MAX; 4], "the greatest of 32 bits");
+    assert_same(&rt, found, [u32::MAX; 4], "the greatest of 32 bits");
     let wanted = [(3, 10, *b"0.300000"), (4, 15, *b"0.266666")];
     check_indices(&rt, &counts, 0, wanted);
 }

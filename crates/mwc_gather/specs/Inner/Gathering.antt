@@ -5,9 +5,9 @@ use Rattle.council_game.specs.Game.{votes_of}
 use Rattle.council_game.specs.Votes.{minimal_coalitions}
 use Rattle.mwc_gather.specs.Slicing.{Slicing, slicing}
 use Rattle.mwc_gather.specs.Wording.{coalition_count}
-use Rattle.mwc_gather.specs.Parts.{shares}
+use Rattle.mwc_gather.specs.Parts.{part_slices}
 use Rattle.mwc_gather.specs.Gathering.{Gathers}
-use Rattle.mwc_gather.specs.Inner.Deals.{AreDealt}
+use Rattle.mwc_gather.specs.Inner.Holders.{AreAssigned}
 use Rattle.mwc_gather.specs.Inner.Settled.{IsPart}
 use Rattle.mwc_gather.specs.declared.fault.GatherFault.{GatherFault, TheVariants.TooMany}
 use Rattle.mwc_gather.specs.declared.gathered.Gathered.{Gathered}
@@ -21,9 +21,9 @@ all_total g = coalition_count g (range_with_len 0 g.slices)
 -- the parts of all workers: all slices are dealt to them, each has the coalitions of its slices, and worker w begins with slice w
 pub record IsComplete (g : Slicing) (workers : ℕ) (parts : List Part) : Type 0 where
   pub a_part_each : length parts ≡ workers
-  pub dealt : AreDealt g.slices (shares parts)
+  pub assigned : AreAssigned g.slices (part_slices parts)
   pub are_parts : All (IsPart g) parts
-  pub begins : (w : ℕ) → w < workers → w < g.slices → slice_get (slice_index_or (shares parts) w []) 0 ≡ Some w
+  pub begins : (w : ℕ) → w < workers → w < g.slices → slice_get (slice_index_or (part_slices parts) w []) 0 ≡ Some w
 
 module _ {G : Type 0} where
   -- the slices that the workers list

@@ -159,15 +159,15 @@ fn a_long_report_goes_out_in_blocks(rt: HostRuntime) {
         &mut writer,
     );
     let length = writer.taken.len() as u64;
-    same(&rt, answer, Ok(length), "the answer");
-    same(&rt, 100_000 < length, true, "a long report");
-    same(
+    assert_same(&rt, answer, Ok(length), "the answer");
+    assert_same(&rt, 100_000 < length, true, "a long report");
+    assert_same(
         &rt,
         (writer.flushes, writer.empty),
         (1, 0),
         "flushes and empty writes",
     );
-    same(
+    assert_same(
         &rt,
         writer.writes <= length / 61_440 + 1,
         true,
@@ -194,11 +194,11 @@ fn fails_once<R: Abort + Threads + Wait + Sync>(
         &options(16, 10, 1_000_000, LIST),
         &mut writer,
     );
-    same(rt, answer, failed(taken as u64), taken);
-    same(rt, writer.taken.len(), taken, "bytes taken");
-    same(rt, whole.starts_with(&writer.taken), true, taken);
+    assert_same(rt, answer, failed(taken as u64), taken);
+    assert_same(rt, writer.taken.len(), taken, "bytes taken");
+    assert_same(rt, whole.starts_with(&writer.taken), true, taken);
     let calls = (writer.flushes, writer.after, writer.empty);
-    same(
+    assert_same(
         rt,
         calls,
         (flushes, 0, 0),
@@ -219,9 +219,9 @@ fn a_failed_writer_is_not_asked_again(rt: HostRuntime) {
         &options(16, 10, 1_000_000, LIST),
         &mut writer,
     );
-    same(&rt, answer.is_ok(), true, "a report");
+    assert_same(&rt, answer.is_ok(), true, "a report");
     let whole = writer.taken.as_slice();
-    same(&rt, 100_000 < whole.len(), true, "a long report");
+    assert_same(&rt, 100_000 < whole.len(), true, "a long report");
     for (fails, taken, flushes) in [
         (Fails::Write(0, None), 0, 0),
         (Fails::Write(1, Some(ErrorKind::Interrupted)), 1, 0),
@@ -262,10 +262,10 @@ fn a_tally_asks_its_writer_once(rt: HostRuntime) {
             &options(4, 6, 1, NO_LINES),
             &mut writer,
         );
-        same(&rt, answer, wanted, flushes);
-        same(&rt, writer.taken.as_slice(), taken, flushes);
-        same(&rt, (writer.writes, writer.empty), (1, 0), flushes);
-        same(&rt, (writer.flushes, writer.after), (flushes, 0), flushes);
+        assert_same(&rt, answer, wanted, flushes);
+        assert_same(&rt, writer.taken.as_slice(), taken, flushes);
+        assert_same(&rt, (writer.writes, writer.empty), (1, 0), flushes);
+        assert_same(&rt, (writer.flushes, writer.after), (flushes, 0), flushes);
     }
 }
 
@@ -282,9 +282,9 @@ fn a_failed_reader_is_not_asked_again(rt: HostRuntime) {
                 cause: Cause::Game(GameFault::Read),
                 written: 0,
             };
-            same(&rt, answer, Err(fault), number);
-            same(&rt, reader.after, 0, number);
-            same(&rt, (writer.writes, writer.flushes), (0, 0), number);
+            assert_same(&rt, answer, Err(fault), number);
+            assert_same(&rt, reader.after, 0, number);
+            assert_same(&rt, (writer.writes, writer.flushes), (0, 0), number);
         }
     }
 }
@@ -310,8 +310,8 @@ fn a_refusal_calls_no_writer(rt: HostRuntime) {
             &options(4, 6, 4, NO_LINES),
             &mut writer,
         );
-        same(&rt, answer, Err(RunFault { cause, written: 0 }), tallies);
-        same(
+        assert_same(&rt, answer, Err(RunFault { cause, written: 0 }), tallies);
+        assert_same(
             &rt,
             (writer.writes, writer.flushes),
             (0, 0),

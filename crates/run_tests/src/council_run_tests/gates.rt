@@ -1,8 +1,8 @@
 //! Gates that see every slice of games with many of them.
 ghost use Rattle.std.specs.Prelude.{◌≤◌};
-ghost use Rattle.coalitions.specs.declared.limits.TheConstants.{BITS, WORKERS};
+ghost use Rattle.council_base.specs.declared.limits.TheConstants.{BITS, WORKERS};
 
-use super::{NO_LINES, options, same};
+use super::{NO_LINES, assert_same, options};
 use council_run::run;
 use mwc_gather::Gate;
 use std::alloc::Global;
@@ -66,14 +66,14 @@ fn sees_all<R: Abort + Threads + Wait + Sync>(
     for slice in 0..1024u16 {
         let wanted = u64::from(u64::from(slice) < slices);
         let passed = seen.of[slice as usize].load(Ordering::SeqCst);
-        same(
+        assert_same(
             &rt,
             passed,
             wanted,
             ("slice of , workers", slice, slices, workers),
         );
     }
-    same(&rt, seen.other.load(Ordering::SeqCst), 0, "seen.other.load");
+    assert_same(&rt, seen.other.load(Ordering::SeqCst), 0, "seen.other.load");
     for worker in 0..16u8 {
         let first = seen.first[worker as usize].load(Ordering::SeqCst);
         let wanted = if worker < workers && u64::from(worker) < slices {
@@ -81,7 +81,7 @@ fn sees_all<R: Abort + Threads + Wait + Sync>(
         } else {
             0
         };
-        same(&rt, first, wanted, ("worker of", worker, workers));
+        assert_same(&rt, first, wanted, ("worker of", worker, workers));
     }
 }
 

@@ -1,7 +1,7 @@
-//! Whole runs. `tests/refusals.sh` refuses the allocations between the line `call` and the line of the
+//! Whole runs. `tests/call_allocations.sh` refuses the allocations between the line `call` and the line of the
 //! answer, one after the other.
 use super::*;
-use crate::helpers::say;
+use crate::helpers::print_line;
 use std::io::Print;
 
 const TWO_RULES: &[u8] = b"title = \"Two\"\n\
@@ -46,13 +46,13 @@ fn tells<R: Abort + Print>(
 ) {
     match answer {
         Ok(count) => {
-            say(rt, "worked");
-            same(rt, count, length as u64, "count");
+            print_line(rt, "worked");
+            assert_same(rt, count, length as u64, "count");
             assert!(rt; writer.awaited.is_empty() && !writer.differs);
         }
         Err(fault) => {
-            say(rt, place_of(fault.cause));
-            same(rt, (fault.written, writer.calls), (0, 0), "bytes and calls");
+            print_line(rt, place_of(fault.cause));
+            assert_same(rt, (fault.written, writer.calls), (0, 0), "bytes and calls");
         }
     }
 }
@@ -73,7 +73,7 @@ fn runs<R: Abort + Print + Threads + Wait + Sync>(
         calls: 0,
         part: None,
     };
-    say(rt, "call");
+    print_line(rt, "call");
     let answer = if is_tally {
         tally(rt, alloc, &mut reader, &options, &NoGate, &mut writer)
     } else {

@@ -75,5 +75,5 @@ fn a_tally_has_its_threads_and_slices(rt: HostRuntime) {
         meeting.found.load(Ordering::SeqCst),
         meeting.missed.load(Ordering::SeqCst),
     );
-    same(&rt, found, (256, 126, 0), "slices, coalitions, missed");
+    assert_same(&rt, found, (256, 126, 0), "slices, coalitions, missed");
 }

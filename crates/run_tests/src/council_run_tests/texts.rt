@@ -60,7 +60,7 @@ fn texts(rt: HostRuntime) {
 /// The fault says so.
 fn says<T: Display + Drop>(rt: &impl Abort, alloc: Global, fault: T, wanted: &str) {
     let text = format!(in alloc; "{fault}").expect(rt, "a text");
-    same(rt, text.as_str(), wanted, "what a fault says");
+    assert_same(rt, text.as_str(), wanted, "what a fault says");
 }
 
 /// What the faults of the crates below say to other callers.

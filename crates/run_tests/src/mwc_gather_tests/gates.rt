@@ -85,19 +85,19 @@ fn gates_see_the_slices_of_the_parts(rt: HostRuntime) {
         let mut count = 0u64;
         for (worker, part) in gathered.parts.iter().enumerate() {
             for slice in &part.slices {
-                same(&rt, seen.passed_by(*slice, worker), true, (*slice, workers));
+                assert_same(&rt, seen.passed_by(*slice, worker), true, (*slice, workers));
                 count = count.wrapping_add(1);
             }
-            same(
+            assert_same(
                 &rt,
                 part.slices.first(),
                 Some(&(worker as u16)),
                 ("workers", workers),
             );
         }
-        same(&rt, count, 64, ("workers", workers));
-        same(&rt, seen.found(), 792, ("workers", workers));
-        same(
+        assert_same(&rt, count, 64, ("workers", workers));
+        assert_same(&rt, seen.found(), 792, ("workers", workers));
+        assert_same(
             &rt,
             seen.other.load(Ordering::SeqCst),
             0,
@@ -113,11 +113,11 @@ fn informs_add_up(rt: HostRuntime) {
     let game = game(&rt, rt.alloc(), 11, &[1; 22]);
     let seen = Seen::new(1);
     let gathered = gathered(&rt, rt.alloc(), &game, &seen, 0, 1, 1_000_000).expect(&rt, "parts");
-    same(&rt, gathered.parts.len(), 1, "parts");
-    same(&rt, seen.found(), 705_432, "found");
+    assert_same(&rt, gathered.parts.len(), 1, "parts");
+    assert_same(&rt, seen.found(), 705_432, "found");
     let prefixes = seen.prefixes.load(Ordering::SeqCst);
     let most = seen.most_at_once.load(Ordering::SeqCst);
-    same(
+    assert_same(
         &rt,
         (prefixes > 1_048_576, most < 1_048_576 + 22),
         (true, true),
@@ -138,16 +138,16 @@ fn a_cut_slice_passes_once(rt: HostRuntime) {
     ] {
         let seen = Seen::new(workers);
         let refused = gathered(&rt, rt.alloc(), &game, &seen, 2, workers, most).err();
-        same(&rt, refused, Some(GatherFault::TooMany), (workers, most));
+        assert_same(&rt, refused, Some(GatherFault::TooMany), (workers, most));
         for slice in 0..4u16 {
-            same(
+            assert_same(
                 &rt,
                 seen.count(slice),
                 wanted[slice as usize],
                 (workers, most, slice),
             );
         }
-        same(&rt, seen.other.load(Ordering::SeqCst), 0, (workers, most));
+        assert_same(&rt, seen.other.load(Ordering::SeqCst), 0, (workers, most));
     }
 }
 
@@ -198,7 +198,7 @@ fn a_slice_passes_before_its_first_word(rt: HostRuntime) {
             gate: &seen,
             early: false,
         };
-        same(
+        assert_same(
             &rt,
             send_slice(&rt, &guarded, 2, 1, 1, left, &mut pipe),
             wanted,
@@ -206,6 +206,6 @@ fn a_slice_passes_before_its_first_word(rt: HostRuntime) {
         );
         let other = seen.other.load(Ordering::SeqCst);
         let told = (pipe.early, seen.passed_by(1, 1), other, seen.found());
-        same(&rt, told, (false, true, 0, found), left);
+        assert_same(&rt, told, (false, true, 0, found), left);
     }
 }

@@ -1,32 +1,32 @@
-//! The calls that take memory, and one that takes none. `tests/refusals.sh` refuses the allocations
+//! The calls that take memory, and one that takes none. `tests/call_allocations.sh` refuses the allocations
 //! between the line `call` and the line of the answer.
 use super::*;
-use crate::helpers::{say, say_memory};
+use crate::helpers::{print_line, print_memory};
 use std::alloc::AllocError;
 
 #[test]
 fn gathers(rt: HostRuntime) {
     let game = five(&rt, rt.alloc());
     let passes = Passes::none();
-    say(&rt, "call");
+    print_line(&rt, "call");
     let answer = gathered(&rt, rt.alloc(), &game, &passes, 2, 3, 5);
     match answer {
         Ok(gathered) => {
-            say(&rt, "worked");
+            print_line(&rt, "worked");
             assert!(rt; gathered.parts.len() == 3);
-            same(&rt, passes.counts(), [1, 1, 1, 1], "passes.counts");
+            assert_same(&rt, passes.counts(), [1, 1, 1, 1], "passes.counts");
         }
-        Err(GatherFault::Memory) => say(&rt, "out of memory"),
+        Err(GatherFault::Memory) => print_line(&rt, "out of memory"),
         Err(fault) => {
-            say(&rt, "not started");
-            same(&rt, fault, GatherFault::Start, "fault");
+            print_line(&rt, "not started");
+            assert_same(&rt, fault, GatherFault::Start, "fault");
         }
     }
     let counts = passes.counts();
     for _ in 0..1000 {
         thread::yield_now();
     }
-    same(&rt, passes.counts(), counts, "passes.counts 2");
+    assert_same(&rt, passes.counts(), counts, "passes.counts 2");
     lists(&rt, rt.alloc(), &game, &NoGate, 2, 3, &FIVE);
 }
 
@@ -34,12 +34,12 @@ fn gathers(rt: HostRuntime) {
 #[test]
 fn gathers_too_many(rt: HostRuntime) {
     let game = five(&rt, rt.alloc());
-    say(&rt, "call");
+    print_line(&rt, "call");
     match gathered(&rt, rt.alloc(), &game, &NoGate, 2, 3, 4) {
-        Err(GatherFault::TooMany) => say(&rt, "worked"),
-        Err(GatherFault::Memory) => say(&rt, "out of memory"),
-        Err(GatherFault::Start) => say(&rt, "not started"),
-        _ => say(&rt, "another answer"),
+        Err(GatherFault::TooMany) => print_line(&rt, "worked"),
+        Err(GatherFault::Memory) => print_line(&rt, "out of memory"),
+        Err(GatherFault::Start) => print_line(&rt, "not started"),
+        _ => print_line(&rt, "another answer"),
     }
 }
 
@@ -47,9 +47,9 @@ fn gathers_too_many(rt: HostRuntime) {
 fn puts_parts_in_order(rt: HostRuntime) {
     let game = five(&rt, rt.alloc());
     let gathered = gathered(&rt, rt.alloc(), &game, &NoGate, 2, 3, 5).expect(&rt, "parts");
-    say(&rt, "call");
+    print_line(&rt, "call");
     let answer = gathered.in_order(rt.alloc());
-    say_memory(&rt, answer.is_ok());
+    print_memory(&rt, answer.is_ok());
     let list = match answer {
         Ok(list) => list,
         Err(_) => gathered.in_order(rt.alloc()).expect(&rt, "a list"),
@@ -73,14 +73,14 @@ fn lens_of(alloc: Global, gathered: &Gathered) -> Result<Vec<usize>, AllocError>
 fn finds_the_pieces(rt: HostRuntime) {
     let game = five(&rt, rt.alloc());
     let gathered = gathered(&rt, rt.alloc(), &game, &NoGate, 2, 3, 5).expect(&rt, "parts");
-    say(&rt, "call");
+    print_line(&rt, "call");
     let answer = lens_of(rt.alloc(), &gathered);
-    say_memory(&rt, answer.is_ok());
+    print_memory(&rt, answer.is_ok());
     let lens = match answer {
         Ok(lens) => lens,
         Err(_) => lens_of(rt.alloc(), &gathered).expect(&rt, "lengths"),
     };
-    same(&rt, lens.as_slice(), [1, 3, 1, 0].as_slice(), "lens");
+    assert_same(&rt, lens.as_slice(), [1, 3, 1, 0].as_slice(), "lens");
 }
 
 #[test]
@@ -88,40 +88,40 @@ fn sends_into_a_batch(rt: HostRuntime) {
     let game = five(&rt, rt.alloc());
     let guarded = Guarded::new(&game, &NoGate);
     let mut batch = Batch::new(rt.alloc(), 16);
-    say(&rt, "call");
+    print_line(&rt, "call");
     let sent = send_slice(&rt, &guarded, 2, 1, 1, 6, &mut batch);
     let wanted = if sent == Sent::Refused {
         Sent::Refused
     } else {
         Sent::Whole { left: 3 }
     };
-    say_memory(&rt, sent != Sent::Refused);
-    same(&rt, sent, wanted, "sent");
+    print_memory(&rt, sent != Sent::Refused);
+    assert_same(&rt, sent, wanted, "sent");
     let words = words_of_slice();
     let mut pipe = batch.close();
     let count = pipe.len() as usize;
-    same(
+    assert_same(
         &rt,
         count == words.len(),
         sent != Sent::Refused,
         "count == words.len",
     );
     for word in words.iter().take(count) {
-        same(&rt, pipe.take(), Taken::Item(*word), "pipe.take");
+        assert_same(&rt, pipe.take(), Taken::Item(*word), "pipe.take");
     }
-    same(&rt, pipe.take(), Taken::Ended, "pipe.take 2");
+    assert_same(&rt, pipe.take(), Taken::Ended, "pipe.take 2");
 }
 
 #[test]
 fn marks_without_memory(rt: HostRuntime) {
-    say(&rt, "call");
+    print_line(&rt, "call");
     let mut marks = Marks::new(2);
     assert!(rt; marks.give(0, 3));
     assert!(rt; !marks.give(0, 4));
-    same(&rt, marks.holder(0), Some(3), "marks.holder");
-    same(&rt, marks.holder(1), None, "marks.holder 2");
+    assert_same(&rt, marks.holder(0), Some(3), "marks.holder");
+    assert_same(&rt, marks.holder(1), None, "marks.holder 2");
     assert!(rt; !marks.all_given());
     assert!(rt; marks.give(1, 3));
     assert!(rt; marks.all_given());
-    say(&rt, "worked");
+    print_line(&rt, "worked");
 }

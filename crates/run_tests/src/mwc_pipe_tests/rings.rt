@@ -1,7 +1,7 @@
 //! Rings filled and emptied in one thread, and two threads that move words through a ring.
 ghost use Rattle.std.specs.Prelude.{◌≡◌, ◌≤◌, IfOk};
 
-use crate::helpers::{fill, same};
+use crate::helpers::{assert_same, fill};
 use council_game::Coalition;
 use mwc_pipe::{Closed, RingIn, RingOut, Unfinished, Word, ring};
 use std::snapshot::Snapshot;
@@ -17,23 +17,23 @@ fn moves_rows_through_a_ring(rt: HostRuntime) {
     let (mut to, mut from) = ring(rt.alloc(), 3).expect(&rt, "a ring");
     let row = ROW.as_slice();
     let mut taken = [END; 4];
-    same(&rt, from.take_some(&mut taken), 0, "from.take_some");
-    same(&rt, taken.as_slice(), [END; 4].as_slice(), "taken");
-    same(&rt, to.put_some(&row[..2]), 2, "to.put_some");
-    same(&rt, to.put_some(&row[..0]), 0, "to.put_some 2");
-    same(&rt, to.put_some(row), 1, "to.put_some 3");
-    same(&rt, to.put_some(row), 0, "to.put_some 4");
-    same(&rt, from.take_some(&mut taken[..1]), 1, "from.take_some 2");
-    same(&rt, from.take_some(&mut taken[..0]), 0, "from.take_some 3");
-    same(
+    assert_same(&rt, from.take_some(&mut taken), 0, "from.take_some");
+    assert_same(&rt, taken.as_slice(), [END; 4].as_slice(), "taken");
+    assert_same(&rt, to.put_some(&row[..2]), 2, "to.put_some");
+    assert_same(&rt, to.put_some(&row[..0]), 0, "to.put_some 2");
+    assert_same(&rt, to.put_some(row), 1, "to.put_some 3");
+    assert_same(&rt, to.put_some(row), 0, "to.put_some 4");
+    assert_same(&rt, from.take_some(&mut taken[..1]), 1, "from.take_some 2");
+    assert_same(&rt, from.take_some(&mut taken[..0]), 0, "from.take_some 3");
+    assert_same(
         &rt,
         taken.as_slice(),
         [Word::Open(0), END, END, END].as_slice(),
         "taken 2",
     );
-    same(&rt, to.put_some(&row[2..]), 1, "to.put_some 5");
-    same(&rt, from.take_some(&mut taken), 3, "from.take_some 4");
-    same(
+    assert_same(&rt, to.put_some(&row[2..]), 1, "to.put_some 5");
+    assert_same(&rt, from.take_some(&mut taken), 3, "from.take_some 4");
+    assert_same(
         &rt,
         taken.as_slice(),
         [Word::Done(0), Word::Open(0), Word::Open(1), END].as_slice(),
@@ -46,37 +46,37 @@ fn fills_the_largest_ring_by_rows(rt: HostRuntime) {
     let (mut to, mut from) = ring(rt.alloc(), 65536).expect(&rt, "a ring");
     let row = [Word::Open(7); 1000];
     for _ in 0..65 {
-        same(&rt, to.put_some(&row), 1000, "to.put_some");
+        assert_same(&rt, to.put_some(&row), 1000, "to.put_some");
     }
-    same(&rt, to.put_some(&row), 536, "to.put_some 2");
-    same(&rt, to.put_some(&row), 0, "to.put_some 3");
+    assert_same(&rt, to.put_some(&row), 536, "to.put_some 2");
+    assert_same(&rt, to.put_some(&row), 0, "to.put_some 3");
     let mut taken = [END; 1000];
     for _ in 0..65 {
-        same(&rt, from.take_some(&mut taken), 1000, "from.take_some");
-        same(&rt, taken.as_slice(), row.as_slice(), "taken");
+        assert_same(&rt, from.take_some(&mut taken), 1000, "from.take_some");
+        assert_same(&rt, taken.as_slice(), row.as_slice(), "taken");
     }
-    same(&rt, from.take_some(&mut taken), 536, "from.take_some 2");
+    assert_same(&rt, from.take_some(&mut taken), 536, "from.take_some 2");
 }
 
 #[test]
 fn ends_a_ring(rt: HostRuntime) {
     let (mut to, mut from) = ring(rt.alloc(), 2).expect(&rt, "a ring");
-    same(&rt, from.take(), None, "from.take");
-    same(&rt, to.put(Word::Open(0)), Ok(()), "to.put");
-    same(&rt, to.put(Word::Done(0)), Ok(()), "to.put 2");
-    same(&rt, to.put(END), Err(END), "to.put 3");
-    same(&rt, from.take(), Some(Word::Open(0)), "from.take 2");
+    assert_same(&rt, from.take(), None, "from.take");
+    assert_same(&rt, to.put(Word::Open(0)), Ok(()), "to.put");
+    assert_same(&rt, to.put(Word::Done(0)), Ok(()), "to.put 2");
+    assert_same(&rt, to.put(END), Err(END), "to.put 3");
+    assert_same(&rt, from.take(), Some(Word::Open(0)), "from.take 2");
     let closed = to.close().expect(&rt, "a closed end");
     let mut rest = from.end(closed);
-    same(&rt, rest.next(), Some(Word::Done(0)), "rest.next");
-    same(&rt, rest.next(), None, "rest.next 2");
-    same(&rt, rest.next(), None, "rest.next 3");
+    assert_same(&rt, rest.next(), Some(Word::Done(0)), "rest.next");
+    assert_same(&rt, rest.next(), None, "rest.next 2");
+    assert_same(&rt, rest.next(), None, "rest.next 3");
 }
 
 #[test]
 fn fills_the_largest_ring(rt: HostRuntime) {
     let (mut to, _from) = ring(rt.alloc(), 65536).expect(&rt, "a ring");
-    same(&rt, fill(&mut to, Word::Open(0), 70_000), 65_536, "fill");
+    assert_same(&rt, fill(&mut to, Word::Open(0), 70_000), 65_536, "fill");
 }
 
 /// Each ring takes as many words as it has room for, gives them, and takes as many again.
@@ -86,11 +86,11 @@ fn fills_rings_of_many_capacities(rt: HostRuntime) {
         assert!(rt; 1 <= room && room <= 65_535);
         let (mut to, mut from) = ring(rt.alloc(), room).expect(&rt, "a ring");
         for _ in 0..2 {
-            same(&rt, fill(&mut to, END, 70_000) as usize, room, "fill");
+            assert_same(&rt, fill(&mut to, END, 70_000) as usize, room, "fill");
             for _ in 0..room {
-                same(&rt, from.take(), Some(END), ("room", room));
+                assert_same(&rt, from.take(), Some(END), ("room", room));
             }
-            same(&rt, from.take(), None, ("room", room));
+            assert_same(&rt, from.take(), None, ("room", room));
         }
     }
 }
@@ -175,12 +175,12 @@ fn moves_words_between_threads(rt: HostRuntime) {
         let fills = Fills(Snapshot::of(&to));
         let filler = thread::spawn_with(&rt, fills, move || put_all(to)).expect(&rt, "a thread");
         let before = WORDS - room as u32;
-        same(&rt, take_first(&mut from, before), before, ("room", room));
+        assert_same(&rt, take_first(&mut from, before), before, ("room", room));
         let mut rest = from.end(filler.join(&rt).expect(&rt, "a closed end"));
         for number in before..WORDS {
-            same(&rt, rest.next(), Some(numbered(number)), ("room", room));
+            assert_same(&rt, rest.next(), Some(numbered(number)), ("room", room));
         }
-        same(&rt, rest.next(), None, ("room", room));
+        assert_same(&rt, rest.next(), None, ("room", room));
     }
 }
 
@@ -257,7 +257,7 @@ fn moves_rows_between_threads(rt: HostRuntime) {
         { put_all_rows(to, put) };
         let filler = thread::spawn_with(&rt, fills, filling).expect(&rt, "a thread");
         let before = WORDS - room as u32;
-        same(
+        assert_same(
             &rt,
             take_first_rows(&mut from, before, take),
             before,
@@ -265,8 +265,8 @@ fn moves_rows_between_threads(rt: HostRuntime) {
         );
         let mut rest = from.end(filler.join(&rt).expect(&rt, "a closed end"));
         for number in before..WORDS {
-            same(&rt, rest.next(), Some(numbered(number)), ("room", room));
+            assert_same(&rt, rest.next(), Some(numbered(number)), ("room", room));
         }
-        same(&rt, rest.next(), None, ("room", room));
+        assert_same(&rt, rest.next(), None, ("room", room));
     }
 }

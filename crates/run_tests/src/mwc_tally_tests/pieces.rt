@@ -1,5 +1,5 @@
 //! A list in three pieces, by any number of threads.
-ghost use Rattle.coalitions.specs.declared.limits.TheConstants.{WORKERS};
+ghost use Rattle.council_base.specs.declared.limits.TheConstants.{WORKERS};
 ghost use Rattle.council_game.specs.Game.{AreNonemptyCoalitions};
 ghost use Rattle.std.specs.Prelude.{◌≤◌, length};
 

@@ -1,31 +1,31 @@
-//! The calls that take memory, and the one that takes none. `tests/refusals.sh` refuses the
+//! The calls that take memory, and the one that takes none. `tests/call_allocations.sh` refuses the
 //! allocations between the line `call` and the line of the answer.
 use super::pieces::{coalitions, counts_of_three};
 use super::*;
-use crate::helpers::say;
+use crate::helpers::print_line;
 use mwc_tally::TallyFault;
 
 #[test]
 fn tallies(rt: HostRuntime) {
     let game = five(&rt, rt.alloc());
-    say(&rt, "call");
+    print_line(&rt, "call");
     match tally(&rt, rt.alloc(), &game, 2, 3, &NoGate) {
         Ok(counts) => {
-            say(&rt, "worked");
+            print_line(&rt, "worked");
             assert_of_five(&rt, &counts);
         }
-        Err(TallyFault::Memory) => say(&rt, "out of memory"),
-        Err(TallyFault::Start) => say(&rt, "not started"),
+        Err(TallyFault::Memory) => print_line(&rt, "out of memory"),
+        Err(TallyFault::Start) => print_line(&rt, "not started"),
     }
 }
 
 #[test]
 fn tallies_a_slice_without_memory(rt: HostRuntime) {
     let game = five(&rt, rt.alloc());
-    say(&rt, "call");
+    print_line(&rt, "call");
     let counts = tally_slice(&game, 0, 0);
     assert_of_five(&rt, &counts);
-    say(&rt, "worked");
+    print_line(&rt, "worked");
 }
 
 #[test]
@@ -34,13 +34,13 @@ fn tallies_pieces(rt: HostRuntime) {
     let first = coalitions(&rt, rt.alloc(), &game, &[24]);
     let second = coalitions(&rt, rt.alloc(), &game, &[22, 21]);
     let third = coalitions(&rt, rt.alloc(), &game, &[19, 15]);
-    say(&rt, "call");
+    print_line(&rt, "call");
     match counts_of_three(&rt, &game, &first, &second, &third, 3) {
         Ok(counts) => {
-            say(&rt, "worked");
+            print_line(&rt, "worked");
             assert_of_five(&rt, &counts);
         }
-        Err(TallyFault::Memory) => say(&rt, "out of memory"),
-        Err(TallyFault::Start) => say(&rt, "not started"),
+        Err(TallyFault::Memory) => print_line(&rt, "out of memory"),
+        Err(TallyFault::Start) => print_line(&rt, "not started"),
     }
 }

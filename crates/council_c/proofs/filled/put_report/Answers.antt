@@ -1,5 +1,5 @@
 use Rattle.std.proofs.Common.{ℕ, List, Some, subst, ap, arith, length}
-use Rattle.council_report.specs.{Outcome.Falls, Report.report, declared.fault.ReportFault.ReportFault}
+use Rattle.council_report.specs.{Outcome.StopsPartWay, Report.report, declared.fault.ReportFault.ReportFault}
 use Rattle.council_c.specs.Answer.{Shows}
 use Rattle.council_c.proofs.filled.put_report.Goals.{in-Ok, in-Err-Write+in_ok-length-in-Err-Write}
 use Rattle.council_c.proofs.Buffers.{shows-beginning}
@@ -12,7 +12,7 @@ returns-clause-text c =
       | in-Ok w ↦ subst (λ (l : List ℕ). Shows l c.args.room.now c.put.new.room)
           (rw c.new-page.ensures.bytes at w.in-Ok.ensures.ok) shown
       | in-Err-Write+in_ok-length-in-Err-Write w ↦
-          let fell = subst (λ (fault : ReportFault). Falls (Some c.new-page.result.bytes.items) (Some c.write.new.writer.bytes.items)
+          let fell = subst (λ (fault : ReportFault). StopsPartWay (Some c.new-page.result.bytes.items) (Some c.write.new.writer.bytes.items)
           (report c.args.lines c.args.game.now) fault) w.in-Err-Write.field-0-is w.in-Err-Write.ensures.err in
           shows-beginning _ (report c.args.lines c.args.game.now) c.args.room.now c.put.new.room _ fell.0
           (rw c.new-page.ensures.bytes at fell.1)

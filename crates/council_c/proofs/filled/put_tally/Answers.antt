@@ -1,5 +1,5 @@
 use Rattle.std.proofs.Common.{IfErr, IfOk, None, ◌∙◌, ap, subst}
-use Rattle.coalitions.specs.declared.report_lines.ReportLines.{ReportLines}
+use Rattle.council_base.specs.declared.report_lines.ReportLines.{ReportLines}
 use Rattle.council_report.specs.Report.{report}
 use Rattle.council_run.proofs.Shared.Finding.{finds-found}
 use Rattle.council_run.specs.declared.fault.RunFault.{RunFault}

@@ -1,7 +1,7 @@
-use Rattle.council_report.proofs.Imports.{map, decimal, flat_map, range_with_len, table_of_member_size, with_tab, Takes}
+use Rattle.council_report.proofs.Imports.{map, decimal, flat_map, range_with_len, table_of_member_size, with_tab, AppendsInRoom}
 use Rattle.council_report.proofs.counted_lines.push_counts.Given as goal
 
 abbrev pub invariant-loop-member : goal.invariant-loop-member
 invariant-loop-member l =
-    Takes l.initial.out l.out (flat_map with_tab
+    AppendsInRoom l.initial.out l.out (flat_map with_tab
     (map (λ i. decimal (table_of_member_size l.counted.counts.now i l.size)) (range_with_len 0 l.member)))

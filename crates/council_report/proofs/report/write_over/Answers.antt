@@ -1,5 +1,5 @@
 use Rattle.council_report.proofs.Imports.{◌≡◌, ◌∙◌, ℕ, List, length, ap, arith, Appends}
-use Rattle.council_report.specs.{Outcome.Falls, declared.fault.ReportFault.TheVariants.Write}
+use Rattle.council_report.specs.{Outcome.StopsPartWay, declared.fault.ReportFault.TheVariants.Write}
 use Rattle.council_report.proofs.{Bounds.lines-count, FromCounts.from-counts}
 use Rattle.council_report.proofs.Wholes.{after-none, counts-whole, appends-whole, stopped-whole}
 use Rattle.council_report.proofs.report.write_over.Goals as goal
@@ -31,7 +31,7 @@ pub returns-clause-err : goal.returns-clause-err
 returns-clause-err g c =
     let is = after-none (c.push_heading.ensures.items c.if-block.false) c.in_ok-block.ensures.empty.0 in
     let none = c.push_heading.ensures.written ∙ c.in_ok-block.ensures.empty.1 in
-    from-counts (λ t. Falls (g.W.Write.contents c.args.writer.now) (g.W.Write.contents c.send.new.writer) t (Write c.in-Err.fault.written))
+    from-counts (λ t. StopsPartWay (g.W.Write.contents c.args.writer.now) (g.W.Write.contents c.send.new.writer) t (Write c.in-Err.fault.written))
     c.args.shown _ _ g.list c.wide_total.result
     (stopped-whole _ _ c.push_heading.new.out _ _ c.in-Err.fault.written none is c.in-Err.ensures.err)
     c.requires.1.1.1.1 (c.wide_total.ensures.total ∙ c.requires.1.1.1.1.total) c.requires.1.1.0

@@ -1,9 +1,9 @@
-use Rattle.council_report.proofs.Imports.{take, flat_map, coalition_line, IsReadyLine, progress_of, Lasts}
+use Rattle.council_report.proofs.Imports.{take, flat_map, coalition_line, IsReadyLine, progress_of, KeepsReady}
 use Rattle.council_report.proofs.stream.put_pieces.Given as goal
 
 abbrev pub invariant-loop-piece : goal.invariant-loop-piece
 invariant-loop-piece g l = record {
-  lasts : Lasts (progress_of (g.W.Write.contents l.initial.writer) l.initial.block) (g.W.Write.contents l.writer) l.block
+  lasts : KeepsReady (progress_of (g.W.Write.contents l.initial.writer) l.initial.block) (g.W.Write.contents l.writer) l.block
       (flat_map (λ p. flat_map (coalition_line l.game) p.now) (take l.piece-index l.pieces));
   line : IsReadyLine l.game l.line;
 }

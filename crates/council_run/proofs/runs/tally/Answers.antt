@@ -1,6 +1,6 @@
 use Rattle.std.proofs.Common.{None, ◌∙◌, ap, subst}
-use Rattle.coalitions.specs.Options.{without_list}
-use Rattle.coalitions.specs.declared.report_lines.ReportLines.{ReportLines}
+use Rattle.council_base.specs.Options.{without_list}
+use Rattle.council_base.specs.declared.report_lines.ReportLines.{ReportLines}
 use Rattle.council_report.specs.Report.{report}
 use Rattle.council_run.proofs.Shared.Finding.{finds-found}
 use Rattle.council_run.specs.Run.{IsOutcome, Reads}

@@ -4,5 +4,5 @@ use Rattle.mwc_gather.proofs.gathering.open_all.Given as goal
 
 abbrev pub invariant-loop-worker : goal.invariant-loop-worker
 invariant-loop-worker g l =
-    (vec_len l.desks ≡ l.worker) × (l.workers ≤ vec_capacity l.desks) × AllOf (slices_of l.job) l.job.most l.desks.items
-    × All IsFresh (views_of l.desks.items)
+    (vec_len l.handles ≡ l.worker) × (l.workers ≤ vec_capacity l.handles) × AllOf (slices_of l.job) l.job.most l.handles.items
+    × All IsFresh (views_of l.handles.items)

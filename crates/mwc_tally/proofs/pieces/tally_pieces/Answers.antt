@@ -1,5 +1,5 @@
-use Rattle.coalitions.specs.Lists.{joined}
-use Rattle.mwc_tally.proofs.Stretches.{ok-counts}
+use Rattle.council_base.specs.Lists.{joined}
+use Rattle.mwc_tally.proofs.Chunks.{ok-counts}
 use Rattle.mwc_tally.proofs.pieces.tally_pieces.Goals as goal
 
 pub returns-clause-ok : goal.returns-clause-ok

@@ -2,7 +2,7 @@ use Rattle.std.proofs.Common.{◌≡◌, ◌^◌, arith, flat_map}
 use Rattle.std.specs.List.{range_with_len}
 use Rattle.power_index.proofs.Shared.Sound.{total-is, tallies-are_counts}
 use Rattle.mwc_tally.proofs.Counting.{all-slices, slices-room, slices-more}
-use Rattle.mwc_tally.specs.Inner.Shares.{slice_of}
+use Rattle.mwc_tally.specs.Inner.SliceCounts.{slice_of}
 use Rattle.mwc_tally.proofs.threads.one_by_one.Goals as goal
 
 pub add-requires-clause-room : goal.add-requires-clause-room

@@ -1,5 +1,5 @@
 use Rattle.std.specs.List.{range_with_len}
-use Rattle.mwc_tally.specs.Inner.Shares.{CountSlices}
+use Rattle.mwc_tally.specs.Inner.SliceCounts.{CountSlices}
 use Rattle.mwc_tally.proofs.threads.one_by_one.Given as goal
 
 abbrev pub invariant-loop-slice : goal.invariant-loop-slice

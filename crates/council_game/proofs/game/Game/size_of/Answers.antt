@@ -1,5 +1,5 @@
 use Rattle.council_game.proofs.Imports.{◌∙◌, ap, arith, ℕ}
-use Rattle.coalitions.proofs.Shared.Sizes.{ones-low, ones-few}
+use Rattle.council_base.proofs.Shared.Sizes.{ones-low, ones-few}
 use Rattle.council_game.specs.Votes.{size}
 use Rattle.council_game.proofs.game.Game.size_of.Goals as goal
 

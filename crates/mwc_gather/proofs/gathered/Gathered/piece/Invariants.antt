@@ -1,5 +1,5 @@
-use Rattle.mwc_gather.proofs.Imports.{◌≡◌, take, sum_by, times_in, shares}
+use Rattle.mwc_gather.proofs.Imports.{◌≡◌, take, sum_by, times_in, part_slices}
 use Rattle.mwc_gather.proofs.gathered.Gathered.piece.Given as goal
 
 abbrev pub invariant-loop-part : goal.invariant-loop-part
-invariant-loop-part l = sum_by (times_in l.j) (shares (take l.part-index l.self.parts.items)) ≡ 0
+invariant-loop-part l = sum_by (times_in l.j) (part_slices (take l.part-index l.self.parts.items)) ≡ 0

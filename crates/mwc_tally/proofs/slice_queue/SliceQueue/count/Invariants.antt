@@ -1,5 +1,5 @@
-use Rattle.mwc_tally.specs.Inner.Shares.{IsShare}
+use Rattle.mwc_tally.specs.Inner.SliceCounts.{AreThreadCounts}
 use Rattle.mwc_tally.proofs.slice_queue.SliceQueue.count.Given as goal
 
 abbrev pub invariant-loop : goal.invariant-loop
-invariant-loop g l = IsShare l.slices l.share
+invariant-loop g l = AreThreadCounts l.slices l.totals

@@ -1,0 +1,7 @@
+-- What only proofs, private functions and invariants need: no public contract mentions it.
+pub mod Rows
+pub mod Subsets
+pub mod Fitting
+pub mod Tables
+pub mod Groups
+pub mod Halves

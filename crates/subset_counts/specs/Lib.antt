@@ -1,0 +1,2 @@
+pub mod MinimalCounts
+pub mod Inner

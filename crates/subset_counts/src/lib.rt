@@ -1,0 +1,26 @@
+//! Counts the coalitions that members with some weights lead to, by size and by member, without
+//! listing any: those that meet a quota and lose it without their last member, and those that fill
+//! up a number of heads.
+//!
+//! ```text
+//! let counts = count_minimal(alloc, &[50, 49, 1], 51, 0)?;
+//! ```
+//!
+//! `row`, `rows` and `sums` go from member to member, and merge prefixes that miss as much to the
+//! quota: this is fast if there are few such needs. `subsets`, `fitting`, `table`, `groups` and
+//! `halves` count pairs of sets of the heavier and of the lighter half of the members, whatever
+//! their weights. `mwc_closed_count` says which games these are the counts of.
+#![tactic(auto)]
+
+mod choices;
+mod fitting;
+mod groups;
+mod halves;
+mod minimal_counts;
+mod row;
+mod rows;
+mod subsets;
+mod sums;
+mod table;
+
+pub use minimal_counts::{MinimalCounts, count_minimal};

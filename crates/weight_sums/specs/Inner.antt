@@ -1,7 +1,0 @@
--- What only proofs, private functions and invariants need: no public contract mentions it.
-pub mod Rows
-pub mod Sets
-pub mod Fitting
-pub mod Tables
-pub mod Groups
-pub mod Halves
