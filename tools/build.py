@@ -7,8 +7,8 @@
 
 For whoever wants the program, each library is proved once, from nothing, as `rt ci` does it: what is built of it
 holds its statements, and not its proofs, so that the crates above do not load these. It stands in
-crates/NAME/out/statements, and is proved again where its text or that of a library below has changed. `rt check` of
-a crate above takes it from there: see `give`.
+crates/NAME/out/rlib/statements (elsewhere `rt verdict` takes it for sources that no check reads), and is proved again
+where its text or that of a library below has changed. `rt check` of a crate above takes it from there: see `give`.
 
 The library for other languages is crates/council_c/out/libcouncil.a: the crate council_c, and what the kit has of C to
 take memory.
@@ -233,7 +233,7 @@ def kit():
 
 def statements(name):
     """What is built of a library."""
-    return f"{TOP}/crates/{name}/out/statements/{name}.rlib"
+    return f"{TOP}/crates/{name}/out/rlib/statements/{name}.rlib"
 
 
 def sum_of(name, lines):
@@ -293,6 +293,14 @@ def link(found, to):
     shutil.copytree(found, to, copy_function=os.link)
 
 
+def take_back(name):
+    """Takes from `rt` what it has built of a library, or was given; the statements stay."""
+    own = f"{TOP}/crates/{name}/out/rlib"
+    shutil.rmtree(f"{own}/{name}.rlib", ignore_errors=True)
+    if os.path.exists(f"{own}/stamp"):
+        os.remove(f"{own}/stamp")
+
+
 def give(name, stamp):
     """Gives `rt` what was proved here: it takes what stands in out/rlib beside the stamp of the sources, and so proves none of
     the libraries again when it checks a crate above them. (The gate asks for none of this: `rt ci` sets all of out/ aside.)"""
@@ -302,13 +310,13 @@ def give(name, stamp):
         return
     try:
         if not has_it:
-            shutil.rmtree(own, ignore_errors=True)
+            take_back(name)
             link(made, f"{own}/{name}.rlib")
         with open(f"{own}/stamp", "w", encoding="utf-8") as it:
             it.write(stamp)
     except OSError:
         # some file systems have no links
-        shutil.rmtree(own, ignore_errors=True)
+        take_back(name)
 
 
 def prove_once(name, lines, nice, jobs):
@@ -318,7 +326,8 @@ def prove_once(name, lines, nice, jobs):
         give(name, stamp)
         return 0
     shutil.rmtree(f"{TOP}/crates/{name}/out/rlib", ignore_errors=True)
-    shutil.rmtree(made, ignore_errors=True)
+    # (where an earlier version of this kept it)
+    shutil.rmtree(f"{TOP}/crates/{name}/out/statements", ignore_errors=True)
     os.makedirs(made)
     words = [f"{kit()}/bin/rattle", "build", *words_of(name, lines, "src/lib.rt"), "--jobs", str(jobs)]
     status = do([*words, "--statements", "-o", statements(name)], f"{TOP}/crates/{name}", name, nice)

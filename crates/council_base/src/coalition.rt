@@ -95,6 +95,7 @@ impl Coalition {
         ensures outside { has members place result ≡ false }
         ensures others { (p : ℕ) → p < members → p ≢ place →
             has members p result ≡ has members p self }
+        ensures below { self < 2 ^ members → result < 2 ^ members }
     {
         if self.has(members, place) {
             Coalition {

@@ -6,7 +6,8 @@ use Rattle.council_game.proofs.Imports.{GameView, IsGame, votes_of, minimal_coal
 use Rattle.std.proofs.lemmas.List.Sums.{length-filter}
 use Rattle.council_game.specs.Members.{HaveSameMembers}
 use Rattle.council_game.proofs.Shared.{Games.votes-are, Listing.listing-is, Rankings.count_by-none}
-use Rattle.council_game.proofs.Shared.Sets.{count, same-by-members, set-one, there, there-below, there-same}
+use Rattle.council_game.proofs.Shared.Sets.{set-one}
+use Rattle.council_game.proofs.Shared.Renamed.{same, same-by-members, same-renaming, there, there-below, there-same}
 
 -- numbers do not rise
 abbrev pub FallsAlong : List ℕ → Type 0
@@ -56,19 +57,22 @@ count-map f p (x ∷ xs) =
     omega (arith, count-map f p xs, sum_by-cons (λ z. cond (p z) 1 0) (f x) (map f xs), sum_by-cons (λ z. cond (p (f z)) 1 0) x xs)
 
 module _ (h g : GameView) (is_h : IsGame h) (is_g : IsGame g) (names : g.names ≡ h.names) (rules : g.rules ≡ h.rules) where
-  -- a coalition with the members of another one is that one's
-  pub there-is : (c d : ℕ) → d < 2 ^ length h.names → HaveSameMembers h g c d → there h g is_h is_g names rules c ≡ d
-  there-is c d below same =
-      let size = count h g is_h is_g names rules in
-      let room = ap (λ (n : ℕ). 2 ^ n) size in
-      set-one g is_g (there h g is_h is_g names rules c) d (omega (arith, room, there-below h g is_h is_g names rules c)) (omega (arith, room, below))
-      (λ i lt. sym (there-same h g is_h is_g names rules c i (omega (arith, size, lt))) ∙ same i (omega (arith, size, lt)))
+  -- the coalition of g with the members of one of h
+  abbrev pub moved : ℕ → ℕ
+  moved = there same same h g is_h is_g (same-renaming h g is_h is_g names rules)
 
-  pub resorted : (list : List ℕ) → IsPermutation (map (there h g is_h is_g names rules) (minimal_coalitions (votes_of h))) list
-      → FallsAlong list → list ≡ minimal_coalitions (votes_of g)
-  resorted list moved falls =
-      let go = there h g is_h is_g names rules in
-      let same = same-by-members h g is_h is_g names rules in
+  -- a coalition with the members of another one is that one's
+  pub moved-is : (c d : ℕ) → d < 2 ^ length h.names → HaveSameMembers h g c d → moved c ≡ d
+  moved-is c d below alike =
+      let r = same-renaming h g is_h is_g names rules in
+      let room = ap (λ (n : ℕ). 2 ^ n) r.count in
+      set-one g is_g (moved c) d (omega (arith, room, there-below same same h g is_h is_g r c)) (omega (arith, room, below))
+      (λ i lt. sym (there-same same same h g is_h is_g r c i (omega (arith, r.count, lt))) ∙ alike i (omega (arith, r.count, lt)))
+
+  pub resorted : (list : List ℕ) → IsPermutation (map moved (minimal_coalitions (votes_of h))) list → FallsAlong list
+      → list ≡ minimal_coalitions (votes_of g)
+  resorted list sorted falls =
+      let alike = same-by-members h g is_h is_g names rules in
       let listing = listing-is (votes_of g) (votes-are g is_g) in
       same-falling list (minimal_coalitions (votes_of g)) falls
       (λ i j le lt. elim (cases_eq i j) [
@@ -76,9 +80,9 @@ module _ (h g : GameView) (is_h : IsGame h) (is_g : IsGame g) (names : g.names �
         | inr other ↦ (let below = listing.descending i j 0 (omega (arith, le, other)) lt in omega (arith, below))
       ])
       (λ x.
-      let kept : count_by (λ z. z == x) list ≡ count_by (λ z. z == x) (map go (minimal_coalitions (votes_of h))) =
-      sum_by-IsPermutation (λ z. cond (z == x) 1 0) (map go (minimal_coalitions (votes_of h))) list moved in
-      kept ∙ count-map go (λ z. z == x) (minimal_coalitions (votes_of h))
-      ∙ sym (length-filter (λ c. go c == x) (minimal_coalitions (votes_of h)))
-      ∙ same.counts (λ c. go c == x) (λ d. d == x) (λ c d lc ld m. ap (λ (z : ℕ). z == x) (there-is c d ld m))
+      let kept : count_by (λ z. z == x) list ≡ count_by (λ z. z == x) (map moved (minimal_coalitions (votes_of h))) =
+      sum_by-IsPermutation (λ z. cond (z == x) 1 0) (map moved (minimal_coalitions (votes_of h))) list sorted in
+      kept ∙ count-map moved (λ z. z == x) (minimal_coalitions (votes_of h))
+      ∙ sym (length-filter (λ c. moved c == x) (minimal_coalitions (votes_of h)))
+      ∙ alike.counts (λ c. moved c == x) (λ d. d == x) (λ c d lc ld m. ap (λ (z : ℕ). z == x) (moved-is c d ld m))
       ∙ length-filter (λ d. d == x) (minimal_coalitions (votes_of g)))

@@ -12,4 +12,5 @@ pub mod Subsets
 pub mod Listing
 pub mod RankPlaces
 pub mod Sets
+pub mod Renamed
 pub mod Joins

@@ -2,7 +2,7 @@
 use Rattle.std.specs.Prelude.{ℕ, ◌^◌, ◌≡◌, ◌≢◌, ◌<◌, ◌≤◌, ◌↔◌, Bool, true, false, List, length, map, slice_index}
 use Rattle.std.specs.List.{All, AllPairs, filter, sum}
 use Rattle.council_game.specs.Game.{GameView, votes_of}
-use Rattle.council_game.specs.Members.{contains, size_of, HaveSameMembers}
+use Rattle.council_game.specs.Members.{contains, size_of, HaveSameMembers, IsSubsetOf}
 use Rattle.council_game.specs.Votes.{Votes, has, without, weight, places_of, wins, minimal, minimal_coalitions}
 
 -- a coalition weighs what its members weigh together
@@ -28,8 +28,20 @@ ProperSubsetsLose v =
     (a c : ℕ) → a < 2 ^ v.members → c < 2 ^ v.members
     → minimal v c ≡ true → IsProperSubset v.members a c → wins v.rules a ≡ false
 
--- the list of minimal coalitions is not empty, no longer than the game has coalitions, strictly
--- descending, and has only coalitions of the game, none of them empty
+-- the same of a game, member by member
+abbrev pub NeedsEachMemberOf : GameView → Type 0
+NeedsEachMemberOf g =
+    (c : ℕ) → (minimal (votes_of g) c ≡ true) ↔ ((wins (votes_of g).rules c ≡ true)
+    × ((i : ℕ) → i < length g.names → contains g i c ≡ true
+    → wins (votes_of g).rules (without (length g.names) (slice_index g.ranks i) c) ≡ false))
+
+abbrev pub ProperSubsetsOfLose : GameView → Type 0
+ProperSubsetsOfLose g =
+    (a c : ℕ) → a < 2 ^ length g.names → c < 2 ^ length g.names → minimal (votes_of g) c ≡ true
+    → IsSubsetOf g a c → a ≢ c → wins (votes_of g).rules a ≡ false
+
+-- the list of minimal coalitions is not empty, no longer than the game has coalitions, strictly descending, and has
+-- coalitions of the game alone, none of them empty
 pub record IsListing (v : Votes) : Type 0 where
   pub some : 0 < length (minimal_coalitions v)
   pub few : length (minimal_coalitions v) ≤ 2 ^ v.members

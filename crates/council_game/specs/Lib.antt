@@ -8,6 +8,7 @@ pub mod Members
 pub mod Contribution
 pub mod Rules
 pub mod Laws
+pub mod Renaming
 pub mod Inner
 pub mod Shared
 pub mod Front

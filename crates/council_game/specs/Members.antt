@@ -1,5 +1,5 @@
 -- The members of a game, and of a coalition of it.
-use Rattle.std.specs.Prelude.{ℕ, Bool, List, length, slice_index, ◌≡◌, ◌<◌}
+use Rattle.std.specs.Prelude.{ℕ, Bool, true, List, length, slice_index, ◌≡◌, ◌<◌}
 use Rattle.council_game.specs.Votes.{has, size}
 use Rattle.council_game.specs.Ranks.{places}
 use Rattle.council_game.specs.Game.{GameView}
@@ -19,3 +19,7 @@ size_of g c = size (length g.names) c
 -- coalition c of game g has the members of coalition d of game h
 abbrev pub HaveSameMembers : GameView → GameView → ℕ → ℕ → Type 0
 HaveSameMembers g h c d = (i : ℕ) → i < length g.names → contains g i c ≡ contains h i d
+
+-- each member of coalition a is a member of coalition c
+abbrev pub IsSubsetOf : GameView → ℕ → ℕ → Type 0
+IsSubsetOf g a c = (i : ℕ) → i < length g.names → contains g i a ≡ true → contains g i c ≡ true

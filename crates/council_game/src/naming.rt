@@ -1,7 +1,8 @@
 //! Coalitions by their members, and members by their names.
-ghost use Rattle.std.specs.Prelude.{◌≡◌, ◌≢◌, ◌<◌, ◌^◌, ◌==◌, ◌++◌, ◌∷◌, [], ℕ, All, IfOk, OnOk, length, map, slice_index, true};
+ghost use Rattle.std.specs.Prelude.{◌≡◌, ◌≢◌, ◌<◌, ◌≤◌, ◌^◌, ◌==◌, ◌++◌, ◌∷◌, [], ℕ, All, IfOk, OnOk, length, map, slice_index, true};
 ghost use Rattle.std.specs.List.{list_any};
 ghost use Rattle.council_game.specs.Game.{IsGame};
+ghost use Rattle.council_game.specs.Members.{size_of};
 ghost use Rattle.council_game.specs.Ranks.{member_at};
 ghost use Rattle.council_game.specs.Votes.{has, places_of};
 
@@ -23,6 +24,17 @@ impl Game {
             coalition = self.with_member(coalition, *member);
         }
         coalition
+    }
+
+    /// Returns how many members of the game are in a coalition, 0 to 40.
+    ///
+    /// Binary digits of its mask above those of the game's members count for nothing.
+    pub fn size_of(&self, coalition: Coalition) -> u8
+        ensures size { result ≡ size_of self.now coalition }
+        ensures few { result ≤ length self.now.names }
+    {
+        let members = self.members();
+        (coalition.mask() % (1 << members)).count_ones() as u8
     }
 
     /// Returns the coalition with one more member, given by its place in the file.

@@ -1,9 +1,9 @@
 //! Both indices of each member of a game.
 ghost use Rattle.council_base.specs.declared.limits.TheConstants.{COALITIONS};
 ghost use Rattle.council_game.specs.Game.{votes_of};
+ghost use Rattle.council_game.specs.Members.{members};
 ghost use Rattle.council_game.specs.Votes.{minimal_coalitions};
 ghost use Rattle.power_index.specs.MemberIndices.{indices_of_member};
-ghost use Rattle.power_index.specs.Counting.{members};
 ghost use Rattle.std.specs.Prelude.{◌≡◌, ◌<◌, IfNone, IfOk, IfSome, length, map};
 
 use council_game::{Game, Memory, limits};

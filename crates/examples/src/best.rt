@@ -1,11 +1,13 @@
 //! The best of a walk.
+ghost use Rattle.council_game.specs.Members.{size_of};
 ghost use Rattle.council_game.specs.Game.{votes_of};
-ghost use Rattle.council_game.specs.Votes.{minimal_coalitions, rule_at, weight};
-ghost use Rattle.std.specs.Prelude.{◌≤◌, All, Contains, IfSome, IsSome};
+ghost use Rattle.council_game.specs.Votes.{minimal_coalitions, rule_at, weight, wins};
+ghost use Rattle.std.specs.Prelude.{◌≡◌, ◌<◌, ◌≤◌, ◌^◌, ℕ, All, Contains, IfSome, IsSome, length, true};
 
 use council_game::{Coalition, Game};
+use game_calls::laws::{subsets_are_no_larger, winning_coalitions_have_minimal_ones};
 use mwc_walk::Walk;
-use mwc_walk::laws::one_slice_is_the_whole;
+use mwc_walk::laws::{one_slice_is_the_whole, steps_keep_the_least, steps_keep_the_whole};
 use power_index::laws::minimal_coalitions_can_be_counted;
 
 /// A minimal winning coalition that weighs least under the first rule: the best of a walk, which
@@ -21,10 +23,36 @@ pub fn lightest(game: &Game) -> Option<Coalition>
     game.was_checked();
     one_slice_is_the_whole();
     minimal_coalitions_can_be_counted();
+    steps_keep_the_whole();
+    steps_keep_the_least();
     let mut walk = Walk::new(game, 0, 0);
     let mut best = walk.next()?;
     while let Some(coalition) = walk.next() {
         if game.weight_of(coalition) < game.weight_of(best) {
+            best = coalition;
+        }
+    }
+    Some(best)
+}
+
+/// Returns a smallest winning coalition: the best of a walk by the number of members.
+pub fn smallest(game: &Game) -> Option<Coalition>
+    ensures some { IsSome result }
+    ensures listed { IfSome result (Contains (minimal_coalitions (votes_of game.now))) }
+    ensures least { IfSome result (λ best. (c : ℕ) → c < 2 ^ length game.now.names
+        → wins (votes_of game.now).rules c ≡ true → size_of game.now best ≤ size_of game.now c) }
+{
+    game.was_checked();
+    one_slice_is_the_whole();
+    minimal_coalitions_can_be_counted();
+    winning_coalitions_have_minimal_ones();
+    subsets_are_no_larger();
+    steps_keep_the_whole();
+    steps_keep_the_least();
+    let mut walk = Walk::new(game, 0, 0);
+    let mut best = walk.next()?;
+    while let Some(coalition) = walk.next() {
+        if game.size_of(coalition) < game.size_of(best) {
             best = coalition;
         }
     }

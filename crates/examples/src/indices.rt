@@ -2,19 +2,19 @@
 ghost use Rattle.council_base.specs.declared.limits.TheConstants.{COALITIONS};
 ghost use Rattle.council_file.specs.File.{game_of};
 ghost use Rattle.council_game.specs.Game.{GameView, votes_of};
+ghost use Rattle.council_game.specs.Members.{members};
 ghost use Rattle.council_game.specs.Votes.{minimal_coalitions};
-ghost use Rattle.power_index.specs.Counting.{members};
 ghost use Rattle.power_index.specs.Fractions.{AddUpToOne, lowest_terms};
 ghost use Rattle.power_index.specs.Indices.{deegan_packel, public_good};
 ghost use Rattle.std.specs.Prelude.{◌≡◌, ◌<◌, IfNone, IfOk, IfSome, Ok, length, map};
 
 use council_file::parse_game;
-use council_game::{Game, GameFault, Memory, limits};
-use mwc_walk::list_all;
+use council_game::{Game, GameFault, Memory};
+use game_calls::member_indices;
+use power_index::Index;
 use power_index::laws::{
     deegan_packel_adds_up, minimal_coalitions_can_be_counted, public_good_adds_up,
 };
-use power_index::{Counts, Index, deegan_packel, public_good};
 use std::alloc::Global;
 
 /// Both indices of a member; none where the game has more than 4,000,000 minimal winning
@@ -38,14 +38,10 @@ pub fn both_indices(
     ensures more { IfOk result
         (λ o. IfNone o (COALITIONS < length (minimal_coalitions (votes_of game.now)))) }
 {
-    let Some(list) = list_all(alloc, game, limits::COALITIONS)? else {
+    let Some(both) = member_indices(alloc, game, member)? else {
         return Ok(None);
     };
-    let counts = Counts::of(game, &list);
-    Ok(Some((
-        Index::of(deegan_packel(&counts, member)),
-        Index::of(public_good(&counts, member)),
-    )))
+    Ok(Some((both.deegan_packel, both.public_good)))
 }
 
 /// Both indices of the first member of the game that the bytes hold; none where it has more than

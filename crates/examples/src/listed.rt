@@ -1,8 +1,9 @@
 //! Questions to the list of minimal winning coalitions.
 ghost use Rattle.council_base.specs.declared.limits.TheConstants.{COALITIONS, PLAIN_MEMBERS};
 ghost use Rattle.council_game.specs.Game.{votes_of};
+ghost use Rattle.council_game.specs.Members.{contains};
 ghost use Rattle.council_game.specs.Votes.{minimal_coalitions};
-ghost use Rattle.power_index.specs.Counting.{contains, count_of_member};
+ghost use Rattle.power_index.specs.Counting.{count_of_member};
 ghost use Rattle.std.specs.List.{filter};
 ghost use Rattle.std.specs.Prelude.{◌≡◌, ◌==◌, ◌<◌, ◌≤◌, IfNone, IfOk, IfSome, length};
 

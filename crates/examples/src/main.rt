@@ -6,10 +6,12 @@
 mod all_indices;
 mod best;
 mod blocking;
+mod exchanged;
 mod games;
 mod indices;
 mod listed;
 mod named;
+mod power;
 mod quotas;
 mod reports;
 mod rings;

@@ -1,12 +1,14 @@
 //! Each use once, on a worked game.
 ghost use Rattle.std.specs.Prelude.{◌≡◌, length};
 
-use crate::best::lightest;
+use crate::best::{lightest, smallest};
 use crate::blocking::is_blocking;
+use crate::exchanged::exchange_weights;
 use crate::games::{are_ranked_alike, of_one_rule, of_two_rules, quota_in_millionths};
 use crate::indices::{both_indices, first_of_bytes, indices_add_up};
 use crate::listed::{coalitions_with, is_dummy, listed_twice};
 use crate::named::{critical_of_named, win_together};
+use crate::power::{have_equal_power, vetoers_in_order, weigh_the_same};
 use crate::reports::report_into_memory;
 use crate::rings::through_a_ring;
 use crate::slices::{Passes, words_of_slice};
@@ -144,6 +146,31 @@ fn members_of_coalitions(rt: HostRuntime) {
             .expect(&rt, "memory")
             .is_none()
     );
+}
+
+#[test]
+fn power_of_members(rt: HostRuntime) {
+    let alloc = rt.alloc();
+    let game = board(&rt, alloc);
+    assert!(rt; game.members() == 3);
+    let needed = vetoers_in_order(alloc, &game).expect(&rt, "memory");
+    assert!(rt; needed.as_slice() == [0].as_slice());
+    let equal = have_equal_power(alloc, &game, 1, 2).expect(&rt, "memory");
+    assert_same(&rt, equal, Some(true), "have_equal_power");
+    let game = five(&rt, alloc);
+    assert_same(
+        &rt,
+        smallest(&game),
+        Some(Coalition::of_mask(24)),
+        "smallest",
+    );
+    assert_same(&rt, weigh_the_same(&game, 0, 1), false, "weigh_the_same");
+    assert_same(&rt, weigh_the_same(&game, 2, 4), true, "weigh_the_same 2");
+    assert!(rt; game.rules() == 1);
+    let made = exchange_weights(alloc, &game, 0, 4).expect(&rt, "memory");
+    assert!(rt; made.members() == 5);
+    assert_same(&rt, made.weight(0), 15, "exchange_weights");
+    assert_same(&rt, made.weight(4), 35, "exchange_weights 2");
 }
 
 #[test]

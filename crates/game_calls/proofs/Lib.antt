@@ -1,5 +1,7 @@
 mod Others
 mod Quotas
+pub mod Parts
+mod Collecting
 pub mod Distinct
 pub mod LowestTermsAddUp
 pub mod Masks

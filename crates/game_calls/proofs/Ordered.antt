@@ -1,9 +1,9 @@
 -- Lowest terms keep the order of fractions, and tell them apart.
 use Rattle.std.proofs.Common.{◌≡◌, ◌∙◌, ℕ, ◌*◌, ◌<◌, ◌≤◌, ap, sym, subst, arith, nat_cmp, mul-pos, mul-le-mul_right, lt_of_mul-lt-mul_right}
-use Rattle.std.proofs.{Math.Nat.eq_of_mul-eq-mul_right, lemmas.Bool.cases_lt, lemmas.Bool.cases_eq, lemmas.Bool.Decides.nat_tests}
+use Rattle.std.proofs.{lemmas.Bool.cases_lt, lemmas.Bool.cases_eq, lemmas.Bool.Decides.nat_tests}
 use Rattle.std.proofs.lemmas.Grind.{common_steps}
 use Rattle.power_index.specs.Fractions.{SameFraction, fraction_cmp, lowest_terms}
-use Rattle.power_index.proofs.Shared.LowestTerms.{lowest_terms-lowest, lowest_terms-only}
+use Rattle.power_index.proofs.Shared.LowestTerms.{lowest_terms-lowest, carried, lowest_from_same}
 
 less-times : (k x y : ℕ) → 0 < k → x < y → x * k < y * k
 less-times k x y pos lt = grind (arith, common_steps, mul-le-mul_right)
@@ -26,25 +26,12 @@ same-order a b c d A B C D pb pd pB pD e f =
 pub lowest_terms_ordered : (p q : ℕ × ℕ) → 0 < p.1 → 0 < q.1 → fraction_cmp (lowest_terms p) (lowest_terms q) ≡ fraction_cmp p q
 lowest_terms_ordered p q pp pq = grind (arith, common_steps, lowest_terms-lowest, same-order)
 
--- what is the same as one of two same fractions is the same as the other
-carried : (a b c d l m : ℕ) → 0 < b → l * b ≡ a * m → a * d ≡ c * b → l * d ≡ c * m
-carried a b c d l m pos e f = eq_of_mul-eq-mul_right b pos (l * d) (c * m) (omega (arith, ap (λ (n : ℕ). n * d) e, ap (λ (n : ℕ). n * m) f))
-
 pub same_from_lowest : (p q : ℕ × ℕ) → 0 < p.1 → 0 < q.1 → lowest_terms p ≡ lowest_terms q → SameFraction p q
 same_from_lowest p q pp pq e =
     let lp = lowest_terms-lowest p pp in
     let lq = lowest_terms-lowest q pq in
     carried (lowest_terms p).0 (lowest_terms p).1 q.0 q.1 p.0 p.1 lp.positive (sym lp.same)
     (subst (λ (l : ℕ × ℕ). l.0 * q.1 ≡ q.0 * l.1) (sym e) lq.same)
-
-pub lowest_from_same : (p q : ℕ × ℕ) → 0 < p.1 → 0 < q.1 → SameFraction p q → lowest_terms p ≡ lowest_terms q
-lowest_from_same p q pp pq e =
-    let lp = lowest_terms-lowest p pp in
-    lowest_terms-only q (lowest_terms p) pq (record {
-      positive = lp.positive;
-      same = carried p.0 p.1 q.0 q.1 (lowest_terms p).0 (lowest_terms p).1 pp lp.same e;
-      lowest = lp.lowest;
-    })
 
 pub ruleset apart = (same_from_lowest, lowest_from_same)
 

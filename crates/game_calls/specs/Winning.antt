@@ -1,6 +1,8 @@
 -- What the laws say of winning coalitions.
-use Rattle.std.specs.Prelude.{ℕ, ◌^◌, ◌≡◌, ◌<◌, true, All, Contains}
+use Rattle.std.specs.Prelude.{ℕ, ◌^◌, ◌≡◌, ◌<◌, true, All, Contains, length}
 use Rattle.council_game.specs.Votes.{Votes, has, wins, minimal_coalitions}
+use Rattle.council_game.specs.Game.{GameView, votes_of}
+use Rattle.council_game.specs.Members.{contains, IsSubsetOf}
 
 -- in a game of n members, each place of a is in c
 abbrev pub IsSubset : ℕ → ℕ → ℕ → Type 0
@@ -21,3 +23,18 @@ abbrev pub HasVetoersInAll : Votes → Type 0
 HasVetoersInAll v =
     (p : ℕ) → p < v.members → All (λ m. has v.members p m ≡ true) (minimal_coalitions v)
     → (c : ℕ) → c < 2 ^ v.members → wins v.rules c ≡ true → has v.members p c ≡ true
+
+-- ---- of a game, member by member
+-- some minimal winning coalition has only members of c
+pub record HasMinimalSubsetOf (g : GameView) (c : ℕ) : Type 0 where
+  pub subset : ℕ
+  pub listed : Contains (minimal_coalitions (votes_of g)) subset
+  pub inside : IsSubsetOf g subset c
+
+-- member i is a vetoer: no coalition wins without it
+abbrev pub IsVetoer : GameView → ℕ → Type 0
+IsVetoer g i = (c : ℕ) → c < 2 ^ length g.names → wins (votes_of g).rules c ≡ true → contains g i c ≡ true
+
+-- member i is in each minimal winning coalition
+abbrev pub IsInAll : GameView → ℕ → Type 0
+IsInAll g i = All (λ m. contains g i m ≡ true) (minimal_coalitions (votes_of g))

@@ -5,15 +5,18 @@
 //! game_calls::laws::lowest_terms_add_up();
 //! ```
 ghost use Rattle.council_base.specs.Coalitions.{has};
-ghost use Rattle.council_game.specs.Game.{GameView, IsGame, AreNonemptyCoalitions, total};
-ghost use Rattle.council_game.specs.Votes.{Votes, IsVotes, wins, rule_at};
+ghost use Rattle.council_game.specs.Game.{GameView, IsGame, AreNonemptyCoalitions, first_weights, made_game, total, votes_of};
+ghost use Rattle.council_game.specs.Members.{HaveSameMembers, IsSubsetOf, size_of};
+ghost use Rattle.council_game.specs.Ranks.{rank_places};
+ghost use Rattle.council_game.specs.Renaming.{AreInverse, exchanged};
+ghost use Rattle.council_game.specs.Votes.{RuleView, Votes, IsVotes, wins, rule_at};
 ghost use Rattle.game_calls.specs.Quotas.{at_quota};
 ghost use Rattle.power_index.specs.Counting.{members};
 ghost use Rattle.power_index.specs.Fractions.{SameFraction, fraction_cmp, lowest_terms, AddUpToOne};
 ghost use Rattle.power_index.specs.Indices.{deegan_packel, public_good};
 ghost use Rattle.std.specs.List.{filter, range_with_len};
-ghost use Rattle.std.specs.Prelude.{◌≡◌, ℕ, ◌<◌, ◌^◌, false, [], length, slice_index, slice_index_or, true, ◌+◌, ◌++◌, ◌∷◌, Bool, if◌then◌else◌, ◌↔◌, ◌*◌, ◌≤◌, List, map};
-ghost use Rattle.game_calls.specs.Winning.{IsSubset, HasMinimalSubsets, HasVetoersInAll};
+ghost use Rattle.std.specs.Prelude.{◌≡◌, ℕ, ◌<◌, ◌^◌, false, [], length, slice_index, slice_index_or, true, ◌+◌, ◌++◌, ◌∷◌, Bool, if◌then◌else◌, ◌↔◌, ◌*◌, ◌≤◌, List, map, Ok, Option};
+ghost use Rattle.game_calls.specs.Winning.{IsSubset, HasMinimalSubsets, HasVetoersInAll, HasMinimalSubsetOf, IsInAll, IsVetoer};
 
 /// Nobody is in the empty coalition.
 #[tactic(auto, using(crate::proofs::Masks::empty))]
@@ -23,8 +26,10 @@ pub fn nobody_is_in_the_empty_coalition()
 
 /// Two coalitions of a game of n members that have the same members are the same.
 pub fn same_members_are_one_coalition()
-    ensures { (n a c : ℕ) → a < 2 ^ n → c < 2 ^ n → ((p : ℕ) → p < n → has n p a ≡ has n p c)
-        → a ≡ c }
+    ensures places { (n a c : ℕ) → a < 2 ^ n → c < 2 ^ n
+        → ((p : ℕ) → p < n → has n p a ≡ has n p c) → a ≡ c }
+    ensures members { (g : GameView) → IsGame g → (a c : ℕ) → a < 2 ^ length g.names
+        → c < 2 ^ length g.names → HaveSameMembers g g a c → a ≡ c }
 {}
 
 /// No two members have the same rank place.
@@ -42,22 +47,52 @@ pub fn names_are_distinct()
 {}
 
 /// A coalition wins that has a subset that wins.
-#[tactic(auto, using(crate::proofs::Minimal::larger_wins))]
+#[tactic(auto, using(crate::proofs::Minimal::larger))]
 pub fn larger_coalitions_win()
-    ensures { (v : Votes) → IsVotes v → (a c : ℕ) → IsSubset v.members a c
+    ensures votes { (v : Votes) → IsVotes v → (a c : ℕ) → IsSubset v.members a c
         → wins v.rules a ≡ true → wins v.rules c ≡ true }
+    ensures members { (g : GameView) → IsGame g → (a c : ℕ) → IsSubsetOf g a c
+        → wins (votes_of g).rules a ≡ true → wins (votes_of g).rules c ≡ true }
 {}
 
 /// Each winning coalition has a subset that is a minimal winning coalition.
-#[tactic(auto, using(crate::proofs::Minimal::minimal_subsets))]
+#[tactic(auto, using(crate::proofs::Minimal::minimal_ones))]
 pub fn winning_coalitions_have_minimal_ones()
-    ensures { (v : Votes) → IsVotes v → HasMinimalSubsets v }
+    ensures votes { (v : Votes) → IsVotes v → HasMinimalSubsets v }
+    ensures members { (g : GameView) → IsGame g → (c : ℕ) → c < 2 ^ length g.names
+        → wins (votes_of g).rules c ≡ true → HasMinimalSubsetOf g c }
 {}
 
 /// A member of all minimal winning coalitions is a vetoer: no coalition wins without it.
-#[tactic(auto, using(crate::proofs::Minimal::vetoers_in_all))]
 pub fn members_of_all_are_vetoers()
-    ensures { (v : Votes) → IsVotes v → HasVetoersInAll v }
+    ensures votes { (v : Votes) → IsVotes v → HasVetoersInAll v }
+    ensures members { (g : GameView) → IsGame g → (i : ℕ) → i < length g.names
+        → IsInAll g i ↔ IsVetoer g i }
+{}
+
+/// A subset of a coalition has no more members.
+#[tactic(auto, using(crate::proofs::Minimal::subset_sizes))]
+pub fn subsets_are_no_larger()
+    ensures { (g : GameView) → IsGame g → (a c : ℕ) → IsSubsetOf g a c
+        → size_of g a ≤ size_of g c }
+{}
+
+/// A game that is made has the title, the names and the rules that it is made of, and the rank
+/// places by the first rule.
+#[tactic(auto, using(crate::proofs::Parts::made))]
+pub fn made_games_have_their_parts()
+    ensures { (title : Option (List ℕ)) (names : List (List ℕ)) (rules : List RuleView) (g : GameView)
+        → made_game title names rules ≡ Ok g → g ≡ record {
+          title = title;
+          names = names;
+          rules = rules;
+          ranks = rank_places (first_weights rules);
+        } }
+{}
+
+/// Members that are exchanged twice are where they were.
+pub fn exchanging_goes_back()
+    ensures { (n i j : ℕ) → i < n → j < n → AreInverse n (exchanged i j) (exchanged i j) }
 {}
 
 /// The first rule of a game at another quota, 1 to its total, is a game: no check refuses it.
@@ -74,8 +109,16 @@ pub fn filters_take_one_more()
         ≡ filter test (range_with_len 0 n) ++ (if test n then n ∷ [] else []) }
 {}
 
-/// Fractions with bottoms above 0 are ordered as their lowest terms are. So `Index::compare` orders
-/// the indices as they are defined.
+/// What is given for 0, 1, .., n is what is given for those below n, and then for n: one step of a
+/// loop that pushes something for each member or place.
+#[tactic(auto, using(council_game::proofs::Shared::Lists::map_one_more))]
+pub fn maps_take_one_more()
+    ensures { (f : ℕ → ℕ) (n : ℕ) → map f (range_with_len 0 (n + 1))
+        ≡ map f (range_with_len 0 n) ++ f n ∷ [] }
+{}
+
+/// Fractions with bottoms above 0 are ordered as their lowest terms are. So `Index::compare` orders the indices
+/// as they are defined.
 #[tactic(auto, using(crate::proofs::Ordered::lowest_terms_ordered))]
 pub fn lowest_terms_keep_order()
     ensures { (p q : ℕ × ℕ) → 0 < p.1 → 0 < q.1 →

@@ -1,5 +1,6 @@
 //! Further calls on games, for callers: members by their places in the file, coalitions by names,
-//! critical members, games from slices or at another quota, and a count by a walk.
+//! critical members, vetoers, the indices of a member, games from slices, under other rules, with
+//! other weights or at another quota, and a count by a walk.
 //!
 //! ```text
 //! let game = game_from_slices(alloc, &["Ada", "Bo"], &[2, 1], 2)?;
@@ -9,14 +10,18 @@
 #![tactic(auto)]
 
 mod critical;
+mod indices;
 pub mod laws;
 mod made;
 mod membership;
 mod names;
+mod needed;
 mod walked;
 
 pub use critical::{critical_members, is_critical};
-pub use made::{at_quota, game_from_slices};
-pub use membership::{has_member, outsiders, with_member, without_member};
+pub use indices::member_indices;
+pub use made::{at_quota, game_from_slices, with_rules, with_weights};
+pub use membership::{everyone, has_member, outsiders, with_member, without_member};
 pub use names::{coalition_named, first_unnamed};
+pub use needed::{is_vetoer, vetoers};
 pub use walked::count_by_walk;

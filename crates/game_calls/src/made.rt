@@ -1,12 +1,15 @@
-//! Games from slices, and at another quota.
+//! Games from slices, and of the members of another one: under other rules, with other weights, at
+//! another quota.
+ghost use Rattle.council_base.specs.declared.limits.TheConstants.{RULES};
 ghost use Rattle.council_game.specs.Fault.{Answers};
 ghost use Rattle.council_game.specs.Game.{made_game, total};
+ghost use Rattle.council_game.specs.Rules.{rule_views};
 ghost use Rattle.council_game.specs.Votes.{rule_at};
-ghost use Rattle.game_calls.specs.Quotas.{at_quota};
-ghost use Rattle.std.specs.Prelude.{◌≡◌, ◌∷◌, ◌≤◌, [], IfOk, None, length, map, option_map, string_bytes};
+ghost use Rattle.game_calls.specs.Quotas.{at_quota, with_rules, with_weights};
+ghost use Rattle.std.specs.Prelude.{◌≡◌, ◌∷◌, ◌<◌, ◌≤◌, [], All, IfOk, None, length, map, option_map, string_bytes};
 
-use crate::laws::quotas_can_be_changed;
-use council_game::{Game, GameFault, Memory};
+use crate::laws::{made_games_have_their_parts, quotas_can_be_changed};
+use council_game::{Game, GameFault, Memory, Rule};
 use std::alloc::{AllocError, Global};
 
 fn copied(alloc: Global, names: &[&str]) -> Result<Vec<String>, AllocError>
@@ -59,8 +62,50 @@ fn weights_of(alloc: Global, game: &Game) -> Result<Vec<u64>, AllocError>
     Ok(weights)
 }
 
-/// The game of the same title and members, and of only the first rule, at another quota: 1 to the
-/// total of its weights.
+/// Returns the game of the same title and members under other rules.
+///
+/// There is at least one rule and at most 4, and each has a weight for each member.
+///
+/// # Errors
+///
+/// The first of the faults Weight and QuotaRange, or Memory if an allocation was refused.
+pub fn with_rules(alloc: Global, game: &Game, rules: Vec<Rule>) -> Result<Game, GameFault>
+    requires some { 0 < length rules.items }
+    requires few { length rules.items ≤ RULES }
+    requires full { All (λ r. length r.weights.items ≡ length game.now.names) rules.items }
+    ensures answer { Answers result
+        (made_game game.now.title game.now.names (rule_views rules.items)) }
+    ensures game { IfOk result (λ made. made ≡ with_rules game.now (rule_views rules.items)) }
+{
+    made_games_have_their_parts();
+    let title = title_of(alloc, game)?;
+    let names = game.copy_names(alloc)?;
+    Game::with_rules(alloc, title, names, rules)
+}
+
+/// Returns the game of the same title and members under one rule, with other weights.
+///
+/// Its quota is that of the first rule.
+///
+/// # Errors
+///
+/// The first of the faults Weight and QuotaRange, or Memory if an allocation was refused.
+pub fn with_weights(alloc: Global, game: &Game, weights: Vec<u64>) -> Result<Game, GameFault>
+    requires { length weights.items ≡ length game.now.names }
+    ensures answer { Answers result (made_game game.now.title game.now.names
+        (record { quota = (rule_at game.now.rules 0).quota; weights = weights.items } ∷ [])) }
+    ensures game { IfOk result (λ made. made ≡ with_weights game.now weights.items) }
+{
+    let mut rules = Vec::new(alloc);
+    rules.push(Rule {
+        quota: game.quota(),
+        weights,
+    })?;
+    with_rules(alloc, game, rules)
+}
+
+/// The game of the same title and members, and of the first rule alone, at another quota: 1 to the total of
+/// its weights.
 ///
 /// # Errors
 ///

@@ -1,8 +1,9 @@
 //! Members of a coalition, each given by its place in the file, from 0.
+ghost use Rattle.council_base.specs.Coalitions.{with_member, without};
 ghost use Rattle.council_game.specs.Members.{contains};
-ghost use Rattle.council_game.specs.Votes.{without};
 ghost use Rattle.std.specs.Prelude.{◌≡◌, ◌≢◌, ◌<◌, ◌^◌, ℕ, false, true, if◌then◌else◌, length, not, slice_index};
 
+use crate::laws::nobody_is_in_the_empty_coalition;
 use council_game::{Coalition, Game};
 
 /// Whether a member is in a coalition.
@@ -16,6 +17,9 @@ pub fn has_member(game: &Game, coalition: Coalition, member: usize) -> bool
 /// The coalition with a member besides; the same where that member is in.
 pub fn with_member(game: &Game, coalition: Coalition, member: usize) -> Coalition
     requires { member < length game.now.names }
+    ensures mask { result ≡ if contains game.now member coalition
+        then coalition
+        else with_member (length game.now.names) (slice_index game.now.ranks member) coalition }
     ensures inside { contains game.now member result ≡ true }
     ensures others { (i : ℕ) → i < length game.now.names → i ≢ member →
         contains game.now i result ≡ contains game.now i coalition }
@@ -33,6 +37,7 @@ pub fn without_member(game: &Game, coalition: Coalition, member: usize) -> Coali
     ensures outside { contains game.now member result ≡ false }
     ensures others { (i : ℕ) → i < length game.now.names → i ≢ member →
         contains game.now i result ≡ contains game.now i coalition }
+    ensures below { coalition < 2 ^ length game.now.names → result < 2 ^ length game.now.names }
 {
     coalition.without(game.members(), game.place_of(member))
 }
@@ -50,4 +55,13 @@ pub fn outsiders(game: &Game, coalition: Coalition) -> Coalition
         }
     }
     outsiders
+}
+
+/// Returns the coalition of all members.
+pub fn everyone(game: &Game) -> Coalition
+    ensures members { (i : ℕ) → i < length game.now.names → contains game.now i result ≡ true }
+    ensures below { result < 2 ^ length game.now.names }
+{
+    nobody_is_in_the_empty_coalition();
+    outsiders(game, Coalition::none())
 }

@@ -3,7 +3,10 @@ use Rattle.mwc_walk.proofs.Imports.{pow-add, nat_tests, Votes, minimal_coalition
 use Rattle.mwc_walk.proofs.Imports.{◌*◌, ◌^◌, ◌≤◌, Bool, true, List, [], ◌∷◌, ◌++◌, length, get_or, take, drop, mul-le, CursorIs, SomeSteps}
 use Rattle.mwc_walk.proofs.Imports.{common_steps, cond_both, length-drop, filter-append, in_slice, slice_below, Cursor, ◌≡◌, ℕ, ◌+◌, ◌-◌}
 use Rattle.mwc_walk.proofs.Imports.{IsPlace, IsVotes, votes_of, listing-is, append-nil, get_or-drop}
-use Rattle.mwc_walk.specs.{Listed.ListsAll, declared.step.Step.Step}
+use Rattle.std.proofs.Common.{Contains, subst, refl}
+use Rattle.std.proofs.lemmas.List.Elements.{All-contains, All-contains_itself, All-filter, Contains-append_right}
+use Rattle.council_game.proofs.Shared.Listing.{listed-is}
+use Rattle.mwc_walk.specs.{Listed.IsListed, Listed.ListsAll, declared.step.Step.Step}
 use Rattle.mwc_walk.specs.Inner.Cursor.{rest_of_slice, bound, Follows, GivesNext, FindsEnd}
 use Rattle.std.proofs.{Common.if◌then◌else◌, Common.mul-add, Common.take-append-drop, lemmas.List.take_more}
 use Rattle.mwc_walk.proofs.{Rest.down-split, Shared.Joined.slices-joined}
@@ -62,6 +65,17 @@ module _ {v : Votes} {a b : Cursor} where
 
   pub given-next : {c : ℕ} → CursorIs v a → GivesNext v a c b → given-by v b ≡ given-by v a ++ c ∷ []
   given-next {c} is h = grind (arith, common_steps, same-slice, given-more, rest-is)
+
+  -- what is given is in the slice, and so among the minimal winning coalitions
+  pub given-listed : {c : ℕ} → CursorIs v a → GivesNext v a c b → IsListed v c
+  unfolding slice
+  given-listed {c} is h =
+      let there : Contains (slice v a.bits a.number) c =
+      subst (λ (l : List ℕ). Contains l c) (ap (λ (l : List ℕ). given-by v a ++ l) (sym h.first) ∙ given-whole is)
+      (Contains-append_right (given-by v a) (c ∷ rest_of_slice v b) c (0, omega arith, refl)) in
+      let listed = All-contains (Contains (minimal_coalitions v)) (slice v a.bits a.number) c
+      (All-filter _ (Contains (minimal_coalitions v)) (minimal_coalitions v) (All-contains_itself (minimal_coalitions v))) there in
+      let both = (listed-is v c).0 listed in record { listed = listed; minimal = both.1; below = both.0 }
 
   pub given-end : FindsEnd v a b → given-by v b ≡ given-by v a
   given-end h = given-same h.follows (h.none_after ∙ sym h.none)

@@ -1,5 +1,5 @@
 -- What the laws say of every game.
-use Rattle.std.specs.Prelude.{ℕ, ◌^◌, ◌≡◌, ◌≤◌}
+use Rattle.std.specs.Prelude.{ℕ, ◌^◌, ◌≡◌, ◌≤◌, All, Contains, List}
 use Rattle.std.specs.List.{flat_map, range_with_len}
 use Rattle.council_base.specs.declared.limits.TheConstants.{BITS}
 use Rattle.council_game.specs.Votes.{Votes, minimal_coalitions}
@@ -10,3 +10,8 @@ use Rattle.mwc_walk.specs.Slices.{slice}
 abbrev pub SlicesMakeTheWhole : Votes → Type 0
 SlicesMakeTheWhole v = (k : ℕ) → k ≤ BITS → k ≤ v.members →
     flat_map (slice v k) (range_with_len 0 (2 ^ k)) ≡ minimal_coalitions v
+
+-- c is in the list, and has the least number f of all in it
+pub record IsLeast (f : ℕ → ℕ) (list : List ℕ) (c : ℕ) : Type 0 where
+  pub listed : Contains list c
+  pub least : All (λ d. f c ≤ f d) list

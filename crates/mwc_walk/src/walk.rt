@@ -1,7 +1,8 @@
 //! A walk over the minimal winning coalitions of a slice.
-ghost use Rattle.std.specs.Prelude.{◌≡◌, ◌+◌, ◌-◌, ◌*◌, ◌^◌, ◌<◌, ◌≤◌, ◌≢◌, [], ◌∷◌, ◌++◌, drop, length, MatchOption};
+ghost use Rattle.std.specs.Prelude.{◌≡◌, ◌+◌, ◌-◌, ◌*◌, ◌^◌, ◌<◌, ◌≤◌, ◌≢◌, [], ◌∷◌, ◌++◌, drop, length, IfSome, MatchOption};
 ghost use Rattle.council_base.specs.declared.limits.TheConstants.{BITS};
 ghost use Rattle.council_game.specs.Game.{votes_of};
+ghost use Rattle.mwc_walk.specs.Listed.{IsListed};
 ghost use Rattle.mwc_walk.specs.Slices.{slice};
 ghost use Rattle.mwc_walk.specs.WalkView.{given, given_count};
 ghost use Rattle.mwc_walk.specs.Seeks.{Seeks, seeks_left};
@@ -73,10 +74,12 @@ impl<'a> Walk<'a> {
 
     /// Returns the next coalition of the slice; none at its end, and ever after.
     ///
-    /// What was given so far and what is still to come are together the whole slice.
+    /// It is a minimal winning coalition of the game. What was given so far and what is still to
+    /// come are together the whole slice.
     pub fn next(&mut self) -> Option<Coalition>
         ensures next { MatchOption result ((self.old.to_come ≡ []) × (self.new.to_come ≡ []))
             (λ c. self.old.to_come ≡ c ∷ self.new.to_come) }
+        ensures listed { IfSome result (IsListed self.old.votes) }
         ensures given { MatchOption result (given self.new ≡ given self.old)
             (λ c. given self.new ≡ given self.old ++ c ∷ []) }
         ensures whole { given self.new ++ self.new.to_come

@@ -13,16 +13,21 @@ pub within : (g : GameView) (list : List ℕ) (t : Tables) (i : ℕ) → i < t.m
     → AllByRecursion (λ s. (0 < s) × (s ≤ length g.names)) (sizes_of_member g list i)
 within g list t i lt h = sizes-within g list i (omega (arith, h.members))
 
+pub weight-of : (g : GameView) (list : List ℕ) (i : ℕ) → 0 < length g.names
+    → weighted_sum denominator (λ s. count_of_member_size g i s list) (length g.names)
+    ≡ sum_by (λ s. denominator / s) (sizes_of_member g list i)
+weight-of g list i some =
+    sum-by_size (λ s. denominator / s) (size_of g) (contains g i) 1 (length g.names) list
+    (λ c in'. (size-pos-in g i c some in', omega (arith, size-le (length g.names) c)))
+    ∙ sym (fold-map (λ (a : ℕ) (s : ℕ). a + denominator / s) (size_of g) 0 (filter (contains g i) list))
+
 pub weight : (g : GameView) (list : List ℕ) (t : Tables) (i : ℕ) → i < t.members → AreCounts g list t
     → weighted_sum denominator (table_of_member_size t i) t.members ≡ sum_by (λ s. denominator / s) (sizes_of_member g list i)
 weight g list t i lt h =
-    let n : ℕ = length g.names in
     ap (weighted_sum denominator (table_of_member_size t i)) h.members
-    ∙ sum-range (λ s. table_of_member_size t i s * (denominator / s)) (λ s. count_of_member_size g i s list * (denominator / s)) 1 n
+    ∙ sum-range (λ s. table_of_member_size t i s * (denominator / s)) (λ s. count_of_member_size g i s list * (denominator / s)) 1 (length g.names)
     (λ s _ le. ap (λ k. k * (denominator / s)) (h.of_member_size i s lt (omega (arith, h.members))))
-    ∙ sum-by_size (λ s. denominator / s) (size_of g) (contains g i) 1 n list
-    (λ c in'. (size-pos-in g i c (omega (arith, lt, h.members)) in', omega (arith, size-le n c)))
-    ∙ sym (fold-map (λ (a : ℕ) (s : ℕ). a + denominator / s) (size_of g) 0 (filter (contains g i) list))
+    ∙ weight-of g list i (omega (arith, lt, h.members))
 
 -- a member's unit fractions are at most as many as all coalitions
 pub weight-light : (g : GameView) (list : List ℕ) (t : Tables) (i : ℕ) → i < t.members → AreCounts g list t

@@ -5,4 +5,5 @@ pub mod Tables
 pub mod Fractions
 pub mod Indices
 pub mod MemberIndices
+pub mod Renaming
 pub mod Inner

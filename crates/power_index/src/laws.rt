@@ -2,10 +2,13 @@
 //! and that two indices which are the same number are equal.
 ghost use Rattle.council_base.specs.declared.limits.TheConstants.{MEMBERS};
 ghost use Rattle.council_game.specs.Game.{GameView, IsGame, votes_of, AreNonemptyCoalitions};
+ghost use Rattle.council_game.specs.Renaming.{AreSymmetric, IsRenaming};
 ghost use Rattle.council_game.specs.Votes.{minimal_coalitions};
+ghost use Rattle.power_index.specs.MemberIndices.{indices_of_member};
 ghost use Rattle.power_index.specs.Counting.{members};
 ghost use Rattle.power_index.specs.Fractions.{AddUpToOne, HasLowestTerms, IsIndex, SameFraction};
 ghost use Rattle.power_index.specs.Indices.{deegan_packel, public_good};
+ghost use Rattle.power_index.specs.Renaming.{HaveRenamedCounts};
 ghost use Rattle.power_index.specs.Tables.{AreCounts, AreCountsOfGame, AreTallies, Tables};
 ghost use Rattle.std.specs.Prelude.{◌≡◌, ℕ, ◌<◌, ◌≤◌, ◌^◌, List, length, map};
 
@@ -52,6 +55,20 @@ pub fn tallies_are_counts()
 pub fn places_change_no_count()
     ensures { (g h : GameView) (t : Tables) → IsGame g → IsGame h → h.names ≡ g.names → h.rules ≡ g.rules
         → AreCountsOfGame h t → AreCountsOfGame g t }
+{}
+
+/// Which names the members have changes no count and no index: if the members of a game, renamed,
+/// are those of another one, each has the counts and the indices of the member of its new name.
+pub fn names_change_no_count()
+    ensures { (to from : ℕ → ℕ) (g h : GameView) → IsGame g → IsGame h → IsRenaming to from g h
+        → HaveRenamedCounts to g h }
+{}
+
+/// Symmetric members have equal indices.
+pub fn symmetric_members_have_equal_indices()
+    ensures { (g : GameView) (i j : ℕ) → IsGame g → i < length g.names → j < length g.names
+        → AreSymmetric g i j → indices_of_member g (minimal_coalitions (votes_of g)) i
+        ≡ indices_of_member g (minimal_coalitions (votes_of g)) j }
 {}
 
 /// Two indices that are the same number have equal pairs.

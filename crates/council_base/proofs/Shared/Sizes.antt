@@ -2,7 +2,7 @@
 use Rattle.std.proofs.Common.{◌≡◌, ℕ, zero, suc, ◌+◌, ◌-◌, ◌*◌, ◌/◌, ◌%◌, ◌^◌, ◌<◌, ◌≤◌, length, sym, ap, ◌∙◌, arith, count_ones, filter}
 use Rattle.std.proofs.Common.{mod-eq_of_lt, mod-lt, pow_pos, eqb-true}
 use Rattle.std.specs.{Int.Count.ones-ones, List.range_with_len}
-use Rattle.std.proofs.lemmas.{Bool.cond_both, Bool.eqb-false, Bool.Decides.nat_tests, Nat.ones_cat, Nat.ones-le, Nat.mod-pow-add}
+use Rattle.std.proofs.lemmas.{Bool.cond_both, Bool.eqb-false, Bool.Decides.nat_tests, Nat.ones_cat, Nat.ones-le, Nat.mod-pow-add, Nat.one_shl}
 use Rattle.std.proofs.lemmas.Grind.{common_steps}
 use Rattle.council_base.specs.Coalitions.{has, size}
 
@@ -23,8 +23,21 @@ size-from m a (suc n) c e =
     grind (arith, ones_cat, mod-lt, pow_pos, bit-ones) in
     grind (arith, cond_both, eqb-true, eqb-false)
 
+-- digits above those of the places count for nothing
+pub size-low : (n c : ℕ) → size n c ≡ count_ones (c % 2 ^ n)
+size-low n c = size-from n 0 n c (omega arith)
+
 pub size-ones : (n c : ℕ) → c < 2 ^ n → size n c ≡ count_ones c
-size-ones n c below = size-from n 0 n c (omega arith) ∙ ap count_ones (mod-eq_of_lt below)
+size-ones n c below = size-low n c ∙ ap count_ones (mod-eq_of_lt below)
+
+-- the ones below a place's digit, as the code counts them
+pub ones-low : (n c : ℕ) → n ≤ 40 → count_ones (c % (1 * 2 ^ n % 18446744073709551616)) ≡ size n c
+ones-low n c few = ap (λ (k : ℕ). count_ones (c % k)) (one_shl n 64 (omega arith)) ∙ sym (size-low n c)
+
+pub ones-few : (n c : ℕ) → n ≤ 40 → count_ones (c % (1 * 2 ^ n % 18446744073709551616)) ≤ n
+ones-few n c few =
+    let low = ones-le n (c % 2 ^ n) (mod-lt c (pow_pos n)) in
+    omega (arith, low, ap (λ (k : ℕ). count_ones (c % k)) (one_shl n 64 (omega arith)))
 
 -- a place's digit, as the code makes it
 pub digit-shifted : (n p : ℕ) → n ≤ 40 → p < n → 1 * 2 ^ (n - 1 - p) % 18446744073709551616 ≡ 2 ^ (n - 1 - p)

@@ -3,8 +3,10 @@ use Rattle.council_game.proofs.Imports.{length, sum, refl, ap, arith, AllByRecur
 use Rattle.council_game.proofs.Imports.{◌≡◌, ℕ, zero, suc, ◌-◌, ◌/◌, ◌%◌, ◌^◌, ◌<◌, ◌≤◌, Bool, true, false, not, List, [], ◌∷◌, ◌++◌}
 use Rattle.council_game.proofs.Imports.{All-nil, AllPairs-cons, sum_by-cons, and_parts, both_ways, cond-true, cond-false, nat_tests}
 use Rattle.council_game.proofs.Imports.{RuleView, Votes, IsRule, IsVotes, weight, wins, minimal, minimal_coalitions, minimal_below}
+use Rattle.council_game.proofs.Imports.{sym, inl, inr, cases_eq, ◌≢◌, ◌∙◌}
 use Rattle.std.proofs.lemmas.List.{Elements.All-filter, Elements.filter_passes, Filters.length-filter_both, Kept.AllPairs-filter}
-use Rattle.std.proofs.{Common.append_assoc, lemmas.Nat.Bits.bit_at_ones}
+use Rattle.std.proofs.lemmas.List.Elements.{All-contains, Contains-append_right}
+use Rattle.std.proofs.{Common.append_assoc, Common.Contains, Common.◌↔◌, lemmas.Bool.cond_both, lemmas.Nat.Bits.bit_at_ones}
 use Rattle.council_game.specs.{Laws.IsListing, Votes.down}
 use Rattle.council_game.proofs.Shared.{Subsets.minimal-inside, WeightByDigits.weight-nil, WeightByDigits.weight-cons, Weights.weight-zero}
 
@@ -35,10 +37,17 @@ unfolding down
 down-descends zero = λ i j d less lt. absurd (omega arith)
 down-descends (suc n) = AllPairs-cons (λ a b. b < a) n (down n) (down-below n n (omega arith)) (down-descends n)
 
-some-left : (p : ℕ → Bool) (n m : ℕ) → m < n → p m ≡ true → 0 < length (filter p (down n))
+-- what passes among them is listed
+down-has : (p : ℕ → Bool) (n m : ℕ) → m < n → p m ≡ true → Contains (filter p (down n)) m
 unfolding down
-some-left p zero m lt h = absurd (omega arith)
-some-left p (suc n) m lt h = grind (arith, nat_tests, some-left p n m, both_ways)
+down-has p zero m lt h = absurd (omega arith)
+down-has p (suc n) m lt h =
+    cond_both (p n) (n ∷ filter p (down n)) (filter p (down n)) (λ l. Contains l m)
+    (λ is. elim (cases_eq m n) [
+      | inl same ↦ (0, omega arith, sym same)
+      | inr other ↦ Contains-append_right (n ∷ []) (filter p (down n)) m (down-has p n m (omega (arith, lt, other)) h)
+    ])
+    (λ isnt. let other : m ≢ n = λ same. both_ways _ isnt (ap p (sym same) ∙ h) in down-has p n m (omega (arith, lt, other)) h)
 
 length-down : (n : ℕ) → length (down n) ≡ n
 unfolding down
@@ -51,7 +60,7 @@ listing-is v game =
     let pos : 0 < 2 ^ v.members = pow_pos v.members in
     let found = minimal-inside v (2 ^ v.members) (2 ^ v.members - 1) (omega arith) (wins-full v.members v.rules game.rules) in
     record {
-      some = some-left (minimal v) (2 ^ v.members) found.0 (omega (arith, found.1)) found.2;
+      some = (let first = down-has (minimal v) (2 ^ v.members) found.0 (omega (arith, found.1)) found.2 in omega (arith, first.1));
       few =
           (let parts = length-filter_both (minimal v) (λ c. not (minimal v c)) (λ c. refl) (down (2 ^ v.members)) in
           let all = length-down (2 ^ v.members) in omega (arith, parts, all));
@@ -60,6 +69,18 @@ listing-is v game =
       descending = AllPairs-filter (λ a b. b < a) (minimal v) (down (2 ^ v.members)) (down-descends (2 ^ v.members));
       none_empty = grind (arith, none-wins, and_parts, filter_passes);
     }
+
+-- ---- the list by its coalitions
+pub listed-is : (v : Votes) (c : ℕ) → Contains (minimal_coalitions v) c ↔ ((c < 2 ^ v.members) × (minimal v c ≡ true))
+unfolding minimal_coalitions
+listed-is v c = (
+  λ listed. (
+    All-contains (λ d. d < 2 ^ v.members) (minimal_coalitions v) c (All-filter (minimal v) (λ d. d < 2 ^ v.members) (down (2 ^ v.members))
+        (down-below (2 ^ v.members) (2 ^ v.members) (omega arith))) listed,
+    All-contains (λ d. minimal v d ≡ true) (minimal_coalitions v) c (filter_passes (minimal v) (down (2 ^ v.members))) listed,
+  ),
+  λ both. down-has (minimal v) (2 ^ v.members) c both.0 both.1,
+)
 
 -- ---- the list, filled from above
 pub listed-more : (v : Votes) (xs ys all : List ℕ) (m c : ℕ) → 0 < m → c ≡ m - 1 → minimal v c ≡ true → ys ≡ xs ++ c ∷ []

@@ -1,18 +1,19 @@
 -- Coalitions as sets of members.
 use Rattle.council_game.proofs.Imports.{◌≡◌, ◌∙◌, ◌==◌, ℕ, zero, suc, ◌+◌, ◌-◌, ◌*◌, ◌^◌, ◌<◌, ◌≤◌, Bool, true, false, not, cond}
-use Rattle.council_game.proofs.Imports.{List, [], ◌∷◌, length, filter, map, sym, ap, refl, arith, sum_by, sum_by-cons, range_with_len}
+use Rattle.council_game.proofs.Imports.{List, [], ◌∷◌, length, filter, sym, ap, refl, arith, sum_by, sum_by-cons, range_with_len}
 use Rattle.council_game.proofs.Imports.{cases_eq, nat_tests, get_or, get_or-map}
 use Rattle.council_game.proofs.Imports.{GameView, IsGame, votes_of, RuleView, member_at, members_by_rank, rule_by_rank, has, without}
-use Rattle.council_game.proofs.Imports.{weight, wins, minimal, minimal_coalitions}
+use Rattle.council_game.proofs.Imports.{weight, wins, minimal}
 use Rattle.std.proofs.Common.{◌/◌, ◌%◌, ◌&&◌}
 use Rattle.std.proofs.lemmas.Nat.Bits.{bit_at_cat_low, bit_at_cat_high, bit_at_above}
 use Rattle.std.proofs.lemmas.List.Sums.{length-filter}
 use native.Mathlib.Numerals.{unary_clauses}
 use Rattle.council_base.proofs.Shared.Digits.{has-kept, has-gone, same-places}
 use Rattle.council_base.proofs.Shared.Lists.{sum-swap, filter-both, sum-zero}
-use Rattle.council_game.specs.{Laws.HasEachSet, Laws.IsSameByMembers, Members.HaveSameMembers, Members.contains, Members.size_of, Votes.down}
+use Rattle.council_game.specs.{Laws.HasEachSet, Laws.NeedsEachMemberOf, Laws.ProperSubsetsOfLose, Members.HaveSameMembers, Members.IsSubsetOf, Members.contains, Members.size_of, Votes.down}
 use Rattle.council_game.proofs.Shared.{Making.ranks-are, Rankings.length-weights_by_rank}
 use Rattle.council_game.proofs.Shared.{RankPlaces.game-rank_places, RankPlaces.by-member, Meanings.needs-each-member, Rankings.by_rank-at}
+use Rattle.council_game.proofs.Shared.{Games.votes-are, Subsets.subsets-lose}
 use Rattle.council_game.proofs.Shared.{Rankings.length-by_rank}
 
 -- ---- coalitions of one place more
@@ -58,6 +59,12 @@ sum-range f g a zero h = refl
 sum-range f g a (suc n) h =
     simp sum_by-cons (omega (arith, h a (omega arith) (omega arith), sum-range f g (a + 1) n (λ j le lt. h j (omega arith) (omega arith))))
 
+sum-range-le : (f g : ℕ → ℕ) (a n : ℕ) → ((j : ℕ) → a ≤ j → j < a + n → f j ≤ g j)
+    → sum_by f (range_with_len a n) ≤ sum_by g (range_with_len a n)
+sum-range-le f g a zero h = omega arith
+sum-range-le f g a (suc n) h =
+    simp sum_by-cons (omega (arith, h a (omega arith) (omega arith), sum-range-le f g (a + 1) n (λ j le lt. h j (omega arith) (omega arith))))
+
 -- what passes a test, each with its weight
 pub sum-filter : (w : ℕ → ℕ) (p : ℕ → Bool) (xs : List ℕ) → sum_by w (filter p xs) ≡ sum_by (λ x. cond (p x) 1 0 * w x) xs
 sum-filter w p [] = refl
@@ -99,16 +106,16 @@ sum-moved f there back n go come =
 
 -- ---- the coalition of a set of members
 module _ (g : GameView) (is : IsGame g) where
-  coalition_of_set : (ℕ → Bool) → ℕ
+  pub coalition_of_set : (ℕ → Bool) → ℕ
   coalition_of_set set = mask_of (λ p. set (member_at g.ranks p)) (length g.names)
 
-  set-contains : (set : ℕ → Bool) (i : ℕ) → i < length g.names → contains g i (coalition_of_set set) ≡ set i
+  pub set-contains : (set : ℕ → Bool) (i : ℕ) → i < length g.names → contains g i (coalition_of_set set) ≡ set i
   unfolding coalition_of_set
   set-contains set i lt =
       let are = ranks-are g is in
       mask-has (λ p. set (member_at g.ranks p)) (length g.names) (get_or g.ranks i 0) (are.place_below i lt) ∙ ap set (are.member_back i lt)
 
-  set-below : (set : ℕ → Bool) → coalition_of_set set < 2 ^ length g.names
+  pub set-below : (set : ℕ → Bool) → coalition_of_set set < 2 ^ length g.names
   unfolding coalition_of_set
   set-below set = mask-below (λ p. set (member_at g.ranks p)) (length g.names)
 
@@ -123,7 +130,7 @@ module _ (g : GameView) (is : IsGame g) where
   each-set = record { coalition = coalition_of_set; below = set-below; members = set-contains; one = set-one }
 
   -- what a coalition weighs, member by member
-  weight-members : (r : RuleView) (c : ℕ) → weight (rule_by_rank g.ranks r).weights c
+  pub weight-members : (r : RuleView) (c : ℕ) → weight (rule_by_rank g.ranks r).weights c
       ≡ sum_by (λ i. cond (contains g i c) 1 0 * get_or r.weights i 0) (range_with_len 0 (length g.names))
   weight-members r c =
       let are = ranks-are g is in
@@ -137,14 +144,14 @@ module _ (g : GameView) (is : IsGame g) where
       let who = by_rank-at g.ranks (get_or g.ranks i 0) 0 (omega (arith, are.count, below)) in
       ap (λ (w : ℕ). cond (contains g i c) 1 0 * w) (at ∙ ap (λ (m : ℕ). get_or r.weights m 0) (who ∙ are.member_back i (omega (arith, lt)))))
 
-  size-members : (c : ℕ) → size_of g c ≡ sum_by (λ i. cond (contains g i c) 1 0) (range_with_len 0 (length g.names))
+  pub size-members : (c : ℕ) → size_of g c ≡ sum_by (λ i. cond (contains g i c) 1 0) (range_with_len 0 (length g.names))
   size-members c =
       let are = ranks-are g is in
       length-filter (λ p. has (length g.names) p c) (range_with_len 0 (length g.names))
       ∙ by-member (length g.names) g.ranks are.count (game-rank_places g is) (λ p. cond (has (length g.names) p c) 1 0)
 
   -- a coalition without one of its members
-  without-contains : (c i j : ℕ) → i < length g.names → j < length g.names → contains g i c ≡ true
+  pub without-contains : (c i j : ℕ) → i < length g.names → j < length g.names → contains g i c ≡ true
       → contains g j (without (length g.names) (get_or g.ranks i 0) c) ≡ (contains g j c && not (j == i))
   without-contains c i j li lj inside =
       let are = ranks-are g is in
@@ -152,13 +159,13 @@ module _ (g : GameView) (is : IsGame g) where
       grind (arith, nat_tests, cases_eq j i, has-gone (length g.names) (get_or g.ranks i 0) c, kept, are.member_back j lj, are.member_back i li)
 
   -- minimal coalitions, member by member
-  needs-members : (c : ℕ) → minimal (votes_of g) c ≡ true → (wins (votes_of g).rules c ≡ true) × ((i : ℕ) → i < length g.names
+  pub needs-members : (c : ℕ) → minimal (votes_of g) c ≡ true → (wins (votes_of g).rules c ≡ true) × ((i : ℕ) → i < length g.names
       → contains g i c ≡ true → wins (votes_of g).rules (without (length g.names) (get_or g.ranks i 0) c) ≡ false)
   needs-members c min =
       let both = (needs-each-member (votes_of g) c).0 min in
       (both.0, λ i lt inside. both.1 (get_or g.ranks i 0) ((ranks-are g is).place_below i lt) inside)
 
-  from-members : (c : ℕ) → wins (votes_of g).rules c ≡ true → ((i : ℕ) → i < length g.names
+  pub from-members : (c : ℕ) → wins (votes_of g).rules c ≡ true → ((i : ℕ) → i < length g.names
       → contains g i c ≡ true → wins (votes_of g).rules (without (length g.names) (get_or g.ranks i 0) c) ≡ false)
       → minimal (votes_of g) c ≡ true
   from-members c won each =
@@ -170,111 +177,22 @@ module _ (g : GameView) (is : IsGame g) where
             ∙ each (member_at g.ranks p) (are.member_below p lt) (ap (λ (q : ℕ). has (length g.names) q c) (are.place_back p lt) ∙ inside),
       )
 
--- ---- two games of the same members and rules
-wins-alike : (g h : GameView) → IsGame g → IsGame h → length h.names ≡ length g.names → (c d : ℕ) → HaveSameMembers g h c d
-    → (rs : List RuleView) → wins (map (rule_by_rank g.ranks) rs) c ≡ wins (map (rule_by_rank h.ranks) rs) d
-unfolding wins
-wins-alike g h is_g is_h count c d same [] = refl
-wins-alike g h is_g is_h count c d same (r ∷ rs) =
-    let weigh : weight (rule_by_rank g.ranks r).weights c ≡ weight (rule_by_rank h.ranks r).weights d =
-    weight-members g is_g r c
-    ∙ sum-range (λ i. cond (contains g i c) 1 0 * get_or r.weights i 0) (λ i. cond (contains h i d) 1 0 * get_or r.weights i 0) 0 (length g.names)
-    (λ i _ lt. ap (λ (b : Bool). cond b 1 0 * get_or r.weights i 0) (same i (omega (arith, lt))))
-    ∙ ap (λ (n : ℕ). sum_by (λ i. cond (contains h i d) 1 0 * get_or r.weights i 0) (range_with_len 0 n)) (sym count)
-    ∙ sym (weight-members h is_h r d) in
-    grind (arith, wins-alike g h is_g is_h count c d same rs, weigh)
+  pub needs-each-of : NeedsEachMemberOf g
+  needs-each-of c = (needs-members c, λ both. from-members c both.0 both.1)
 
-module _ (g h : GameView) (is_g : IsGame g) (is_h : IsGame h) (names : h.names ≡ g.names) (rules : h.rules ≡ g.rules) where
-  pub count : length h.names ≡ length g.names
-  count = ap (λ (l : List (List ℕ)). length l) names
+  -- a subset by its members is one by its places
+  pub places-within : (a c : ℕ) → IsSubsetOf g a c → (p : ℕ) → p < length g.names → has (length g.names) p a ≡ true
+      → has (length g.names) p c ≡ true
+  places-within a c sub p lt inside =
+      let are = ranks-are g is in
+      ap (λ (q : ℕ). has (length g.names) q c) (sym (are.place_back p lt)) ∙ sub (member_at g.ranks p) (are.member_below p lt)
+      (ap (λ (q : ℕ). has (length g.names) q a) (are.place_back p lt) ∙ inside)
 
-  win : (c d : ℕ) → HaveSameMembers g h c d → wins (votes_of g).rules c ≡ wins (votes_of h).rules d
-  win c d same =
-      wins-alike g h is_g is_h count c d same g.rules
-      ∙ ap (λ (rs : List RuleView). wins (map (rule_by_rank h.ranks) rs) d) (sym rules)
+  pub subsets-of-lose : ProperSubsetsOfLose g
+  subsets-of-lose a c la lc min sub other = subsets-lose (votes_of g) (votes-are g is) a c la lc min (places-within a c sub, other)
 
-  fewer : (c d i : ℕ) → HaveSameMembers g h c d → i < length g.names → contains g i c ≡ true
-      → HaveSameMembers g h (without (length g.names) (get_or g.ranks i 0) c) (without (length h.names) (get_or h.ranks i 0) d)
-  fewer c d i same li inside j lj =
-      without-contains g is_g c i j li lj inside ∙ ap (λ (b : Bool). b && not (j == i)) (same j lj)
-      ∙ sym (without-contains h is_h d i j (omega (arith, count, li)) (omega (arith, count, lj)) (sym (same i li) ∙ inside))
-
-  size-alike : (c d : ℕ) → HaveSameMembers g h c d → size_of g c ≡ size_of h d
-  size-alike c d same =
-      size-members g is_g c
-      ∙ sum-range (λ i. cond (contains g i c) 1 0) (λ i. cond (contains h i d) 1 0) 0 (length g.names)
-      (λ i _ lt. ap (λ (b : Bool). cond b 1 0) (same i (omega (arith, lt))))
-      ∙ ap (λ (n : ℕ). sum_by (λ i. cond (contains h i d) 1 0) (range_with_len 0 n)) (sym count)
-      ∙ sym (size-members h is_h d)
-
-  minimal-there : (c d : ℕ) → HaveSameMembers g h c d → minimal (votes_of g) c ≡ true → minimal (votes_of h) d ≡ true
-  minimal-there c d same min =
-      let both = needs-members g is_g c min in
-      from-members h is_h d (sym (win c d same) ∙ both.0) (λ i lt inside.
-      let li : i < length g.names = omega (arith, count, lt) in
-      let own = same i li ∙ inside in
-      sym (win _ _ (fewer c d i same li own)) ∙ both.1 i li own)
-
-  -- the coalition of h with the members of one of g
-  pub there : ℕ → ℕ
-  there c = coalition_of_set h is_h (λ i. contains g i c)
-
-  pub there-same : (c : ℕ) → HaveSameMembers g h c (there c)
-  unfolding there
-  there-same c i lt = sym (set-contains h is_h (λ i. contains g i c) i (omega (arith, count, lt)))
-
-  pub there-below : (c : ℕ) → there c < 2 ^ length g.names
-  unfolding there
-  there-below c = let same = ap (λ (n : ℕ). 2 ^ n) count in omega (arith, same, set-below h is_h (λ i. contains g i c))
-
--- both ways
-module _ (g h : GameView) (is_g : IsGame g) (is_h : IsGame h) (names : h.names ≡ g.names) (rules : h.rules ≡ g.rules) where
-  minimal-alike : (c d : ℕ) → HaveSameMembers g h c d → minimal (votes_of g) c ≡ minimal (votes_of h) d
-  minimal-alike c d same =
-      let size = count g h is_g is_h names rules in
-      let back : HaveSameMembers h g d c = λ i lt. sym (same i (omega (arith, size, lt))) in
-      grind (arith, nat_tests, minimal-there g h is_g is_h names rules c d same, minimal-there h g is_h is_g (sym names) (sym rules) d c back)
-
-  there-back : (c : ℕ) → c < 2 ^ length g.names
-      → there h g is_h is_g (sym names) (sym rules) (there g h is_g is_h names rules c) ≡ c
-  there-back c lt =
-      let size = count g h is_g is_h names rules in
-      let back = there-same h g is_h is_g (sym names) (sym rules) (there g h is_g is_h names rules c) in
-      let own = there-same g h is_g is_h names rules c in
-      let room = ap (λ (n : ℕ). 2 ^ n) size in
-      set-one g is_g _ c (omega (arith, room, there-below h g is_h is_g (sym names) (sym rules) (there g h is_g is_h names rules c))) lt
-      (λ i li. sym (back i (omega (arith, size, li))) ∙ sym (own i li))
-
-  there-inside : (c : ℕ) → there g h is_g is_h names rules c < 2 ^ length h.names
-  there-inside c =
-      let room = ap (λ (n : ℕ). 2 ^ n) (count g h is_g is_h names rules) in
-      omega (arith, room, there-below g h is_g is_h names rules c)
-
-pub same-by-members : (g h : GameView) → IsGame g → IsGame h → h.names ≡ g.names → h.rules ≡ g.rules → IsSameByMembers g h
-unfolding minimal_coalitions there
-same-by-members g h is_g is_h names rules =
-    let size = count g h is_g is_h names rules in
-    let room = ap (λ (n : ℕ). 2 ^ n) size in
-    let go = there g h is_g is_h names rules in
-    let come = there h g is_h is_g (sym names) (sym rules) in
-    record {
-      size = size-alike g h is_g is_h names rules;
-      win = win g h is_g is_h names rules;
-      minimal = minimal-alike g h is_g is_h names rules;
-      counts = λ p q same.
-          let own : ℕ → ℕ = λ c. cond (minimal (votes_of g) c && p c) 1 0 in
-          let other : ℕ → ℕ = λ d. cond (minimal (votes_of h) d && q d) 1 0 in
-          count-both (minimal (votes_of g)) p (down (2 ^ length g.names))
-          ∙ sum-down own (λ c. other (go c)) (2 ^ length g.names) (λ c lt.
-          let alike = minimal-alike g h is_g is_h names rules c (go c) (there-same g h is_g is_h names rules c) in
-          let tests = same c (go c) lt (there-below g h is_g is_h names rules c) (there-same g h is_g is_h names rules c) in
-          grind (arith, nat_tests, alike, tests))
-          ∙ sum-moved other go come (2 ^ length g.names)
-          (λ c lt. (there-below g h is_g is_h names rules c, there-back g h is_g is_h names rules c lt))
-          (λ d lt. (
-            there-inside h g is_h is_g (sym names) (sym rules) d,
-            there-back h g is_h is_g (sym names) (sym rules) d (omega (arith, room, lt)),
-          ))
-          ∙ ap (λ (m : ℕ). sum_by other (down m)) (sym room)
-          ∙ sym (count-both (minimal (votes_of h)) q (down (2 ^ length h.names)));
-    }
+  pub subset-size : (a c : ℕ) → IsSubsetOf g a c → size_of g a ≤ size_of g c
+  subset-size a c sub =
+      let least = sum-range-le (λ i. cond (contains g i a) 1 0) (λ i. cond (contains g i c) 1 0) 0 (length g.names)
+      (λ i _ lt. let inside = sub i (omega (arith, lt)) in grind (arith, nat_tests, inside)) in
+      omega (arith, least, size-members a, size-members c)

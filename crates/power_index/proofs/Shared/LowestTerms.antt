@@ -1,6 +1,7 @@
 -- The greatest common divisor by search is the one that Euclid's algorithm finds, and what it gives
 -- is in lowest terms.
 use Rattle.power_index.proofs.Imports.{◌≡◌, ℕ, zero, suc, ◌/◌, ◌%◌, ◌<◌, ◌≤◌, true, sym, ap, subst, arith, IsGcd, ◌∣◌, IsGcd-from_zero}
+use Rattle.power_index.proofs.Imports.{◌*◌, SameFraction, eq_of_mul-eq-mul_right}
 use Rattle.power_index.proofs.Imports.{IsGcd-from_mod, le_of_dvd, mod-lt, nat_tests, lowest_terms, IsLowestOf}
 use Rattle.std.proofs.lemmas.{Bool.cond_both, Nat.Gcd.le_from_IsGcd, Nat.Gcd.dvd_of_mod-eq-zero, Nat.Gcd.mod-eq-zero_of_dvd}
 use Rattle.std.proofs.Math.Nat.{one-dvd}
@@ -63,3 +64,16 @@ lowest_terms-only p q pos h = lowest-unique p q (lowest_terms p) pos h (lowest_t
 
 pub has_lowest_terms : (p : ℕ × ℕ) → 0 < p.1 → HasLowestTerms p
 has_lowest_terms p pos = record { lowest = lowest_terms-lowest p pos; only = λ q h. lowest_terms-only p q pos h }
+
+-- what is the same as one of two same fractions is the same as the other
+pub carried : (a b c d l m : ℕ) → 0 < b → l * b ≡ a * m → a * d ≡ c * b → l * d ≡ c * m
+carried a b c d l m pos e f = eq_of_mul-eq-mul_right b pos (l * d) (c * m) (omega (arith, ap (λ (n : ℕ). n * d) e, ap (λ (n : ℕ). n * m) f))
+
+pub lowest_from_same : (p q : ℕ × ℕ) → 0 < p.1 → 0 < q.1 → SameFraction p q → lowest_terms p ≡ lowest_terms q
+lowest_from_same p q pp pq e =
+    let lp = lowest_terms-lowest p pp in
+    lowest_terms-only q (lowest_terms p) pq (record {
+      positive = lp.positive;
+      same = carried p.0 p.1 q.0 q.1 (lowest_terms p).0 (lowest_terms p).1 pp lp.same e;
+      lowest = lp.lowest;
+    })

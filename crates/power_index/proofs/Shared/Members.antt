@@ -2,7 +2,7 @@
 use Rattle.power_index.proofs.Imports.{◌≡◌, ◌∙◌, ◌==◌, ℕ, ◌-◌, ◌/◌, ◌%◌, ◌^◌, ◌<◌, ◌≤◌, List, [], ◌∷◌, suc, length, get_or, map, cond, true}
 use Rattle.power_index.proofs.Imports.{sym, ap, arith, inl, inr, filter, sum_by, range_with_len, AllByRecursion, sum_by-cons, length-filter}
 use Rattle.power_index.proofs.Imports.{length-range_with_len, get_or-range_with_len, cases_lt, has, size, GameView, IsGame, sizes_of_member}
-use Rattle.power_index.proofs.Imports.{AreNonemptyCoalitions, votes-are, ranks-are, members, contains, size_of, count_of_member}
+use Rattle.power_index.proofs.Imports.{AreNonemptyCoalitions, ranks-are, members, contains, size_of, count_of_member}
 use Rattle.power_index.proofs.Imports.{lowest-place, sum-swap}
 use Rattle.std.proofs.{Common.w64, Common.count_by, lemmas.List.Sums.get_or-le-sum_by}
 use Rattle.std.specs.Int.{trailing_zeros}

@@ -1,6 +1,6 @@
 -- Tables that hold the tallies of a list hold its counts, and what holds of counts.
 use Rattle.power_index.proofs.Imports.{length-filter, nat_tests, ◌≡◌, ◌∙◌, ◌==◌, ◌&&◌, ℕ, ◌+◌, ◌^◌, ◌<◌, ◌≤◌, List, [], ◌∷◌, ◌++◌, length}
-use Rattle.power_index.proofs.Imports.{get_or, replicate, cond, Bool, true, sym, ap, arith, subst, length-append, common_steps, contains}
+use Rattle.power_index.proofs.Imports.{get_or, replicate, cond, Bool, true, sym, ap, arith, subst, length-append, contains}
 use Rattle.power_index.proofs.Imports.{filter, has, size, GameView, IsGame, AreNonemptyCoalitions, votes-are, ranks-are, total_of_sizes}
 use Rattle.power_index.proofs.Imports.{size_of, Tables, AreSizeCounts, AreTallies, AreOfOneGame, AreCounts, AreSound, All, table_total}
 use Rattle.power_index.proofs.Imports.{AreAdded, with_one}

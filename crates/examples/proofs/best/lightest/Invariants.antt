@@ -1,14 +1,12 @@
-use Rattle.std.proofs.Common.{◌≡◌, ◌++◌, ◌≤◌, All, Contains, length}
+use Rattle.std.proofs.Common.{◌≡◌, ◌++◌, length}
 use Rattle.council_game.specs.{Game.votes_of, Votes.minimal_coalitions, Votes.rule_at, Votes.weight}
-use Rattle.mwc_walk.specs.WalkView.{given}
+use Rattle.mwc_walk.specs.{Laws.IsLeast, WalkView.given}
 use Rattle.examples.proofs.best.lightest.Given as goal
 
 abbrev pub invariant-loop-coalition : goal.invariant-loop-coalition
 invariant-loop-coalition l = record {
   whole : given l.walk ++ l.walk.to_come ≡ minimal_coalitions (votes_of l.game);
-  listed : Contains (given l.walk) l.best;
-  least : All (λ c. weight (rule_at (votes_of l.game).rules 0).weights l.best ≤ weight
-      (rule_at (votes_of l.game).rules 0).weights c) (given l.walk);
+  least : IsLeast (weight (rule_at (votes_of l.game).rules 0).weights) (given l.walk) l.best;
 }
 
 abbrev pub decreases-loop-coalition : goal.decreases-loop-coalition

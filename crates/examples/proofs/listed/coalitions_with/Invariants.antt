@@ -1,5 +1,5 @@
 use Rattle.std.proofs.Common.{◌≡◌, take, filter}
-use Rattle.power_index.specs.Counting.{contains}
+use Rattle.council_game.specs.Members.{contains}
 use Rattle.examples.proofs.listed.coalitions_with.Given as goal
 
 abbrev pub invariant-loop-coalition : goal.invariant-loop-coalition

@@ -1,8 +1,8 @@
 use Rattle.std.proofs.Common.{rules, ◌≡◌, ◌-◌, ◌<◌, ◌^◌, length, get_or, ap, sym, ◌∙◌, arith, subst, pow_mono, IsPermutation, map, List, ℕ, ◌≤◌}
 use Rattle.std.proofs.lemmas.List.{get_or-map, get_or_default, length-map, same_lists, Sorted.IsNonDecreasingBy-from_sort_by_key, Sorted.All-permutation}
 use Rattle.council_game.specs.{Game.votes_of, Votes.minimal_coalitions}
-use Rattle.council_game.proofs.{Resorted.resorted, Resorted.there-is}
-use Rattle.council_game.proofs.Shared.{Games.few-members, Listing.listing-is, Sets.there}
+use Rattle.council_game.proofs.{Resorted.resorted, Resorted.moved, Resorted.moved-is}
+use Rattle.council_game.proofs.Shared.{Games.few-members, Listing.listing-is}
 use Rattle.council_game.proofs.game.Game.renumber_all.Goals as goal
 
 pub loop-place-init : goal.loop-place-init
@@ -26,18 +26,18 @@ returns c =
     let all = minimal_coalitions (votes_of h) in
     let is_h = c.was_checked.ensures.game in
     let is_g = c.was_checked-2.ensures.game in
-    let go = there h g is_h is_g c.requires.names c.requires.rules in
+    let go = moved h g is_h is_g c.requires.names c.requires.rules in
     let loop = c.loop-place.invariant in
-    let moved : c.loop-place.list ≡ map go all =
+    let same : c.loop-place.list ≡ map go all =
     same_lists c.loop-place.list (map go all) (loop.long ∙ sym (length-map all go))
     (λ k d lt.
     get_or_default c.loop-place.list k d 0 lt
-    ∙ sym (there-is h g is_h is_g c.requires.names c.requires.rules (get_or all k 0) (get_or c.loop-place.list k 0) (loop.below k lt)
+    ∙ sym (moved-is h g is_h is_g c.requires.names c.requires.rules (get_or all k 0) (get_or c.loop-place.list k 0) (loop.below k lt)
     (loop.moved k (omega (arith, c.loop-place-test.false, lt))))
     ∙ sym (get_or-map go all k 0 d (omega (arith, loop.long, lt)))) in
     let falls = IsNonDecreasingBy-from_sort_by_key (λ m. 2 ^ 64 - 1 - m) _ c.sort_unstable_by_key.ensures.sorted (λ a r q k. search rules) in
     resorted h g is_h is_g c.requires.names c.requires.rules c.sort_unstable_by_key.new.self
-    (subst (λ (l : List ℕ). IsPermutation l c.sort_unstable_by_key.new.self) moved c.sort_unstable_by_key.ensures.permutation)
+    (subst (λ (l : List ℕ). IsPermutation l c.sort_unstable_by_key.new.self) same c.sort_unstable_by_key.ensures.permutation)
     (λ i j le lt.
     let room : 2 ^ length h.names ≤ 2 ^ 40 = pow_mono (few-members h is_h) in
     let below = All-permutation (λ m. m < 2 ^ length h.names) c.loop-place.list c.sort_unstable_by_key.new.self

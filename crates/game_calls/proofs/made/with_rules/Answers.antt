@@ -1,0 +1,15 @@
+use Rattle.std.proofs.Common.{◌≡◌, List, Result, Ok, Err, IfOk}
+use Rattle.council_game.specs.{Fault.Answers, Game.GameView, Game.made_game, Votes.RuleView}
+use Rattle.council_game.specs.declared.fault.GameFault.{GameFault}
+use Rattle.game_calls.specs.Quotas.{with_rules}
+use Rattle.game_calls.proofs.Parts.{IsMadeOf}
+use Rattle.game_calls.proofs.made.with_rules.Goals as goal
+
+if-made : (g : GameView) (rules : List RuleView) (r : Result GameView GameFault) → Answers r (made_game g.title g.names rules)
+    → IsMadeOf → IfOk r (λ made. made ≡ with_rules g rules)
+if-made g rules (Ok made) h law = law g.title g.names rules made h
+if-made g rules (Err fault) h law = tt
+
+pub returns-clause-game : goal.returns-clause-game
+returns-clause-game c =
+    if-made c.args.game.now _ _ (rw (c.in_ok-title.ensures, c.in_ok-names.ensures) at c.with_rules.ensures) c.made_games_have_their_parts.ensures
