@@ -101,8 +101,9 @@ equal_members 24 12 >"$temp/many.txt"
 same "more than a million" "$temp/many.txt"
 same "more than a million, with the most above" "$temp/many.txt" --most 4000000
 
-# ---- counted by sums, as by the program: these 29 members of different weights have tens of millions of coalitions, which a
-# walk would count one by one. With sums it takes a tenth of a second, and it may take thirty times as long
+# ---- counted by sums, as by the program: these 29 members of different weights have tens of
+# millions of coalitions, which a walk would count one by one. With sums it takes a tenth of a
+# second, and it may take thirty times as long
 game_file 14200 {1000..1025} >"$temp/sums.toml"
 printf '[[member]]\nname = "%s"\nweight = %s\n' AA 1026 BB 1027 CC 1028 >>"$temp/sums.toml"
 whole=$limit

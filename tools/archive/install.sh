@@ -6,8 +6,8 @@
 #
 # PREFIX is ~/.local by default. If DESTDIR is set, everything goes below that folder, as packages
 # need it. The program and council-tools go to bin, the library for other languages to lib and
-# include, the manual pages and the completions to share, the documents, the examples and the package
-# for R to share/doc/council.
+# include, the manual pages and the completions to share, the documents, the examples and the
+# package for R to share/doc/council.
 #
 # The list share/doc/council/FILES names every file that was installed and, with a / at the end,
 # every folder that was made, the last first. It is written before each step, so --uninstall also

@@ -141,8 +141,8 @@ fn slices_of(arguments: &Arguments<'_>) -> u16 {
     }
 }
 
-/// Runs on what is read, and writes to standard output; `terminal` tells whether standard error is a
-/// terminal.
+/// Runs on what is read, and writes to standard output; `terminal` tells whether standard error is
+/// a terminal.
 fn run_on<R: AllocGlobal + Print + Eprint + Clock + Threads + Wait + Sync, I: Source>(
     rt: &R,
     arguments: &Arguments<'_>,

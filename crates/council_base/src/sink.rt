@@ -9,9 +9,9 @@ use std::io::Write;
 
 /// A writer, seen call by call. Every `Write` is one.
 ///
-/// `is_write` relates the writer and the bytes before a write to its result, and to the writer after
-/// it; `is_flush` does so for a flush. Code that knows no more of a writer than this trait can
-/// establish each only by making that call: once, and not twice.
+/// `is_write` relates the writer and the bytes before a write to its result, and to the writer
+/// after it; `is_flush` does so for a flush. Code that knows no more of a writer than this trait
+/// can establish each only by making that call: once, and not twice.
 pub trait Sink {
     /// The bytes that the writer holds, if they are known.
     ghost held: { Self → Option (List ℕ) };
@@ -28,7 +28,8 @@ pub trait Sink {
     fn flush_once(&mut self) -> io::Result<()>
         ensures { is_flush self.old result self.new };
 
-    /// A write takes at most the bytes that it is given, and those that it takes are held after the others.
+    /// A write takes at most the bytes that it is given, and those that it takes are held after the
+    /// others.
     ghost writes: { (old new : Self) (bytes : List ℕ) (result : Result ℕ Error)
         → is_write old bytes result new
         → WritesAtMost result bytes × WriteAppends (held old) (held new) result bytes };

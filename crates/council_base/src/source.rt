@@ -11,8 +11,8 @@ use std::io::Read;
 ///
 /// `is_read` relates the reader and the buffer before a read to its result, and to both after it.
 /// Code that knows no more of a reader than this trait can establish it only by making that read:
-/// once, and not twice. So a contract over `is_read` says which reads were made, also of a file or a
-/// pipe, whose bytes no contract knows.
+/// once, and not twice. So a contract over `is_read` says which reads were made, also of a file or
+/// a pipe, whose bytes no contract knows.
 pub trait Source {
     /// The bytes that are left to read, if they are known.
     ghost left: { Self → Option (List ℕ) };
@@ -23,7 +23,8 @@ pub trait Source {
     fn read_once(&mut self, buffer: &mut [u8]) -> io::Result<usize>
         ensures { is_read self.old buffer.old result self.new buffer.new };
 
-    /// A read gives at most as many bytes as the buffer has, and these come from those that are left.
+    /// A read gives at most as many bytes as the buffer has, and these come from those that are
+    /// left.
     ghost reads: { (old new : Self) (buffer filled : List ℕ) (result : Result ℕ Error)
         → is_read old buffer result new filled
         → ReadsAtMost result filled × ReadConsumes (left old) (left new) result filled };

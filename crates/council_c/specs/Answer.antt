@@ -25,7 +25,8 @@ FillsBy text limit bytes before after len =
 abbrev pub Reports : CouncilOptions → List ℕ → List ℕ → List ℕ → ℕ → Type 0
 Reports o bytes before after len = FillsBy (report (lines_of_call o)) (limit_of o) bytes before after len
 
--- a run on these bytes stops so, before anything was written; a read or a write that fails is no cause
+-- a run on these bytes stops so, before anything was written; a read or a write that fails is no
+-- cause
 abbrev pub StopsOn : (GameView → List ℕ) → Option ℕ → List ℕ → Cause → Type 0
 StopsOn text limit bytes (cause.Game game.Read) = ⊥
 StopsOn text limit bytes why = Stops text limit (Holds bytes) (λ _ _. ⊥) (Unit {0}) why 0

@@ -6,8 +6,8 @@ use council_base::Source;
 use std::alloc::Global;
 use std::io;
 
-/// A reader that gives what another gives, and keeps it if it is asked to. A read of it is one read of
-/// the reader inside, with the same bytes and the same result.
+/// A reader that gives what another gives, and keeps it if it is asked to. A read of it is one read
+/// of the reader inside, with the same bytes and the same result.
 #[derive(Drop)]
 pub struct Kept<'a, I> {
     reader: &'a mut I,
@@ -47,7 +47,7 @@ impl<'a, I: Source> Source for Kept<'a, I> {
     fn read_once(&mut self, buffer: &mut [u8]) -> io::Result<usize> {
         let count = self.reader.read_once(buffer)?;
         if let Some(bytes) = &mut self.bytes
-            // memory: where there is no room nothing is kept, and the run goes on
+            // memory: if there is no room nothing is kept, and the run goes on
             && bytes.extend_from_slice(&buffer[..count]).is_err()
         {
             self.bytes = None;

@@ -1,4 +1,5 @@
-//! Values of a file, as an explanation shows them, and what turns a number that is not whole into one that is.
+//! Values of a file, as an explanation shows them, and what turns a number that is not whole into
+//! one that is.
 use crate::explanation::{Explanation, short};
 use toml::Value;
 
@@ -42,7 +43,8 @@ fn digits_in_front(text: &str, zeros: bool) -> usize {
     }
 }
 
-/// The most decimals of a number in a text, after a point or a comma, but not the comma of an array.
+/// The most decimals of a number in a text, after a point or a comma, but not the comma of an
+/// array.
 fn most_decimals(text: &str, sign: char, zeros: bool) -> usize {
     let mut most = 0usize;
     for line in text.lines() {
@@ -63,7 +65,8 @@ impl Explanation<'_> {
         self.line(format_args!("{} is {}: {wanted}", short(value), kind(value)));
     }
 
-    /// Says what is wrong with what is to be a text on one line: what it is, what it has, or else how long it is.
+    /// Says what is wrong with what is to be a text on one line: what it is, what it has, or else
+    /// how long it is.
     pub(crate) fn explain_text(&mut self, value: &Value, wanted: &str) {
         let Value::String(text) = value else {
             return self.explain_value(value, wanted);

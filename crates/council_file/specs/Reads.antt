@@ -14,8 +14,9 @@ pub record Gave (before after : Option (List ℕ)) (bytes : List ℕ) : Type 0 w
   pub enough : IsAtEnd after ⊎ (FILE_BYTES < length bytes)
   pub most : length bytes ≤ FILE_BYTES + 1
 
--- The reads of a reader that has given some bytes so far, and what they come to: all bytes, or why they stopped. `is_read`
--- relates the reader and the buffer before a read to its result, and to both after it.
+-- The reads of a reader that has given some bytes so far, and what they come to: all bytes, or why
+-- they stopped. `is_read` relates the reader and the buffer before a read to its result, and to
+-- both after it.
 pub data Reading {R : Type 0} (is_read : R → List ℕ → Result ℕ Error → R → List ℕ → Type 0)
     : R → List ℕ → Result (List ℕ) GameFault → R → Type 0 where
   -- a read gave some bytes, and others follow while a game file may have more
@@ -30,8 +31,8 @@ pub data Reading {R : Type 0} (is_read : R → List ℕ → Result ℕ Error →
   failed : (r s : R) (bytes buffer filled : List ℕ) (e : Error) → length bytes ≤ FILE_BYTES
       → is_read r buffer (Err e) s filled → Reading is_read r bytes (Err Read) s
 
--- The game of the bytes that the reader gave, or their first fault; or a read failed, or memory ran out. `left` has the bytes that a
--- reader has left, if they are known.
+-- The game of the bytes that the reader gave, or their first fault; or a read failed, or memory ran
+-- out. `left` has the bytes that a reader has left, if they are known.
 abbrev pub Reads : {R : Type 0} → (R → Option (List ℕ)) → (R → List ℕ → Result ℕ Error → R → List ℕ → Type 0) → R → R
     → Result GameView GameFault → Type 0
 Reads left is_read first last (Err Memory) = Unit {0}

@@ -40,8 +40,8 @@ ProperSubsetsOfLose g =
     (a c : ℕ) → a < 2 ^ length g.names → c < 2 ^ length g.names → minimal (votes_of g) c ≡ true
     → IsSubsetOf g a c → a ≢ c → wins (votes_of g).rules a ≡ false
 
--- the list of minimal coalitions is not empty, no longer than the game has coalitions, strictly descending, and has
--- coalitions of the game alone, none of them empty
+-- the list of minimal coalitions is not empty, no longer than the game has coalitions, strictly
+-- descending, and has only coalitions of the game, none of them empty
 pub record IsListing (v : Votes) : Type 0 where
   pub some : 0 < length (minimal_coalitions v)
   pub few : length (minimal_coalitions v) ≤ 2 ^ v.members

@@ -8,8 +8,8 @@ pub trait Wipe {
     fn wipe(&self);
 }
 
-/// A writer that has a line wiped before it writes. A write or a flush of it is one write or flush of
-/// the writer inside, with the same bytes and the same result.
+/// A writer that has a line wiped before it writes. A write or a flush of it is one write or flush
+/// of the writer inside, with the same bytes and the same result.
 #[derive(Drop)]
 pub struct Wiping<L, W> {
     pub line: L,

@@ -6,8 +6,8 @@ use Rattle.council_report.specs.declared.fault.ReportFault.{ReportFault}
 use Rattle.council_report.specs.declared.fault.ReportFault.TheVariants.{Memory, Write}
 use Rattle.council_report.specs.Sending.{Sending}
 
--- A text was written whole, or its first bytes; each call to the writer is one that `Sending` allows. If memory ran out, there
--- was no call.
+-- A text was written whole, or its first bytes; each call to the writer is one that `Sending`
+-- allows. If memory ran out, there was no call.
 abbrev pub Writes : {W : Type 0} → (W → Option (List ℕ)) → (W → List ℕ → Result ℕ Error → W → Type 0)
     → (W → Result (Unit {0}) Error → W → Type 0) → List ℕ → W → W → Result ℕ ReportFault → Type 0
 Writes held is_write is_flush text first last (Ok count) =

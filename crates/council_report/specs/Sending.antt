@@ -2,9 +2,10 @@
 use Rattle.std.specs.Prelude.{◌≡◌, ◌<◌, ◌≤◌, ◌+◌, ◌⊎◌, ℕ, List, [], ◌++◌, length, drop, Result, Ok, Err}
 use Rattle.std.specs.declared.io.Error.{Error}
 
--- The calls to a writer that still gets the rest of a block, and then the rest of a text; it has taken `count` bytes before. In the
--- end it has taken all and was flushed once, or a call failed: then `Err` says how many bytes it has taken. `is_write` and
--- `is_flush` relate the writer before a call to the result of the call, and to the writer after it.
+-- The calls to a writer that still gets the rest of a block, and then the rest of a text; it has
+-- taken `count` bytes before. In the end it has taken all and was flushed once, or a call failed:
+-- then `Err` says how many bytes it has taken. `is_write` and `is_flush` relate the writer before a
+-- call to the result of the call, and to the writer after it.
 pub data Sending {W : Type 0} (is_write : W → List ℕ → Result ℕ Error → W → Type 0) (is_flush : W → Result (Unit {0}) Error → W → Type 0)
     : W → List ℕ → List ℕ → ℕ → Result ℕ ℕ → W → Type 0 where
   -- when a block was taken, the next begins: it has more than 61,440 bytes, or nothing follows it

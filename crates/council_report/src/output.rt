@@ -27,8 +27,8 @@ pub struct WriteFault {
     pub written: u64,
 }
 
-/// Writes all bytes. If the writer takes fewer than it is given, it is asked again for those that are
-/// left. A write that takes none or fails, whatever the cause, is the last call.
+/// Writes all bytes. If the writer takes fewer than it is given, it is asked again for those that
+/// are left. A write that takes none or fails, whatever the cause, is the last call.
 fn write_whole<W: Sink>(writer: &mut W, bytes: &[u8]) -> Result<(), WriteFault>
     ensures calls { TakesWhole (Sending W.is_write W.is_flush) bytes.now writer.old writer.new result }
     ensures within { IfErr result (λ fault. fault.written ≤ length bytes.now) }
@@ -47,8 +47,8 @@ fn write_whole<W: Sink>(writer: &mut W, bytes: &[u8]) -> Result<(), WriteFault>
     Ok(())
 }
 
-/// Bytes on their way to a writer, whether memory for some was refused, and the number of those that
-/// the writer took before.
+/// Bytes on their way to a writer, whether memory for some was refused, and the number of those
+/// that the writer took before.
 #[derive(Drop)]
 pub(crate) struct Block {
     pub(crate) bytes: Vec<u8>,

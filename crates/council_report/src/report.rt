@@ -113,9 +113,9 @@ fn send<W: Sink>(
     block.finish(writer)
 }
 
-/// Writes the report of a game over a list of its coalitions with these counts. The list need be there,
-/// in pieces, only where it is shown. The lines are made from the counts; that they are those of the
-/// list is shown here.
+/// Writes the report of a game over a list of its coalitions with these counts. The list need be
+/// there, in pieces, only where it is shown. The lines are made from the counts; that they are
+/// those of the list is shown here.
 fn write_over<W: Sink>(
     alloc: Global,
     game: &Game,
@@ -179,8 +179,8 @@ pub fn write_report_of<W: Sink>(
     write_over(alloc, game, pieces, counts, shown, writer)
 }
 
-/// Writes the report of a game, with no line for a coalition, from the counts of its minimal winning
-/// coalitions alone, however many these are, and flushes once. The answer is the number of bytes.
+/// Writes the report of a game, with no line for a coalition, only from the counts of its minimal
+/// winning coalitions, however many these are, and flushes once. The answer is the number of bytes.
 ///
 /// No byte goes out before all memory is there.
 ///
@@ -203,15 +203,16 @@ pub fn write_tally<W: Sink>(
     write_over(alloc, game, &[], counts, shown, writer)
 }
 
-/// Writes the report of a game over a list of 1 to 4,000,000 of its coalitions, none of them empty, and
-/// flushes once. The answer is the number of bytes.
+/// Writes the report of a game over a list of 1 to 4,000,000 of its coalitions, none of them empty,
+/// and flushes once. The answer is the number of bytes.
 ///
 /// No byte goes out before all memory is there.
 ///
 /// # Errors
 ///
-/// Memory where a growth was refused; nothing was written then. Write where a write or the flush failed,
-/// or a write took nothing; it tells how many bytes the writer took, which are the first ones of the report.
+/// Memory where a growth was refused; nothing was written then. Write where a write or the flush
+/// failed, or a write took nothing; it tells how many bytes the writer took, which are the first
+/// ones of the report.
 pub fn write_report<W: Sink>(
     alloc: Global,
     game: &Game,

@@ -29,8 +29,8 @@ IsNumberOf g number = IfSome number (λ n. n ≡ count_of g) × (IsSome number �
 abbrev pub IsWithin : Option ℕ → GameView → Type 0
 IsWithin limit g = IfSome limit (λ most. count_of g ≤ most)
 
--- A run stops before it writes, unless the cause is Write. The fault of a game, and the game, are those that were read; `Write`
--- says what writing a text does, and `Kept` that nothing was written.
+-- A run stops before it writes, unless the cause is Write. The fault of a game, and the game, are
+-- those that were read; `Write` says what writing a text does, and `Kept` that nothing was written.
 abbrev pub Stops : (GameView → List ℕ) → Option ℕ → (Result GameView GameFault → Type 0) → (List ℕ → Result ℕ ReportFault → Type 0)
     → Type 0 → Cause → ℕ → Type 0
 Stops text limit Read Write Kept (cause.Game game.Memory) written = (written ≡ 0) × Kept
@@ -41,7 +41,8 @@ Stops text limit Read Write Kept cause.Write written =
     (g : GameView) × Read (Ok g) × IsWithin limit g × Write (text g) (Err (report.Write written))
 Stops text limit Read Write Kept why written = (written ≡ 0) × Kept
 
--- A run that succeeds wrote the text of the game that it read, and nothing else; the game is within its limit.
+-- A run that succeeds wrote the text of the game that it read, and nothing else; the game is within
+-- its limit.
 abbrev pub IsOutcome : (GameView → List ℕ) → Option ℕ → (Result GameView GameFault → Type 0) → (List ℕ → Result ℕ ReportFault → Type 0)
     → Type 0 → Result ℕ RunFault → Type 0
 IsOutcome text limit Read Write Kept (Ok len) = (g : GameView) × Read (Ok g) × IsWithin limit g × Write (text g) (Ok len)

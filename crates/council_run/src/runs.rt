@@ -21,9 +21,9 @@ use std::thread::Threads;
 /// Reads a game, lists its minimal winning coalitions by worker threads, and writes its report and
 /// nothing else. It returns the number of bytes written. It may wait for its workers.
 ///
-/// The contract says which calls the reader and the writer got, whatever they are: no read after one
-/// that failed or gave nothing; each write gets what is left of a block of the report, and blocks are
-/// large; one flush, after the last byte, and no call after one that failed.
+/// The contract says which calls the reader and the writer got, whatever they are: no read after
+/// one that failed or gave nothing; each write gets what is left of a block of the report, and
+/// blocks are large; one flush, after the last byte, and no call after one that failed.
 ///
 /// # Errors
 ///

@@ -117,8 +117,8 @@ pub fn maps_take_one_more()
         ≡ map f (range_with_len 0 n) ++ f n ∷ [] }
 {}
 
-/// Fractions with bottoms above 0 are ordered as their lowest terms are. So `Index::compare` orders the indices
-/// as they are defined.
+/// Fractions with bottoms above 0 are ordered as their lowest terms are. So `Index::compare` orders
+/// the indices as they are defined.
 #[tactic(auto, using(crate::proofs::Ordered::lowest_terms_ordered))]
 pub fn lowest_terms_keep_order()
     ensures { (p q : ℕ × ℕ) → 0 < p.1 → 0 < q.1 →

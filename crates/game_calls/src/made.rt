@@ -104,8 +104,8 @@ pub fn with_weights(alloc: Global, game: &Game, weights: Vec<u64>) -> Result<Gam
     with_rules(alloc, game, rules)
 }
 
-/// The game of the same title and members, and of the first rule alone, at another quota: 1 to the total of
-/// its weights.
+/// The game of the same title and members, and of only the first rule, at another quota: 1 to the
+/// total of its weights.
 ///
 /// # Errors
 ///

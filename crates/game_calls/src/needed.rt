@@ -7,7 +7,8 @@ use crate::laws::{larger_coalitions_win, members_of_all_are_vetoers};
 use crate::membership::{everyone, with_member, without_member};
 use council_game::{Coalition, Game};
 
-/// Returns whether a member is a vetoer: no coalition wins without it (Felsenthal and Machover 1998).
+/// Returns whether a member is a vetoer: no coalition wins without it (Felsenthal and Machover
+/// 1998).
 pub fn is_vetoer(game: &Game, member: usize) -> bool
     requires { member < length game.now.names }
     ensures { IsTrue result ↔ IsVetoer game.now member }

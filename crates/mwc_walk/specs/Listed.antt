@@ -9,7 +9,8 @@ pub record IsListed (v : Votes) (c : ℕ) : Type 0 where
   pub minimal : minimal v c ≡ true
   pub below : c < 2 ^ v.members
 
--- the list is all of them: there is one, there are at most `most`, and each is a coalition of the game that is not empty
+-- the list is all of them: there is one, there are at most `most`, and each is a coalition of the
+-- game that is not empty
 pub record ListsAll (g : GameView) (most : ℕ) (list : List ℕ) : Type 0 where
   pub all : list ≡ minimal_coalitions (votes_of g)
   pub some : 1 ≤ length list

@@ -1,4 +1,4 @@
--- A text that is told through a block, line by line.
+-- A text that is written through a block, line by line.
 use Rattle.std.specs.Prelude.{◌≡◌, ◌<◌, ◌⊎◌, ◌++◌, ◌+◌, ℕ, List, [], length, false, Result, Ok, Err, OnOk, IfErr}
 use Rattle.council_report.specs.Inner.Written.{Calls, Progress, progress_of, Advances, HasStopped, StopsIn}
 use Rattle.council_report.specs.Inner.Ready.{HasRoom, IsReady}
@@ -15,7 +15,8 @@ TakesWhole S bytes first last (Err fault) = (rest : List ℕ) (count : ℕ) → 
 abbrev pub IsBlock : List ℕ → List ℕ → Type 0
 IsBlock block rest = (61440 < length block) ⊎ (rest ≡ [])
 
--- all of a block was written, or writing stopped in it; a block may go out if it is large enough for what follows
+-- all of a block was written, or writing stopped in it; a block may go out if it is large enough
+-- for what follows
 abbrev pub Drains : {W : Type 0} → Calls W → W → Block → W → Block → Result (Unit {0}) WriteFault → Type 0
 Drains {W} S held old now new (Ok _) = (rest : List ℕ) (end : Result ℕ ℕ) (last : W) → IsBlock old.bytes.items rest
     → S now [] rest new.written end last → S held [] (old.bytes.items ++ rest) old.written end last
@@ -27,7 +28,8 @@ pub record KeepsReady {W : Type 0} (S : Calls W) (before : Progress W) (held : W
   pub tells : Advances S before (progress_of held block) text
   pub ready : IsReady block
 
--- A writer and a block before and after a call that tells a text: it lasts, or writing stopped in the text.
+-- A writer and a block before and after a call that tells a text: it lasts, or writing stopped in
+-- the text.
 abbrev pub WritesText : {W : Type 0} → Calls W → List ℕ → W → Block → W → Block → Result (Unit {0}) WriteFault → Type 0
 WritesText S text held old now new (Ok _) = KeepsReady S (progress_of held old) now new text
 WritesText S text held old now new (Err fault) = StopsIn S (progress_of held old) text now fault.written

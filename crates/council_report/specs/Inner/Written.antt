@@ -2,7 +2,8 @@
 use Rattle.std.specs.Prelude.{◌≡◌, ◌+◌, ◌++◌, ℕ, List, [], length, Result, Err}
 use Rattle.council_report.specs.declared.output.Block.{Block}
 
--- which calls a writer gets with the rest of a block and of a text, after so many bytes; see `Sending`
+-- which calls a writer gets with the rest of a block and of a text, after so many bytes; see
+-- `Sending`
 abbrev pub Calls : Type 0 → Type 1
 Calls W = W → List ℕ → List ℕ → ℕ → Result ℕ ℕ → W → Type 0
 
