@@ -23,4 +23,3 @@ mod values;
 pub use bracket::remark;
 pub use explaining::explain;
 pub use kept::Kept;
-pub use ranges::remark_quota;

@@ -1,29 +1,10 @@
 //! Quotas, weights and numbers of members out of their ranges.
 use crate::explanation::{Explanation, short};
 use crate::values::elements;
-use council_file::{parse_game, rules_of};
+use council_file::rules_of;
 use council_game::{Memory, Rule};
 use std::alloc::Global;
 use std::fmt::Display;
-
-/// What is said of a game in which two coalitions without a common member could both win.
-const LOW: &str =
-    "each quota is at most half of its total: two coalitions without a common member could both win";
-
-/// Returns a warning for a game file that was read if each quota is at most half of its total: the
-/// quota may not be the one that was meant. There is none if memory ran out.
-pub fn remark_quota(alloc: Global, bytes: &[u8]) -> Option<&'static str> {
-    // memory: then nothing is said
-    let Ok(game) = parse_game(alloc, bytes) else {
-        return None;
-    };
-    for rule in 0..game.rules() {
-        if game.rule_total(rule) / 2 < game.rule_quota(rule) {
-            return None;
-        }
-    }
-    Some(LOW)
-}
 
 /// What the weights of a rule add up to.
 fn total(rule: &Rule) -> u64 {
