@@ -118,7 +118,7 @@ def write_manual() -> Iterator[str]:
     yield from [".TP", ".B 2", "The command line is wrong."]
     yield from [".TP", ".B 3, 4", "The program refused a game."]
     yield from [".TP", ".B 5", "Memory ran out."]
-    yield from [".SH \"SEE ALSO\"", ".BR council (1),", ".IR docs/USING.md ."]
+    yield from [".SH \"SEE ALSO\"", ".BR council (1),", ".IR docs/GUIDE.md ."]
 
 
 # ---- completions

@@ -4,7 +4,7 @@ use crate::explanation::{Explanation, short};
 use toml::Value;
 
 /// What is said of a percentage and of a fraction.
-const STATUTES: &str = "docs/STATUTES.md says how percentages and fractions become whole numbers";
+const GUIDE: &str = "docs/GUIDE.md says how percentages and fractions become whole numbers";
 
 /// The elements of an array, and none of another value.
 pub fn elements(value: Option<&Value>) -> &[Value] {
@@ -84,7 +84,7 @@ impl Explanation<'_> {
         self.explain_value(value, wanted);
         match value {
             Value::Float(number) => self.explain_float(*number),
-            Value::String(text) if text.contains(['%', '/']) => self.line(STATUTES),
+            Value::String(text) if text.contains(['%', '/']) => self.line(GUIDE),
             _ => {}
         }
     }
@@ -115,7 +115,7 @@ impl Explanation<'_> {
     /// Says what helps where the text can't be read on from a place.
     pub fn explain_remedy_at(&mut self, place: usize) {
         match self.text.as_bytes().get(place) {
-            Some(b'%' | b'/') => self.line(STATUTES),
+            Some(b'%' | b'/') => self.line(GUIDE),
             Some(b'.') => self.explain_factor(self.text, '.'),
             _ => {}
         }
