@@ -1,6 +1,6 @@
 //! What a run reads, kept for an explanation.
 ghost use Rattle.std.specs.Prelude.{◌≡◌, Some, None, [], if◌then◌else◌, option_map};
-ghost use Rattle.council_explain.specs.Inner.Came.{bytes_read, KeepsAll};
+ghost use Rattle.council_explain.specs.Inner.Kept.{bytes_read, KeepsAll};
 
 use council_base::Source;
 use std::alloc::Global;

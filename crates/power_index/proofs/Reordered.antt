@@ -5,7 +5,7 @@ use Rattle.power_index.proofs.Imports.{sizes_of_member, unit_sum, lowest_terms, 
 use Rattle.council_base.proofs.Shared.Lists.{filter-all}
 use Rattle.council_game.specs.{Game.votes_of, Renaming.AreSymmetric, Renaming.IsRenaming, Renaming.exchanged, Votes.minimal_coalitions}
 use Rattle.council_game.proofs.Shared.Renamed.{renamed-alike, same, same-renaming, sum-renamed, first-exchanged, symmetric-renaming}
-use Rattle.power_index.specs.{Both.indices_of_member, Counting.count_of_member_size, Renaming.HaveRenamedCounts, Tables.AreCountsOfGame}
+use Rattle.power_index.specs.{Counting.count_of_member_size, MemberIndices.indices_of_member, Renaming.HaveRenamedCounts, Tables.AreCountsOfGame}
 use Rattle.power_index.proofs.{Units.mean, Units.over_common, Units.each_divides, Weights.weight-of}
 use Rattle.power_index.proofs.Shared.{AddUp.deegan_packel_bottom, LowestTerms.lowest_from_same, Members.few-members, Members.sizes-within}
 use Rattle.power_index.proofs.Shared.{Minimal.minimal-some, Minimal.minimal-are-coalitions, Sums.sum-range}
