@@ -1,9 +1,6 @@
 -- What a buffer shows.
 use Rattle.std.proofs.Common.{◌≡◌, ◌≤◌, ◌++◌, ◌∙◌, ℕ, List, length, take, drop, min, ap, sym, arith, take_all, length-take-le}
 use Rattle.std.proofs.{Math.Nat.min_comm, lemmas.List.take_min, lemmas.List.drop_all, lemmas.List.drop_min}
-use Rattle.std.proofs.Common.{Option, Result, Err, Ok, subst}
-use Rattle.std.specs.{Io.KnownBytes.Appends, declared.io.Error.Error}
-use Rattle.council_report.specs.{Outcome.Writes, declared.fault.ReportFault.ReportFault, declared.fault.ReportFault.TheVariants.Write}
 use Rattle.council_c.specs.Answer.{Shows}
 
 -- a copy of as much as fits
@@ -24,11 +21,3 @@ shows-beginning begin text room after n few is full shown =
     let front = take_all (length room) begin (omega (arith, full)) ∙ is ∙ ap (λ (k : ℕ). take k text) (sym long ∙ full) in
     let rest = drop_all (length begin) room (omega (arith, full)) ∙ sym (drop_all (length text) room (omega (arith, full, long, few))) in
     shown ∙ ap (λ (l : List ℕ). l ++ drop (length begin) room) front ∙ ap (λ (l : List ℕ). take (length room) text ++ l) rest
-
--- the bytes that were written before a write took none
-pub part-written : {W : Type 0} {held : W → Option (List ℕ)} {is_write : W → List ℕ → Result ℕ Error → W → Type 0}
-    {is_flush : W → Result (Unit {0}) Error → W → Type 0} {text : List ℕ} {first last : W} (fault : ReportFault) (n : ℕ) → fault ≡ Write n
-    → Writes held is_write is_flush text first last (Err fault) → (n ≤ length text) × Appends (held first) (held last) (take n text)
-part-written {W} {held} {is_write} {is_flush} {text} {first} {last} fault n is writes =
-    let P : ReportFault → Type 0 = λ f. Writes held is_write is_flush text first last (Err f) in
-    let w : P (Write n) = subst P is writes in (w.0, w.1)

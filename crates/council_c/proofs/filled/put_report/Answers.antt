@@ -2,7 +2,7 @@ use Rattle.std.proofs.Common.{ℕ, List, subst, ap, arith, length}
 use Rattle.council_report.specs.Report.{report}
 use Rattle.council_c.specs.Answer.{Shows}
 use Rattle.council_c.proofs.filled.put_report.Goals.{in-Ok, in-Err-Write+in_ok-length-in-Err-Write}
-use Rattle.council_c.proofs.Buffers.{part-written, shows-beginning}
+use Rattle.council_c.proofs.Buffers.{shows-beginning}
 use Rattle.council_c.proofs.filled.put_report.Goals as goal
 
 pub returns-clause-text : goal.returns-clause-text
@@ -12,7 +12,7 @@ returns-clause-text c =
       | in-Ok w ↦ subst (λ (l : List ℕ). Shows l c.args.room.now c.put.new.room)
           (rw c.new-page.ensures.bytes at w.in-Ok.ensures.1) shown
       | in-Err-Write+in_ok-length-in-Err-Write w ↦
-          let fell = part-written _ _ w.in-Err-Write.field-0-is w.in-Err-Write.ensures in
+          let fell = rw w.in-Err-Write.field-0-is at w.in-Err-Write.ensures in
           shows-beginning _ (report c.args.lines c.args.game.now) c.args.room.now c.put.new.room _ fell.0
           (rw c.new-page.ensures.bytes at fell.1)
           (omega (arith, w.if-bytes-room.true, ap (λ (l : List ℕ). length l) w.bytes.ensures)) shown
