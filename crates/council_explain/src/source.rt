@@ -13,7 +13,7 @@ enum Within {
     Opened(char, bool),
     /// In quotes on one line.
     Quotes(char),
-    /// In quotes of three, after so many in a row.
+    /// In quotes of three, after this many quotes in a row.
     Triple(char, u8),
     /// After a backslash; whether it is in quotes of three.
     Escape(bool),
