@@ -203,9 +203,9 @@ slices = [int(it[1]) for it in lines]
 assert all(there - here in (0, 1) for here, there in zip(slices, slices[1:])), slices
 # all coalitions of the last slice are shown, and then the line is wiped, once
 assert lines[-1] == (b"76,904,685", b"1023"), lines[-1]
-assert b"\n" not in run.told, run.told[-80:]
-assert re.search(rb" of 1024 slices done\r\x1b\[K$", run.told), run.told[-80:]
-assert run.told.count(b"\r\x1b[K") == 1, run.told.count(b"\r\x1b[K")
+progress, wiped, remark = run.told.partition(b"\r\x1b[K")
+assert progress.endswith(b" of 1024 slices done") and b"\n" not in progress, progress[-80:]
+assert remark == b"council: each quota is at most half of its total, so two coalitions without a common member could win\r\n", remark
 END
     then ok "a long tally on a terminal"; else failed "a long tally on a terminal" "$(tail -n 1 "$temp/told")"; fi
     # a first slice of 225,792,840 coalitions: they are shown before it is done

@@ -92,9 +92,12 @@ END
     then ok "a late fault on a terminal"; else failed "a late fault on a terminal" "$(tail -n 1 "$temp/told")"; fi
     # the same game where all are wanted: once they are shown, each slice is, one after the other;
     # the line is wiped once, before the first byte of the report, which is on the same terminal,
-    # and nothing is written between and after
+    # and nothing but a remark on the quota is written after it
     run --workers 1 --most 4000000 "$temp/long.toml"
-    sed 's/$/\r/' "$temp/out" >"$temp/report"
+    {
+        cat "$temp/out"
+        echo "council: the quota is at most half of the total, so two coalitions without a common member could win"
+    } | sed 's/$/\r/' >"$temp/report"
     if timeout "$seconds" python3 - "$program" "$temp/long.toml" "$temp/report" >"$temp/told" 2>&1 <<'END'
 import re, sys
 from terminal import run_slowly

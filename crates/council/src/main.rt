@@ -10,7 +10,7 @@ ghost use Rattle.council_run.specs.Run.{IsOutcome};
 ghost use Rattle.council.specs.Inner.Wants.{limit_wanted, lines_wanted};
 
 use council_base::{Gate, Sink, Source, sanitize};
-use council_explain::{Kept, explain, remark};
+use council_explain::{Kept, explain, remark_on_quotas, remark_on_thousands};
 use council_game::GameFault;
 use council_progress::{Line, Progress, Wiping};
 use council_run::{Cause, LEAST_BITS, RunFault, number_by_sums, run, status, tally};
@@ -61,6 +61,16 @@ fn hint(rt: &impl Eprint, cause: Cause) {
         Cause::Gather(_) | Cause::Write | Cause::Memory => return,
     };
     let _ = eprintln!(rt; "  {line}");
+}
+
+/// Says what may not be meant in a game that was read; the bytes are those that were read.
+fn print_remarks(rt: &(impl Eprint + AllocGlobal), bytes: &[u8]) {
+    if let Some(remark) = remark_on_thousands(bytes) {
+        let _ = eprintln!(rt; "council: {remark}");
+    }
+    if let Some(remark) = remark_on_quotas(rt.alloc(), bytes) {
+        let _ = eprintln!(rt; "council: {remark}");
+    }
 }
 
 /// The longest path that is shown, in characters.
@@ -114,8 +124,8 @@ fn report_outcome(
 ) -> ExitCode {
     match outcome {
         Ok(_) => {
-            if terminal && let Some(remark) = bytes.and_then(remark) {
-                let _ = eprintln!(rt; "council: {remark}");
+            if terminal && let Some(bytes) = bytes {
+                print_remarks(rt, bytes);
             }
             ExitCode::SUCCESS
         }

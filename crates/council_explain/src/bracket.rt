@@ -1,7 +1,7 @@
 //! Where a bracket text breaks its grammar, as the reader of such texts knows it.
 use crate::explanation::Explanation;
 use crate::values::is_digit;
-use council_file::{bracket_rule, is_bracket};
+use council_file::bracket_rule;
 use council_game::{Memory, limits};
 use std::alloc::Global;
 
@@ -62,16 +62,4 @@ impl Explanation<'_> {
         self.explain_remedy_at(place);
         Ok(())
     }
-}
-
-/// What is to be said of a game that was read, where another may be meant: of a bracket text with a
-/// weight `000`, as a comma between thousands makes one. The bytes are those of the file.
-pub fn remark(bytes: &[u8]) -> Option<&'static str> {
-    let told = "a weight 000 was read as 0: a comma ends a weight, also between thousands";
-    for number in bytes.split(|byte| !byte.is_ascii_digit()) {
-        if matches!(number, b"000") && is_bracket(bytes) {
-            return Some(told);
-        }
-    }
-    None
 }

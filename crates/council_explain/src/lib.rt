@@ -15,11 +15,12 @@ mod keys;
 mod members;
 mod no_toml;
 mod ranges;
+mod remarks;
 mod rules;
 mod slips;
 mod source;
 mod values;
 
-pub use bracket::remark;
 pub use explaining::explain;
 pub use kept::Kept;
+pub use remarks::{remark_on_quotas, remark_on_thousands};
