@@ -1,5 +1,4 @@
 //! Game files with the games or faults that they are.
-mod reads;
 mod refusals;
 mod text;
 
@@ -102,16 +101,18 @@ fn beginnings_of_one_file(rt: HostRuntime) {
     assert_same(&rt, text.as_str(), BOARD, "the whole file");
 }
 
-/// Gives bytes, at most `at_once` at once, and then the end or an error.
+/// Gives bytes, at most `at_once` at once, and then the end or an error. It counts the reads.
 #[derive(Drop)]
 struct Piecemeal<'a> {
     left: &'a [u8],
     at_once: usize,
     error: Option<ErrorKind>,
+    reads: usize,
 }
 
 impl io::Read for Piecemeal<'_> {
     fn read(&mut self, buf: &mut [u8]) -> io::Result<usize> {
+        self.reads = self.reads.saturating_add(1);
         if let Some(kind) = self.error
             && self.left.is_empty()
         {
@@ -125,7 +126,7 @@ impl io::Read for Piecemeal<'_> {
     }
 }
 
-/// A reader of these bytes answers so.
+/// A reader of these bytes answers so, after at most `most` reads.
 fn check_read(
     rt: &impl Abort,
     alloc: Global,
@@ -133,71 +134,43 @@ fn check_read(
     at_once: usize,
     error: Option<ErrorKind>,
     wanted: &str,
+    most: usize,
 ) {
     let mut reader = Piecemeal {
         left,
         at_once,
         error,
+        reads: 0,
     };
     let said = shown(rt, alloc, read_game(alloc, &mut reader));
-    assert_same(rt, said.as_str(), wanted, (left.len(), at_once));
+    let found = (said.as_str(), reader.reads <= most);
+    assert_same(rt, found, (wanted, true), (left.len(), at_once));
 }
 
-/// Gives a blank at each read, without end, and counts the reads.
-#[derive(Drop)]
-struct Blanks {
-    reads: u64,
-}
-
-impl io::Read for Blanks {
-    fn read(&mut self, buf: &mut [u8]) -> io::Result<usize> {
-        self.reads = self.reads.saturating_add(1);
-        let Some(first) = buf.first_mut() else {
-            return Ok(0);
-        };
-        *first = b' ';
-        Ok(1)
-    }
-}
-
-#[test]
-fn reads_65_537_times_at_most(rt: HostRuntime) {
-    let alloc = rt.alloc();
-    let mut reader = Blanks { reads: 0 };
-    let said = shown(&rt, alloc, read_game(alloc, &mut reader));
-    let wanted = ("the game file is longer than 65536 bytes", 65_537);
-    assert_same(&rt, (said.as_str(), reader.reads), wanted, "blanks");
-}
-
+/// Whole files come by one read for each 4,096 bytes or part of them, and one that finds the end.
 #[test]
 fn readers(rt: HostRuntime) {
     let alloc = rt.alloc();
-    let bytes = BOARD.as_bytes();
-    for at_once in [1, 7, 4096] {
-        check_read(&rt, alloc, bytes, at_once, None, "A B C [51; 50, 49, 1]");
-    }
-    for kind in [ErrorKind::TimedOut, ErrorKind::Interrupted] {
-        for k in 0..=bytes.len() {
-            let given = bytes.get(..k).expect(&rt, "a front");
-            check_read(
-                &rt,
-                alloc,
-                given,
-                1,
-                Some(kind),
-                "the game file cannot be read",
-            );
-        }
-    }
+    let board = BOARD.as_bytes();
     let late = Some(ErrorKind::TimedOut);
-    for (length, error, wanted) in [
-        (65_536, None, "bad quota"),
-        (65_536, late, "the game file cannot be read"),
-        (65_537, None, "the game file is longer than 65536 bytes"),
-        (65_537, late, "the game file is longer than 65536 bytes"),
+    for (at_once, error, wanted, most) in [
+        (1, None, "A B C [51; 50, 49, 1]", board.len() + 1),
+        (7, None, "A B C [51; 50, 49, 1]", board.len() / 7 + 2),
+        (4096, None, "A B C [51; 50, 49, 1]", 2),
+        (7, late, "the game file cannot be read", board.len() / 7 + 2),
+    ] {
+        check_read(&rt, alloc, board, at_once, error, wanted, most);
+    }
+    for (length, error, wanted, most) in [
+        (10_000, None, "bad quota", 4),
+        (65_536, None, "bad quota", 17),
+        (65_536, late, "the game file cannot be read", 17),
+        (65_537, None, "the game file is longer than 65536 bytes", 17),
+        (65_537, late, "the game file is longer than 65536 bytes", 17),
     ] {
         let text = " ".repeat(alloc, length).expect(&rt, "blanks");
-        check_read(&rt, alloc, text.as_bytes(), 4096, error, wanted);
+        let bytes = text.as_bytes();
+        check_read(&rt, alloc, bytes, 1_000_000, error, wanted, most);
     }
 }
 

@@ -1,5 +1,4 @@
 //! A listing against lines that are made independently, in several orders.
-mod asked;
 mod refusals;
 
 ghost use Rattle.std.specs.Prelude.{◌≡◌, length};
@@ -251,93 +250,4 @@ fn tallies_as_it_reports(rt: HostRuntime) {
     let length = Ok(reported.len() as u64);
     assert_same(&rt, (first, second), (length, length), "lengths");
     assert_same(&rt, tallied.as_slice(), reported.as_slice(), "reports");
-}
-
-/// A writer that takes `room` bytes, at most `step` a call, fails once, and would then take all. It
-/// counts its flushes, and the calls after the failure.
-#[derive(Drop)]
-struct Narrow {
-    taken: Vec<u8>,
-    room: usize,
-    step: usize,
-    failed: bool,
-    flushes: u32,
-    after: u32,
-}
-
-impl Narrow {
-    fn new(alloc: Global, room: usize, step: usize) -> Narrow {
-        Narrow {
-            taken: Vec::new(alloc),
-            room,
-            step,
-            failed: false,
-            flushes: 0,
-            after: 0,
-        }
-    }
-}
-
-impl Write for Narrow {
-    fn write(&mut self, bytes: &[u8]) -> io::Result<usize> {
-        if self.failed {
-            self.after = self.after.saturating_add(1);
-            return Ok(bytes.len());
-        }
-        if self.room == 0 {
-            self.failed = true;
-            return Err(Error::from(ErrorKind::Other));
-        }
-        let count = bytes.len().min(self.room).min(self.step);
-        self.taken.extend_from_slice(&bytes[..count])?;
-        self.room -= count;
-        Ok(count)
-    }
-
-    fn flush(&mut self) -> io::Result<()> {
-        self.flushes = self.flushes.saturating_add(1);
-        Ok(())
-    }
-}
-
-/// A block is 64 KiB: these writers fail in the first, the second and a later one. What was refused
-/// is not tried again, and nothing is flushed then; a whole report is flushed once.
-#[test]
-fn tells_what_a_writer_took_of_many_blocks(rt: HostRuntime) {
-    let alloc = rt.alloc();
-    let game = game(&rt, alloc);
-    let list = listing(&rt, alloc, &game, 16_383);
-    let wanted = lines(&rt, alloc, HEADING, &list);
-    assert!(rt; 150_000 < wanted.len());
-    for step in [1000, 65_536, 1_000_000] {
-        for room in [
-            61_439usize,
-            65_535,
-            65_536,
-            65_537,
-            70_000,
-            131_072,
-            150_000,
-        ] {
-            assert!(rt; room <= 150_000);
-            let mut writer = Narrow::new(alloc, room, step);
-            let answer = write_report(alloc, &game, &list, LIST, &mut writer);
-            let written = room as u64;
-            let took = writer.taken.as_slice() == &wanted[..room];
-            let found = (step, answer, took, writer.flushes, writer.after);
-            let fault = Err(ReportFault::Write { written });
-            assert_same(&rt, found, (step, fault, true, 0, 0), "a writer that fails");
-        }
-        let mut writer = Narrow::new(alloc, 1_000_000, step);
-        let answer = write_report(alloc, &game, &list, LIST, &mut writer);
-        let took = writer.taken.starts_with(&wanted);
-        let found = (step, answer, took, writer.flushes, writer.after);
-        let length = Ok(writer.taken.len() as u64);
-        assert_same(
-            &rt,
-            found,
-            (step, length, true, 1, 0),
-            "a writer that takes all",
-        );
-    }
 }

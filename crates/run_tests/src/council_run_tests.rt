@@ -1,5 +1,4 @@
 //! Worked reports, command lines, statuses, and readers and writers that fail.
-mod asked;
 mod gates;
 mod refusals;
 mod tallies;
@@ -199,39 +198,22 @@ fn worked() -> [(&'static [u8], Options, &'static [u8]); 8] {
 }
 
 /// A writer that looks whether the bytes that it takes are those that it awaits, and takes no
-/// memory: all of each write or, with a number to begin with, a part whose length is drawn anew
-/// each time.
+/// memory.
 #[derive(Drop)]
 struct Awaiting<'a> {
     awaited: &'a [u8],
     differs: bool,
     calls: u32,
-    part: Option<u32>,
-}
-
-impl Awaiting<'_> {
-    /// How many of `length` bytes are taken.
-    fn count(&mut self, length: usize) -> usize {
-        match self.part {
-            Some(drawn) if length > 0 => {
-                let drawn = drawn.wrapping_mul(1_664_525).wrapping_add(1_013_904_223);
-                self.part = Some(drawn);
-                1 + (drawn >> 16) as usize % length
-            }
-            _ => length,
-        }
-    }
 }
 
 impl Write for Awaiting<'_> {
     fn write(&mut self, bytes: &[u8]) -> io::Result<usize> {
         self.calls = self.calls.saturating_add(1);
-        let count = self.count(bytes.len()).min(bytes.len());
-        match self.awaited.strip_prefix(&bytes[..count]) {
+        match self.awaited.strip_prefix(bytes) {
             Some(rest) => self.awaited = rest,
             None => self.differs = true,
         }
-        Ok(count)
+        Ok(bytes.len())
     }
 
     fn flush(&mut self) -> io::Result<()> {
@@ -239,25 +221,29 @@ impl Write for Awaiting<'_> {
     }
 }
 
-/// A run on the file writes the report, at once or in parts that begin with this number.
+/// A run on the file writes the report.
 fn writes<R: Abort + Threads + Wait + Sync>(
     rt: &R,
     alloc: Global,
     file: &[u8],
     options: &Options,
     report: &[u8],
-    part: Option<u32>,
 ) {
     let mut reader = file;
     let mut writer = Awaiting {
         awaited: report,
         differs: false,
         calls: 0,
-        part,
     };
     let answer = run(rt, alloc, &mut reader, options, &NoGate, &mut writer);
-    assert_same(rt, answer, Ok(report.len() as u64), part);
-    assert_same(rt, (writer.awaited.len(), writer.differs), (0, false), part);
+    let length = report.len();
+    assert_same(rt, answer, Ok(length as u64), length);
+    assert_same(
+        rt,
+        (writer.awaited.len(), writer.differs),
+        (0, false),
+        length,
+    );
 }
 
 #[test]
@@ -269,25 +255,15 @@ fn writes_the_worked_reports(rt: HostRuntime) {
         "the length of the board's report",
     );
     for (file, options, report) in worked() {
-        writes(&rt, rt.alloc(), file, &options, report, None);
+        writes(&rt, rt.alloc(), file, &options, report);
     }
 }
 
-#[test]
-fn writes_through_parts_of_any_length(rt: HostRuntime) {
-    for seed in 0..100 {
-        for (file, options, report) in worked() {
-            writes(&rt, rt.alloc(), file, &options, report, Some(seed));
-        }
-    }
-}
-
-/// A writer that takes `room` bytes, at most `step` a call, and then fails.
+/// A writer that takes `room` bytes, at most 7 a call, and then fails, as its flush may.
 #[derive(Drop)]
 struct Narrow {
     taken: Vec<u8>,
     room: usize,
-    step: usize,
     kind: Option<ErrorKind>,
     flushes: bool,
 }
@@ -300,7 +276,7 @@ impl Write for Narrow {
                 None => Ok(0),
             };
         }
-        let count = bytes.len().min(self.room).min(self.step);
+        let count = bytes.len().min(self.room).min(7);
         self.taken.extend_from_slice(&bytes[..count])?;
         self.room -= count;
         Ok(count)
@@ -315,59 +291,35 @@ impl Write for Narrow {
     }
 }
 
-/// A run on the board answers so, and the writer took all that it had room for.
-fn takes<R: Abort + Threads + Wait + Sync>(
-    rt: &R,
-    alloc: Global,
-    writer: Narrow,
-    wanted: Result<u64, RunFault>,
-) {
-    let room = writer.room;
-    let mut writer = writer;
-    let mut reader = BOARD;
-    let answer = run(rt, alloc, &mut reader, &plain(), &NoGate, &mut writer);
-    assert_same(rt, answer, wanted, room);
-    assert_same(rt, writer.taken.len(), room, "bytes taken");
-    assert_same(rt, BOARD_REPORT.starts_with(&writer.taken), true, room);
-}
-
-/// A write that failed after `written` bytes.
-fn failed(written: u64) -> Result<u64, RunFault> {
-    Err(RunFault {
-        cause: Cause::Write,
-        written,
-    })
-}
-
+/// The contract of `run` says what each call of the writer got; this is how it answers.
 #[test]
-fn tells_what_a_failing_writer_took(rt: HostRuntime) {
-    for kind in [None, Some(ErrorKind::Interrupted), Some(ErrorKind::Other)] {
-        for room in 0..158 {
-            let writer = Narrow {
-                taken: Vec::new(rt.alloc()),
-                room,
-                step: 7,
-                kind,
-                flushes: true,
-            };
-            takes(&rt, rt.alloc(), writer, failed(room as u64));
-        }
-    }
-}
-
-#[test]
-fn writes_through_parts_and_one_flush(rt: HostRuntime) {
-    for (flushes, wanted) in [(true, Ok(158)), (false, failed(158))] {
-        for step in [1, 10, 157, 158] {
-            let writer = Narrow {
-                taken: Vec::new(rt.alloc()),
-                room: 158,
-                step,
-                kind: None,
-                flushes,
-            };
-            takes(&rt, rt.alloc(), writer, wanted);
-        }
+fn a_failing_writer_is_a_fault_of_the_run(rt: HostRuntime) {
+    for (room, kind, flushes) in [
+        (0, None, true),
+        (7, Some(ErrorKind::Interrupted), true),
+        (157, Some(ErrorKind::Other), true),
+        (158, None, false),
+        (158, None, true),
+    ] {
+        let mut writer = Narrow {
+            taken: Vec::new(rt.alloc()),
+            room,
+            kind,
+            flushes,
+        };
+        let mut reader = BOARD;
+        let answer = run(&rt, rt.alloc(), &mut reader, &plain(), &NoGate, &mut writer);
+        let wanted = if room == 158 && flushes {
+            Ok(158)
+        } else {
+            Err(RunFault {
+                cause: Cause::Write,
+                written: room as u64,
+            })
+        };
+        let taken = writer.taken.as_slice();
+        assert_same(&rt, answer, wanted, room);
+        assert_same(&rt, taken, &BOARD_REPORT[..room], room);
     }
 }
 
@@ -376,13 +328,12 @@ fn writes_through_parts_and_one_flush(rt: HostRuntime) {
 struct Cut {
     given: usize,
     end: usize,
-    kind: ErrorKind,
 }
 
 impl Read for Cut {
     fn read(&mut self, buffer: &mut [u8]) -> io::Result<usize> {
         if self.given >= self.end {
-            return Err(Error::from(self.kind));
+            return Err(Error::from(ErrorKind::Interrupted));
         }
         if self.given >= BOARD.len() || buffer.is_empty() {
             return Ok(0);
@@ -393,44 +344,31 @@ impl Read for Cut {
     }
 }
 
-/// A run on the board, of which the reader gives a part, answers so, and writes this.
-fn reads<R: Abort + Threads + Wait + Sync>(
-    rt: &R,
-    alloc: Global,
-    reader: Cut,
-    wanted: Result<u64, RunFault>,
-    report: &[u8],
-) {
-    let end = reader.end;
-    let mut reader = reader;
-    let mut written = Vec::new(alloc);
-    let answer = run(rt, alloc, &mut reader, &plain(), &NoGate, &mut written);
-    assert_same(rt, answer, wanted, end);
-    assert_same(rt, written.as_slice(), report, end);
-}
-
 #[test]
 fn a_failing_reader_is_the_fault_of_the_game(rt: HostRuntime) {
     let length = BOARD.len();
-    let fault = RunFault {
+    let fault = Err(RunFault {
         cause: Cause::Game(GameFault::Read),
         written: 0,
-    };
-    for kind in [ErrorKind::Interrupted, ErrorKind::Other] {
-        for end in 0..=length {
-            let reader = Cut {
-                given: 0,
-                end,
-                kind,
-            };
-            reads(&rt, rt.alloc(), reader, Err(fault), b"");
-        }
-        let reader = Cut {
-            given: 0,
-            end: length + 1,
-            kind,
-        };
-        reads(&rt, rt.alloc(), reader, Ok(158), BOARD_REPORT);
+    });
+    for (end, wanted) in [
+        (0, fault),
+        (50, fault),
+        (length, fault),
+        (length + 1, Ok(158)),
+    ] {
+        let mut reader = Cut { given: 0, end };
+        let mut written = Vec::new(rt.alloc());
+        let answer = run(
+            &rt,
+            rt.alloc(),
+            &mut reader,
+            &plain(),
+            &NoGate,
+            &mut written,
+        );
+        assert_same(&rt, answer, wanted, end);
+        assert_same(&rt, written.is_empty(), answer.is_err(), end);
     }
 }
 

@@ -71,7 +71,6 @@ fn runs<R: Abort + Print + Threads + Wait + Sync>(
         awaited: report,
         differs: false,
         calls: 0,
-        part: None,
     };
     print_line(rt, "call");
     let answer = if is_tally {
