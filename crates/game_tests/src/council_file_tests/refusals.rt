@@ -43,6 +43,7 @@ fn reads_pieces(rt: HostRuntime) {
         left: BOARD.as_bytes(),
         at_once: 7,
         error: None,
+        reads: 0,
     };
     print_line(&rt, "call");
     let answer = read_game(rt.alloc(), &mut reader);
@@ -133,6 +134,7 @@ fn reads_a_fault(rt: HostRuntime) {
         left: b"[51; 50, 49, 1",
         at_once: 7,
         error: None,
+        reads: 0,
     };
     print_line(&rt, "call");
     let answer = read_game(rt.alloc(), &mut reader);
@@ -145,15 +147,30 @@ fn reads_up_to_an_error(rt: HostRuntime) {
         left: BOARD.as_bytes(),
         at_once: 7,
         error: Some(ErrorKind::TimedOut),
+        reads: 0,
     };
     print_line(&rt, "call");
     let answer = read_game(rt.alloc(), &mut reader);
     tells_fault(&rt, answer, GameFault::Read);
 }
 
+/// Gives a blank at each read, without end.
+#[derive(Drop)]
+struct Blanks;
+
+impl io::Read for Blanks {
+    fn read(&mut self, buf: &mut [u8]) -> io::Result<usize> {
+        let Some(first) = buf.first_mut() else {
+            return Ok(0);
+        };
+        *first = b' ';
+        Ok(1)
+    }
+}
+
 #[test]
 fn reads_too_much(rt: HostRuntime) {
-    let mut reader = Blanks { reads: 0 };
+    let mut reader = Blanks;
     print_line(&rt, "call");
     let answer = read_game(rt.alloc(), &mut reader);
     tells_fault(&rt, answer, GameFault::TooLong);
