@@ -2,7 +2,8 @@
 use Rattle.std.proofs.Common.{◌≡◌, ℕ, ◌-◌, ◌==◌, Bool, true, false, ◌||◌, List, [], ◌∷◌, ◌++◌, length, slice_get, if◌then◌else◌, refl, ap}
 use Rattle.std.proofs.Common.{sym, arith, drop, append_assoc, length-append, append-nil, ◌<◌, ◌+◌, ◌≤◌, suc, zero, ◌∙◌, nat_lt}
 use Rattle.std.proofs.lemmas.{Grind.common_steps, List.nil_from_length, List.Elements.filter_map-append, List.Folds.list_any-append}
-use Rattle.std.proofs.Math.Bool.{or-false}
+use Rattle.std.proofs.Math.{Bool.or-false, Seq.take-append_seam}
+use Rattle.std.proofs.{Common.length-take, Common.min, Common.take, lemmas.List.take-append-drop}
 use Rattle.mwc_pipe.specs.declared.{reply.Reply.Reply, step.Step.TheVariants.Put, step.Step.TheVariants.Take, step.Step.TheVariants.Close}
 use Rattle.mwc_pipe.specs.{PipeView.PipeView, PipeView.Leaves, declared.step.Step.Step}
 use Rattle.mwc_pipe.specs.declared.reply.Reply.TheVariants.{Accepted, Full, Closed, First, Again, Item, Empty}
@@ -109,6 +110,15 @@ module _ {T : Type 0} where
       length accepted + n ≤ gone + capacity → (n < length row → length accepted + n ≡ gone + capacity) →
       AreAnswered capacity past (puts_of row n)
   puts_answered capacity gone accepted past row n seen l room full = grind (arith, common_steps, puts_on)
+
+  -- what was put of the front of a row is the front of the row
+  pub row_front : (most : ℕ) (row put rest : List T) → put ++ rest ≡ take most row
+      → (take (length put) row ≡ put) × (length put + length rest ≡ min most (length row))
+  row_front most row put rest is =
+      let whole : row ≡ put ++ (rest ++ drop most row) = sym (take-append-drop most row) ∙ ap (λ (l : List T). l ++ drop most row) (sym is) ∙ append_assoc put rest (drop most row) in (
+        ap (take (length put)) whole ∙ take-append_seam put (rest ++ drop most row),
+        sym (length-append put rest) ∙ ap length is ∙ length-take most row,
+      )
 
   takes_on : (capacity : ℕ) (past : List (Event T)) (items known : List T) (short : Bool) →
       Leaves past (holding capacity (items ++ known) false) → (short ≡ true → known ≡ []) → AreAnswered capacity past (takes_of items short)

@@ -1,5 +1,5 @@
 //! The end of a ring that words are put into.
-ghost use Rattle.std.specs.Prelude.{◌≡◌, ◌+◌, ◌<◌, ◌≤◌, List, [], ◌∷◌, ◌++◌, false, length, take, IfOk, OnOk, IfErr, IsOk};
+ghost use Rattle.std.specs.Prelude.{◌≡◌, ◌+◌, ◌<◌, ◌≤◌, List, [], ◌∷◌, ◌++◌, false, length, min, take, IfOk, OnOk, IfErr, IsOk};
 ghost use Rattle.mwc_pipe.specs.declared.word.Word.{Word};
 ghost use Rattle.mwc_pipe.specs.History.{Event};
 ghost use Rattle.mwc_pipe.specs.RowSteps.{AreAnswered, IsSeenByIn, puts_of};
@@ -69,7 +69,8 @@ impl RingIn {
     ///
     /// It stops short only if the ring is full as far as this end knows; the first `capacity` words
     /// of a ring are accepted at once. However many they are, the ring is updated by one store. It
-    /// takes no memory.
+    /// takes no memory. A pipe from which as many words were taken as this end knows of answers
+    /// such puts alike.
     pub fn put_some(&mut self, words: &[Word]) -> usize
         ensures count { result ≤ length words.now }
         ensures ring { (self.new.ring ≡ self.old.ring) × (self.new.capacity ≡ self.old.capacity) }
@@ -77,10 +78,12 @@ impl RingIn {
         ensures room { length self.new.accepted < self.old.capacity → result ≡ length words.now }
         ensures gone { self.old.gone ≤ self.new.gone }
         ensures replies { (past : List (Event Word))
-            → IsSeenByIn self.old.accepted self.new.gone past
+            → IsSeenByIn self.old.accepted (min self.new.gone (length self.old.accepted)) past
             → AreAnswered self.old.capacity past (puts_of words.now result) }
     {
-        let (accepted, _) = self.producer.push_partial_slice(words);
+        // For the prover: `rtrb` does not say that it accepts at most as many as the capacity.
+        let most = words.len().min(self.producer.capacity());
+        let (accepted, _) = self.producer.push_partial_slice(&words[..most]);
         accepted.len()
     }
 

@@ -9,4 +9,5 @@ mod FittingSubsets
 mod TableSums
 mod GroupSums
 mod HalfSums
+pub mod Sets
 mod Imports

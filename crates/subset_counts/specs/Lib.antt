@@ -1,2 +1,3 @@
 pub mod MinimalCounts
+pub mod Sets
 pub mod Inner
