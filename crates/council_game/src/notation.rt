@@ -5,7 +5,7 @@ ghost use Rattle.council_game.specs.Votes.{rule_at};
 ghost use Rattle.council_game.specs.Notation.{notation};
 
 use crate::game::Game;
-use crate::joined::{push_decimal, push_joined};
+use crate::numbers::{push_decimal, push_joined};
 use council_base::Memory;
 use std::alloc::{AllocError, Global};
 
