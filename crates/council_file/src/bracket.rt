@@ -69,7 +69,7 @@ pub fn bracket_rule(alloc: Global, bytes: &[u8]) -> Result<Option<Rule>, Memory>
 
 /// The numbers 1 to `count`, in decimal.
 #[tactic(auto, using(crate::proofs::Digits::names_more))]
-fn counted_names(alloc: Global, count: usize) -> Result<Vec<String>, AllocError>
+fn number_names(alloc: Global, count: usize) -> Result<Vec<String>, AllocError>
     ensures { IfOk result (λ v. map string_bytes v.items ≡ counted_names count) }
 {
     let mut names = Vec::new(alloc);
@@ -87,6 +87,6 @@ pub(crate) fn game_of_bracket(alloc: Global, bytes: &[u8]) -> Result<Game, GameF
     let Some(rule) = bracket_rule(alloc, bytes)? else {
         return Err(GameFault::Bracket);
     };
-    let names = counted_names(alloc, rule.weights.len())?;
+    let names = number_names(alloc, rule.weights.len())?;
     Game::new(alloc, None, names, rule.weights, rule.quota)
 }
