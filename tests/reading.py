@@ -94,8 +94,9 @@ The lines of a report, as a function of the game, and the calls by which a write
 What a run reads, by which reads, what it writes and returns, and what it has written if it stops.
 """,
     "What they rest on": """
-`parse_document`, what a text of TOML means, rests on 168 definitions of the crate `toml` in turn.
-If you do not want to read them, trust the TOML standard.
+`parse_document`, what a text of TOML means, rests in turn on more than 150 definitions of the kit's
+crates `toml`, `toml_parser` and `toml_datetime`. If you do not want to read them, trust the TOML
+standard.
 """,
     "The rings": """
 What a worker sends, a whole or a cut sending, as words; which ring an end is of; and the words of
