@@ -1,5 +1,5 @@
 /*
- * The report of a weighted voting game, for C and whatever can call C. See docs/LANGUAGES.md.
+ * The report of a weighted voting game, for C and whatever can call C. See docs/LIBRARY.md.
  *
  * There is one call. It starts no thread, keeps nothing from one call to the next, and gives out no memory. Threads of
  * the caller's may call it at the same time, each with buffers of its own.

@@ -144,11 +144,11 @@ if [ -f "$shared" ] && needs cc "$name: linked" && needs pkg-config "$name: link
     printed "$name: linked by pkg-config" "$here/examples/board.tsv"
 fi
 
-# links of documents to files that only a clone has are no fault there, but those of LANGUAGES.md
-# lead somewhere
+# links of documents to files that only a clone has are no fault there, but those of its README and
+# of LIBRARY.md lead somewhere
 name="in the archive, its own links lead to files"
 missing=$(
-    for page in README.md docs/LANGUAGES.md; do
+    for page in README.md docs/LIBRARY.md; do
         cd "$here/$(dirname "$page")" || exit
         grep -oE '\]\([^)#:]+[)#]' "${page##*/}" | tr -d '])(#' | while IFS= read -r file; do [ -e "$file" ] || echo "$page: $file"; done
     done

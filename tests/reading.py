@@ -2,7 +2,7 @@
 """What to read to trust the headline: the definitions that its contracts mention, and theirs in turn.
 
     reading.py            compares docs/TRUST.md with what the sources say
-    reading.py --list     prints the list as docs/TRUST.md has it
+    reading.py --page     prints that page: tests/reading.py --page >docs/TRUST.md
     reading.py --inner    names the definitions of specs/ that no public contract reaches
 
 It follows the `use` lines of crates/NAME/specs and the `ghost use` lines of crates/NAME/src. Lines are
@@ -11,8 +11,8 @@ those of definitions: no blank lines, comments or `use` lines.
 The last part of the list has what the calls of RINGS mention beyond that: what a worker sent, and what the ends of its
 ring show of it, with the words of rtrb by which these ends are seen.
 
-Prints `ok reading: what` or `FAILED reading: why` for each of these: the list is that of docs/TRUST.md;
-it has at most LIMIT lines, and its last part RINGS_LIMIT more; no module of a folder `Inner` or `Shared` stands in it;
+Prints `ok reading: what` or `FAILED reading: why` for each of these: docs/TRUST.md is this page; its list
+has at most LIMIT lines, and the last part RINGS_LIMIT more; no module of a folder `Inner` or `Shared` is in it;
 those folders have all definitions that no public contract reaches, and no others; and each definition that
 docs/DEFINITIONS.md names, as `Module.name`, exists.
 """
@@ -50,6 +50,61 @@ PARTS = [
     ("The report", r"council_report\.|council_game\.(Joined|Notation)"),
     ("The run", r"."),
 ]
+HEAD = """
+# Definitions to trust
+
+The [headline](PROOF.md#the-headline) is the contract of four calls: `replay` of `mwc_pipe`,
+`gather` and `Gathered::in_order` of `mwc_gather`, and `run` of `council_run`. To trust it, read the
+clauses of these calls, the three laws of `mwc_pipe` that sum up `replay`, and the definitions
+below: those that the clauses name, and those that these name in turn, in reading order. The rest of
+`crates/*/specs` serves other contracts or the proofs.
+
+One sentence of the headline needs more, because no clause of the four calls says it: each worker's
+ring was read to its end and gave what the worker sent. It rests on the contracts of
+`mwc_gather::work`, `RingOut::end` and `Rest::next`, which hold whatever `gather` then returns, and
+on private clauses of the gatherer. The last section lists what the three public contracts add.
+
+A limit has a name here, such as `MEMBERS`; `are_these_numbers` in
+`crates/council_base/src/limits.rt` says its number. In the clauses of `gather`, `guarded.now` is
+the game that `Guarded::new` was given.
+
+This page is computed by following the names in the sources: `python3 tests/reading.py --page`
+prints it. Lines count definitions only, without comments, imports and blank lines.
+"""
+# what the page says of each part, below its title
+INTRODUCTIONS = {
+    "The mathematics": """
+Weights, wins, minimal winning coalitions and their slices, the counts of a list, fractions in
+lowest terms, decimals, and the two indices.
+""",
+    "The pipe": """
+What came out of a pipe and what went in, and the replies, which follow from the steps before them
+by counting.
+""",
+    "The gathering": """
+What the parts of all workers hold: each slice once, ascending in each part, with its coalitions.
+""",
+    "The game file": """
+Which game, or which first fault, the bytes of a file give.
+""",
+    "The report": """
+The lines of a report, as a function of the game, and the calls by which a writer gets them.
+""",
+    "The run": """
+What a run reads, by which reads, what it writes and returns, and what it has written if it stops.
+""",
+    "What they rest on": """
+`parse_document`, what a text of TOML means, rests in turn on more than 150 definitions of the kit's
+crates `toml`, `toml_parser` and `toml_datetime`. If you do not want to read them, trust the TOML
+standard.
+""",
+    "The rings": """
+What a worker sends, a whole or a cut sending, as words; which ring an end is of; and the words of
+`rtrb` by which contracts see the ends: all that was sent, what was received, what is known to be
+inside. What was received, and then what is left, is all that was sent: that is the clause `fifo` of
+`Consumer::slots_after` in `rtrb`.
+""",
+}
 TOP = os.path.join(os.path.dirname(os.path.abspath(__file__)), "..")
 CRATES = os.path.join(TOP, "crates")
 
@@ -221,6 +276,16 @@ def rings_list():
     return lines, count
 
 
+def page():
+    """The page that has both lists."""
+    text = HEAD.lstrip("\n")
+    for line in reading_list()[0] + rings_list()[0]:
+        title = re.match(r"## (.*?):", line)
+        text += f"\n{line}\n{INTRODUCTIONS[title.group(1)]}\n" if title else textwrap.fill(
+            line, 98, subsequent_indent="  ", break_long_words=False, break_on_hyphens=False) + "\n"
+    return text
+
+
 def inner():
     """The definitions that no public contract reaches."""
     given = set()
@@ -234,7 +299,7 @@ def inner():
     return sorted(set(defs) - closure(shown)[0])
 
 
-def told(good, what, why=""):
+def report(good, what, why=""):
     print(f"ok reading: {what}" if good else f"FAILED reading: {what}{why}")
     return good
 
@@ -243,30 +308,28 @@ def check():
     lines, total = reading_list()
     rings, more = rings_list()
     lines += rings
-    page = open(os.path.join(TOP, "docs", "TRUST.md"), encoding="utf-8").read()
-    page = page.replace("\n  ", " ").split("\n")
-    shown = [line for line in page if line.startswith(("## ", "- "))]
-    odd = [line for line in lines + shown if (line in lines) != (line in shown)]
-    results = [told(shown == lines, "docs/TRUST.md has the list", f", but for: {odd[0] if odd else 'the order'}")]
-    results.append(told(total <= LIMIT, f"{total} lines of definitions, at most {LIMIT}"))
-    results.append(told(more <= RINGS_LIMIT, f"{more} lines of definitions for the rings, at most {RINGS_LIMIT}"))
+    wanted = page().split("\n")
+    shown = open(os.path.join(TOP, "docs", "TRUST.md"), encoding="utf-8").read().split("\n")
+    odd = [line for line in wanted + shown if (line in wanted) != (line in shown)]
+    results = [report(shown == wanted, "docs/TRUST.md is the page of --page", f", but for: {odd[0] if odd else 'the order'}")]
+    results.append(report(total <= LIMIT, f"{total} lines of definitions, at most {LIMIT}"))
+    results.append(report(more <= RINGS_LIMIT, f"{more} lines of definitions for the rings, at most {RINGS_LIMIT}"))
     inside = [line for line in lines if "/Inner" in line or "/Shared" in line]
-    results.append(told(not inside, "no definition of a folder Inner or Shared", f": {inside}"))
+    results.append(report(not inside, "no definition of a folder Inner or Shared", f": {inside}"))
     unshown = set(inner())
     astray = [f"{module[7:]} {name}" for module, name in sorted(defs)
               if (".Inner." in module or ".Shared." in module) != ((module, name) in unshown)]
-    results.append(told(not astray, "the folders Inner and Shared have what no public contract reaches, and nothing else", f": {astray}"))
+    results.append(report(not astray, "the folders Inner and Shared have what no public contract reaches, and nothing else", f": {astray}"))
     known = {(module.split(".")[-1], name) for module, name in defs}
     text = open(os.path.join(TOP, "docs", "DEFINITIONS.md"), encoding="utf-8").read()
     named = re.findall(r"`([A-Z]\w*)\.([\w']+)`", text)
     missing = [".".join(it) for it in named if it not in known]
-    results.append(told(not missing, f"{len(set(named))} definitions that docs/DEFINITIONS.md names", f", not there: {missing}"))
+    results.append(report(not missing, f"{len(set(named))} definitions that docs/DEFINITIONS.md names", f", not there: {missing}"))
     return all(results)
 
 
-if "--list" in sys.argv:
-    for line in reading_list()[0] + rings_list()[0]:
-        print(textwrap.fill(line, 98, subsequent_indent="  ", break_long_words=False, break_on_hyphens=False))
+if "--page" in sys.argv:
+    print(page(), end="")
 elif "--inner" in sys.argv:
     print("\n".join(f"{module[7:]} {name}" for module, name in inner()))
 else:

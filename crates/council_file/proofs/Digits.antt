@@ -26,7 +26,7 @@ symbols-digit : (d : ℕ) (bs : List ℕ) → is_ascii_digit d ≡ true → symb
 unfolding symbols
 symbols-digit d bs h = rw h refl
 
--- digits, and no digit behind them, are one number
+-- digits, and no digit after them, are one number
 pub symbols-number : (d : ℕ) (ds rest : List ℕ) → AllDigits 10 (d ∷ ds) → begins_with_digit rest ≡ false
     → symbols ((d ∷ ds) ++ rest) ≡ number (d ∷ ds) ∷ symbols rest
 symbols-number d [] rest whole stop = symbols-digit d rest (digit_test d whole.0) ∙ ap (λ (j : Bool). with_digit d j (symbols rest)) stop

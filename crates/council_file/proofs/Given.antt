@@ -1,4 +1,4 @@
--- Bytes that a reader gave, where all of them are known.
+-- Bytes that a reader gave, if all of them are known.
 use Rattle.std.proofs.Common.{◌≡◌, ℕ, List, Option, Some, None, arith, append-nil, length-append, lt-ltb}
 use Rattle.council_file.specs.{File.game_of, Reads.Gave}
 

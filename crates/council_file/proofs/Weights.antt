@@ -6,7 +6,7 @@ use Rattle.council_file.specs.declared.token.Token.{Token, TheVariants.Closing, 
 use Rattle.council_file.specs.Bracket.{Symbol, number, opening, closing, comma, semicolon, value_of, weights_of, rule_of}
 use Rattle.council_file.specs.Inner.Scan.{symbol, first_number, after_opening, after_semicolon}
 
--- a weight, and the weights behind it
+-- a weight, and the weights after it
 abbrev pub behind : ℕ → List Symbol → Option (List ℕ)
 behind n (closing ∷ []) = Some (n ∷ [])
 behind n (comma ∷ ps) = option_map (λ ws. n ∷ ws) (weights_of ps)
@@ -41,7 +41,7 @@ joined_front : (front : List ℕ) (n : ℕ) (o : Option (List ℕ))
 joined_front front n None = refl
 joined_front front n (Some ws) = ap (λ (vs : List ℕ). Some vs) (sym (append_assoc front (n ∷ []) ws))
 
--- front stands before the weights of the symbols that are left
+-- front comes before the weights of the symbols that are left
 abbrev pub Reads : List Symbol → List ℕ → List Symbol → Type 0
 Reads text front left = weights_of text ≡ option_map (λ ws. front ++ ws) (weights_of left)
 
@@ -62,7 +62,7 @@ stray Closing n ps no_comma no_closing = absurd (no_closing refl)
 stray Comma n ps no_comma no_closing = absurd (no_comma refl)
 stray t n ps no_comma no_closing = refl
 
--- what the token behind a weight makes of the text
+-- what the token after a weight makes of the text
 pub after_comma : (text left rest ps : List Symbol) (front : List ℕ) (n : ℕ) (t : Token) → Reads text front left
     → Some (n, rest) ≡ first_number left → rest ≡ symbol t ∷ ps → t ≡ Comma → Reads text (front ++ n ∷ []) ps
 after_comma text left rest ps front n t before now is comma_is = grind (arith, one_more)

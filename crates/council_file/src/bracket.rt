@@ -17,7 +17,7 @@ pub fn is_bracket(bytes: &[u8]) -> bool
     scanner.take_opening() && scanner.take_digits()
 }
 
-/// The weights up to the bracket that closes the text, and nothing where the text breaks the
+/// The weights up to the bracket that closes the text, and nothing if the text breaks the
 /// grammar.
 #[tactic(auto, using(crate::proofs::Weights::commas))]
 fn weights_of(alloc: Global, scanner: &mut Scanner<'_>) -> Result<Option<Vec<u64>>, AllocError>
@@ -43,11 +43,11 @@ fn weights_of(alloc: Global, scanner: &mut Scanner<'_>) -> Result<Option<Vec<u64
     Ok(None)
 }
 
-/// The rule of a bracket text, and nothing where the text breaks the grammar.
+/// The rule of a bracket text, and nothing if the text breaks the grammar.
 ///
 /// # Errors
 ///
-/// Memory where a growth was refused.
+/// Memory if an allocation was refused.
 pub fn bracket_rule(alloc: Global, bytes: &[u8]) -> Result<Option<Rule>, Memory>
     ensures { IfOk result (λ o. option_map rule_view o ≡ rule_of (symbols bytes.now)) }
 {
@@ -69,7 +69,7 @@ pub fn bracket_rule(alloc: Global, bytes: &[u8]) -> Result<Option<Rule>, Memory>
 
 /// The numbers 1 to `count`, in decimal.
 #[tactic(auto, using(crate::proofs::Digits::names_more))]
-fn counted_names(alloc: Global, count: usize) -> Result<Vec<String>, AllocError>
+fn number_names(alloc: Global, count: usize) -> Result<Vec<String>, AllocError>
     ensures { IfOk result (λ v. map string_bytes v.items ≡ counted_names count) }
 {
     let mut names = Vec::new(alloc);
@@ -87,6 +87,6 @@ pub(crate) fn game_of_bracket(alloc: Global, bytes: &[u8]) -> Result<Game, GameF
     let Some(rule) = bracket_rule(alloc, bytes)? else {
         return Err(GameFault::Bracket);
     };
-    let names = counted_names(alloc, rule.weights.len())?;
+    let names = number_names(alloc, rule.weights.len())?;
     Game::new(alloc, None, names, rule.weights, rule.quota)
 }

@@ -5,14 +5,14 @@ ghost use Rattle.council_file.specs.Laws.{NotationReadsBack};
 ghost use Rattle.council_file.specs.Reads.{Gave};
 ghost use Rattle.std.specs.Prelude.{◌≡◌, ℕ, List, Option, Some};
 
-/// Who reads the notation of a rule of a game gets a game of only that rule, whose members are
-/// named 1, 2, .. and which has no title.
+/// The notation of a rule reads back as the game of only that rule, whose members are named 1, 2,
+/// .. and which has no title.
 #[tactic(auto, using(crate::proofs::ReadsBack::reads_back))]
 pub fn notation_reads_back()
     ensures { (g : GameView) → IsGame g → NotationReadsBack g }
 {}
 
-/// Where all bytes of a reader are known, the game of those that it gave is the game of all of
+/// If all bytes of a reader are known, the game of those that it gave is the game of all of
 /// them, and so is the first fault.
 #[tactic(auto, using(crate::proofs::Given::known_bytes))]
 pub fn known_bytes_give_their_game()

@@ -9,7 +9,7 @@ use council_game::limits;
 use std::alloc::{AllocError, Global};
 use toml::{Table, Value};
 
-/// The elements of the array of members, and none where it is no array.
+/// The elements of the array of members, and none if it is no array.
 pub(crate) fn member_list(table: &Table) -> &[Value]
     ensures { map view result.now ≡ member_list (table_view table.now) }
 {

@@ -52,7 +52,7 @@ fn game_of_tree(alloc: Global, table: &Table) -> Result<Game, GameFault>
 ///
 /// # Errors
 ///
-/// The first fault of the file in the order of its checks, which is never Read; or Memory where a
+/// The first fault of the file in the order of its checks, which is never Read; or Memory if a
 /// growth was refused.
 #[tactic(auto, using(crate::proofs::NeverRead::unread), unfolding(crate::specs::File::game_of))]
 pub fn parse_game(alloc: Global, bytes: &[u8]) -> Result<Game, GameFault>

@@ -79,7 +79,7 @@ fn lone_rule(alloc: Global, table: &Table) -> Result<Vec<Rule>, AllocError>
 ///
 /// # Errors
 ///
-/// Memory where a growth was refused.
+/// Memory if an allocation was refused.
 #[tactic(auto, using(council_game::proofs::Shared::Lists::maps))]
 pub fn rules_of(alloc: Global, table: &Table) -> Result<Vec<Rule>, Memory>
     ensures { IfOk result (λ v. rule_views v.items ≡ rules_of (table_view table.now)) }

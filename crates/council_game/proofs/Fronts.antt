@@ -1,4 +1,4 @@
--- What stays in front, with a further text put behind.
+-- What stays in front, if a further text is put after it.
 use Rattle.std.proofs.Common.{◌≡◌, ℕ, List, ◌++◌, ◌∙◌, append_assoc, Result, Ok, Err, OnErr, arith}
 use Rattle.council_game.specs.Front.{StaysInFront}
 

@@ -13,7 +13,7 @@ list_all-filter : (in_it passes : ℕ → Bool) (ps : List ℕ) → list_all pas
 list_all-filter in_it passes [] = refl
 list_all-filter in_it passes (p ∷ ps) = grind (arith, nat_tests, list_all-filter in_it passes ps)
 
--- where each of those places passes, so does one of them
+-- if each of those places passes, so does one of them
 pub each-place : (in_it passes : ℕ → Bool) (n p : ℕ) → list_all passes (filter in_it (range_with_len 0 n)) ≡ true → p < n → in_it p ≡ true
     → passes p ≡ true
 each-place in_it passes n p all below inside =
@@ -34,7 +34,7 @@ some-fails test (p ∷ ps) h = elim (and_cases (test p) (list_all test ps) h) [
   | inr later ↦ let found = some-fails test ps later in (suc found.0, omega (arith, found.1), found.2)
 ]
 
--- where not all of them pass, one does not
+-- if not all of them pass, one does not
 pub spare-place : (in_it passes : ℕ → Bool) (n : ℕ) → list_all passes (filter in_it (range_with_len 0 n)) ≡ false → (p : ℕ) × (p < n)
     × (in_it p ≡ true) × (passes p ≡ false)
 spare-place in_it passes n some =

@@ -1,4 +1,4 @@
--- Room that stays, and a text that is refused behind others.
+-- Room that stays, and a text that is refused after others.
 use Rattle.std.proofs.Common.{◌≡◌, ◌≤◌, ◌+◌, ◌++◌, ℕ, List, length, Vec, Result, Ok, Err, ap, arith, length-append, Global, vec_capacity}
 use Rattle.council_game.specs.Room.{MakesRoomFor}
 
@@ -6,7 +6,7 @@ use Rattle.council_game.specs.Room.{MakesRoomFor}
 pub room-is : {v w : Vec ℕ Global} → v ≡ w → vec_capacity v ≡ vec_capacity w
 room-is same = ap (λ (v : Vec ℕ Global). vec_capacity v) same
 
--- where y is refused after x was put, so is each text that is no shorter than both
+-- if y is refused after x was put, so is each text that is no shorter than both
 pub takes-not : {E F : Type 0} {old now new : Vec ℕ Global} {r : Result (Unit {0}) E} {e : F} {y z : List ℕ} (x : List ℕ)
     → MakesRoomFor now new (Err e) y → vec_capacity old ≤ vec_capacity now → now.items ≡ old.items ++ x → length x + length y ≤ length z
     → MakesRoomFor old new r z

@@ -4,7 +4,7 @@ use Rattle.council_game.specs.declared.fault.GameFault.{GameFault}
 use Rattle.council_game.specs.declared.fault.GameFault.TheVariants.{Memory}
 
 infixl 10 ◌>>=◌
--- the first step, and where it is no fault the second
+-- the first step, and if it is no fault the second
 abbrev pub ◌>>=◌ : {A B : Type 0} → Result A GameFault → (A → Result B GameFault) → Result B GameFault
 (Ok x) >>= f = f x
 (Err e) >>= f = Err e
@@ -12,7 +12,7 @@ abbrev pub ◌>>=◌ : {A B : Type 0} → Result A GameFault → (A → Result B
 abbrev pub Done : Type 0
 Done = Result (Unit {0}) GameFault
 
--- the fault, where the test says so
+-- the fault, if the test says so
 abbrev pub refuse : Bool → GameFault → Done
 refuse true fault = Err fault
 refuse false fault = Ok tt

@@ -1,4 +1,4 @@
--- What stays where a text is put behind it.
+-- What stays if a text is put after it.
 use Rattle.std.specs.Prelude.{◌≡◌, ℕ, List, ◌++◌}
 
 -- the bytes that were there stand in front of those that are there now

@@ -11,7 +11,7 @@ WeighsItsMembers =
     (ws : List ℕ) (c : ℕ)
     → weight ws c ≡ sum (map (λ p. slice_index ws p) (places_of (length ws) c))
 
--- a coalition is minimal exactly where it wins, and loses without any one of its members
+-- a coalition is minimal exactly if it wins, and loses without any one of its members
 abbrev pub NeedsEachMember : Votes → Type 0
 NeedsEachMember v =
     (c : ℕ) → (minimal v c ≡ true) ↔ ((wins v.rules c ≡ true)

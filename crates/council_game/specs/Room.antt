@@ -3,7 +3,7 @@ use Rattle.std.specs.Prelude.{◌+◌, ◌<◌, ◌≤◌, ℕ, List, length, On
 use Rattle.std.specs.Global.{Global}
 use Rattle.std.specs.Vec.{vec_capacity}
 
--- its room stays or grows, and a text is refused only where it has no room for it
+-- its room stays or grows, and a text is refused only if it has no room for it
 pub record MakesRoomFor {E : Type 0} (old new : Vec ℕ Global)
     (r : Result (Unit {0}) E) (text : List ℕ) : Type 0 where
   pub capacity : vec_capacity old ≤ vec_capacity new

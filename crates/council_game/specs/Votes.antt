@@ -45,7 +45,7 @@ pub record IsVotes (v : Votes) : Type 0 where
 unfoldable pub weight : List ℕ → ℕ → ℕ
 weight ws c = sum_by (slice_index ws) (places_of (length ws) c)
 
--- c wins where it meets each rule's quota
+-- c wins if it meets each rule's quota
 unfoldable pub wins : List RuleView → ℕ → Bool
 wins rules c = list_all (λ r. nat_le r.quota (weight r.weights c)) rules
 

@@ -120,7 +120,7 @@ pub(crate) fn check_weights(rules: &[Rule], members: usize) -> Result<(), GameFa
     Ok(())
 }
 
-/// The total of the weights, or the greatest number where it is greater.
+/// The total of the weights, or the greatest number if it is greater.
 pub(crate) fn capped_total(weights: &[u64]) -> u64
     ensures { result ≡ min (sum weights.now) (2 ^ 64 - 1) }
 {

@@ -13,7 +13,7 @@ pub fn coalitions_weigh_their_members()
     ensures { WeighsItsMembers }
 {}
 
-/// A coalition is minimal exactly where it wins, and loses without any one of its members.
+/// A coalition is minimal exactly if it wins, and loses without any one of its members.
 #[tactic(auto, using(crate::proofs::Searches::for_laws))]
 pub fn minimal_coalitions_need_each_member()
     ensures votes { (v : Votes) → NeedsEachMember v }

@@ -55,7 +55,7 @@ impl Game {
     ///
     /// # Errors
     ///
-    /// Memory where a growth was refused.
+    /// Memory if an allocation was refused.
     pub fn members_of(&self, alloc: Global, coalition: Coalition) -> Result<Vec<usize>, Memory>
         ensures { IfOk result (λ v. v.items ≡ map (member_at self.now.ranks)
             (places_of (length self.now.names) coalition)) }

@@ -5,7 +5,7 @@ ghost use Rattle.council_game.specs.Votes.{rule_at};
 ghost use Rattle.council_game.specs.Notation.{notation};
 
 use crate::game::Game;
-use crate::joined::{push_decimal, push_joined};
+use crate::numbers::{push_decimal, push_joined};
 use council_base::Memory;
 use std::alloc::{AllocError, Global};
 
@@ -33,7 +33,7 @@ fn notation_of(alloc: Global, game: &Game, rule: usize) -> Result<Vec<u8>, Alloc
 ///
 /// # Errors
 ///
-/// `Memory` where a growth was refused; the vector is then unchanged.
+/// `Memory` if an allocation was refused; the vector is then unchanged.
 pub fn write_notation(game: &Game, rule: usize, out: &mut Vec<u8>) -> Result<(), Memory>
     requires { rule < length game.now.rules }
     ensures ok { OnOk result

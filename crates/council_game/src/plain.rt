@@ -12,7 +12,7 @@ use std::alloc::Global;
 ///
 /// # Errors
 ///
-/// Memory where a growth was refused.
+/// Memory if an allocation was refused.
 pub fn plain_list(alloc: Global, game: &Game) -> Result<Vec<Coalition>, Memory>
     requires { length game.now.names ≤ PLAIN_MEMBERS }
     ensures all { IfOk result (λ v. v.items ≡ minimal_coalitions (votes_of game.now)) }

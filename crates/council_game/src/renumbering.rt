@@ -19,7 +19,7 @@ impl Game {
         self.was_checked();
         other.was_checked();
         for place in 0..list.len() {
-            list[place] = self.renumbered(list[place], other);
+            list[place] = self.renumber(list[place], other);
         }
         list.sort_unstable_by_key(|coalition| u64::MAX - coalition.mask());
     }
@@ -27,7 +27,7 @@ impl Game {
     /// Returns the coalition of another game with the members of a coalition of this one.
     ///
     /// The other game has as many members, and may have them at other rank places.
-    pub fn renumbered(&self, coalition: Coalition, other: &Game) -> Coalition
+    pub fn renumber(&self, coalition: Coalition, other: &Game) -> Coalition
         requires members { length other.now.names ≡ length self.now.names }
         requires below { coalition < 2 ^ length self.now.names }
         ensures same { HaveSameMembers self.now other.now coalition result }

@@ -4,7 +4,7 @@ use std::io;
 
 /// A line that may stand on a terminal.
 pub trait Wipe {
-    /// Wipes the line, where it was written.
+    /// Wipes the line, if it was written.
     fn wipe(&self);
 }
 

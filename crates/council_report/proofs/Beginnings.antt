@@ -46,7 +46,7 @@ before-all n c k le none =
     let m = n - k in
     let e : k + m ≡ n = omega (arith, le) in grind (arith, nat_tests, common_steps, before-further)
 
--- those of the places from k on come behind
+-- those of the places from k on come after
 pub before-front : (n c k j : ℕ) → k ≤ j → (rest : List ℕ) × (places_before n c j ≡ places_before n c k ++ rest)
 unfolding places_before
 before-front n c k j le =
@@ -104,7 +104,7 @@ pub weights-all : (g : GameView) → IsGame g → (r c : ℕ) → r < length g.r
 unfolding weight_of_places weights_under places_before
 weights-all g game r c lt = grind (arith, nat_tests, rule-is, weighs-its-members)
 
--- where there is no rule, nothing weighs anything
+-- if there is no rule, nothing weighs anything
 pub under-none : (g : GameView) (r p : ℕ) → length g.rules ≤ r → slice_index (weights_under g r) p ≡ 0
 unfolding weights_under
 under-none g r p past = grind (arith, nat_tests, length-map, get_or_past)

@@ -37,7 +37,7 @@ differs n a b few below_a below_b =
       | inr ge ↦ ge
     ] in grind (arith, same-digit, bit_at_above)
 
--- behind its last member none is in
+-- after its last member none is in
 pub none-behind : (n c : ℕ) → n ≤ 40 → 0 < c → c < 2 ^ n → (trailing_zeros w64 c ≤ n) × HasNoneFrom n (n - trailing_zeros w64 c) c
 unfolding has
 none-behind n c few pos below =

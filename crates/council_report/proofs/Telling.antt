@@ -1,4 +1,4 @@
--- Texts told one after another, and where one stops.
+-- Texts written one after another, and where one stops.
 use Rattle.council_report.proofs.Imports.{arith, append_assoc, length-append, subst, append-nil, Progress, Calls, Ends, StopsIn, HasStopped}
 use Rattle.council_report.proofs.Imports.{◌≡◌, ◌++◌, ℕ, List, [], Result, Ok, Err, sym, ap, ◌∙◌, progress_of, Advances, Block, length, ◌+◌}
 

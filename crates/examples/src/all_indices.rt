@@ -11,12 +11,12 @@ use mwc_walk::list_all;
 use power_index::{Counts, MemberIndices, all_indices};
 use std::alloc::Global;
 
-/// Both indices of each member, in the order of the file; none where the game has more than
-/// 4,000,000 minimal winning coalitions.
+/// Returns both indices of each member, in the order of the file, or `None` if the game has more
+/// than 4,000,000 minimal winning coalitions.
 ///
 /// # Errors
 ///
-/// `Memory` where a growth was refused.
+/// `Memory` if an allocation was refused.
 pub fn indices_of(alloc: Global, game: &Game) -> Result<Option<Vec<MemberIndices>>, Memory>
     ensures indices { IfOk result (λ o. IfSome o (λ v. v.items ≡
         map (indices_of_member game.now (minimal_coalitions (votes_of game.now))) (members game.now))) }

@@ -45,7 +45,7 @@ collects-less g P k a lt is fails = record {
   after = λ i li from. is.after i li (omega (arith, from));
 }
 
--- where all others lose together, a member is a vetoer
+-- if all others lose together, a member is a vetoer
 pub needed : (g : GameView) (i all others : ℕ) → i < length g.names
     → ((a c : ℕ) → IsSubsetOf g a c → wins (votes_of g).rules a ≡ true → wins (votes_of g).rules c ≡ true)
     → ((k : ℕ) → k < length g.names → contains g k all ≡ true)

@@ -12,7 +12,7 @@ distinct_places g game i j li lj same =
     let are = ranks-are g game in
     sym (are.member_back i li) ∙ ap (member_at g.ranks) same ∙ are.member_back j lj
 
--- a name that stands before is a repeat
+-- a name that comes before is a repeat
 repeats : (names : List (List ℕ)) (i j : ℕ) → i < j → j < length names → get_or names i [] ≡ get_or names j [] → is_repeat names j ≡ true
 repeats names i j before below same = grind (arith, list_any_at, length-take, bytes_eq-Decides, get_or-take)
 

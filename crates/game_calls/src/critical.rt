@@ -23,7 +23,7 @@ pub fn is_critical(game: &Game, coalition: Coalition, member: usize) -> bool
 ///
 /// # Errors
 ///
-/// `Memory` where a growth was refused.
+/// `Memory` if an allocation was refused.
 pub fn critical_members(
     alloc: Global,
     game: &Game,

@@ -46,7 +46,7 @@ pub fn names_are_distinct()
         → slice_index_or g.names i [] ≡ slice_index_or g.names j [] → i ≡ j }
 {}
 
-/// A coalition wins that has a subset that wins.
+/// A coalition wins if a subset of it wins.
 #[tactic(auto, using(crate::proofs::Minimal::larger))]
 pub fn larger_coalitions_win()
     ensures votes { (v : Votes) → IsVotes v → (a c : ℕ) → IsSubset v.members a c
@@ -125,7 +125,7 @@ pub fn lowest_terms_keep_order()
         fraction_cmp (lowest_terms p) (lowest_terms q) ≡ fraction_cmp p q }
 {}
 
-/// Fractions with bottoms above 0 have the same lowest terms exactly where they are the same
+/// Fractions with bottoms above 0 have the same lowest terms exactly if they are the same
 /// number.
 #[tactic(auto, using(crate::proofs::Ordered::apart))]
 pub fn lowest_terms_tell_fractions_apart()

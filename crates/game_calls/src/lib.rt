@@ -12,16 +12,16 @@
 mod critical;
 mod indices;
 pub mod laws;
-mod made;
 mod membership;
 mod names;
-mod needed;
-mod walked;
+mod new_games;
+mod veto;
+mod walk_count;
 
 pub use critical::{critical_members, is_critical};
 pub use indices::member_indices;
-pub use made::{at_quota, game_from_slices, with_rules, with_weights};
 pub use membership::{everyone, has_member, outsiders, with_member, without_member};
 pub use names::{coalition_named, first_unnamed};
-pub use needed::{is_vetoer, vetoers};
-pub use walked::count_by_walk;
+pub use new_games::{at_quota, game_from_slices, with_rules, with_weights};
+pub use veto::{is_vetoer, vetoers};
+pub use walk_count::count_by_walk;

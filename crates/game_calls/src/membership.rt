@@ -14,7 +14,7 @@ pub fn has_member(game: &Game, coalition: Coalition, member: usize) -> bool
     coalition.has(game.members(), game.place_of(member))
 }
 
-/// The coalition with a member besides; the same where that member is in.
+/// The coalition with a member besides; the same if that member is in.
 pub fn with_member(game: &Game, coalition: Coalition, member: usize) -> Coalition
     requires { member < length game.now.names }
     ensures mask { result ≡ if contains game.now member coalition
@@ -28,7 +28,7 @@ pub fn with_member(game: &Game, coalition: Coalition, member: usize) -> Coalitio
     coalition.with(game.members(), game.place_of(member))
 }
 
-/// The coalition without a member; the same where that member is not in.
+/// The coalition without a member; the same if that member is not in.
 pub fn without_member(game: &Game, coalition: Coalition, member: usize) -> Coalition
     requires { member < length game.now.names }
     ensures mask { result ≡ if contains game.now member coalition

@@ -16,7 +16,7 @@ fn is_unnamed(game: &Game, name: &str) -> bool
     }
 }
 
-/// The place of the first of these names that no member has; none where each has a member.
+/// The place of the first of these names that no member has; none if each has a member.
 pub fn first_unnamed(game: &Game, names: &[&str]) -> Option<usize>
     ensures place { result ≡ position (λ name. is_unnamed game.now name.now) names.now }
     ensures bound { IfSome result (λ k. k < length names.now) }

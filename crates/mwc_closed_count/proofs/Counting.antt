@@ -43,7 +43,7 @@ pub filter-map : {X Y : Type 0} (p : Y → Bool) (f : X → Y) (xs : List X) →
 filter-map p f [] = refl
 filter-map p f (x ∷ xs) = grind (arith, nat_tests, filter-map p f xs)
 
--- of what passes one test, what passes another, where this passes the first
+-- of what passes one test, what passes another, if this passes the first
 pub filter-within : {X : Type 0} (p q : X → Bool) (xs : List X) → All (λ y. q y ≡ true → p y ≡ true) xs → filter q (filter p xs) ≡ filter q xs
 filter-within p q xs all = grind (arith, filter-both, filter-same, nat_tests)
 

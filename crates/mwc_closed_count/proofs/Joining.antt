@@ -1,4 +1,4 @@
--- As many coalitions pass one test as pass another, and sets that win where they win under two
+-- As many coalitions pass one test as pass another, and sets that win if they win under two
 -- conditions.
 use Rattle.mwc_closed_count.proofs.Imports.{◌≡◌, ◌∙◌, ◌↔◌, ◌==◌, ◌&&◌, ℕ, ◌^◌, ◌<◌, Bool, true, false, List, length, get_or, filter, sym}
 use Rattle.mwc_closed_count.proofs.Imports.{nat_tests, not, ◌||◌, true_from_ne_false, ◌+◌, size, eqb, ap, refl, arith, sum_by}
@@ -18,7 +18,7 @@ pub record ArePairs (p : ℕ → Bool) (q : ℕ → ℕ → Bool) (one two : ℕ
   pub whole : (x y : ℕ) → x < a → y < b → q x y ≡ true → (p (both x y) ≡ true) × (one (both x y) ≡ x) × (two (both x y) ≡ y)
 
 module _ {p : ℕ → Bool} {q : ℕ → ℕ → Bool} {one two : ℕ → ℕ} {both : ℕ → ℕ → ℕ} {n a b : ℕ} (are : ArePairs p q one two both n a b) where
-  -- a number with its pair, where it passes t
+  -- a number with its pair, if it passes t
   of : (ℕ → Bool) → ℕ → ℕ → ℕ → ℕ
   of t c x y = one_if ((c == both x y) && (q x y && t c))
 
@@ -58,7 +58,7 @@ pub record Holds (n : ℕ) (won : (ℕ → Bool) → Bool) (m : ℕ) (ranks : Li
 abbrev pub Sees : ℕ → (ℕ → Bool) → ((ℕ → Bool) → Bool) → Type 0
 Sees n side won = (f h : ℕ → Bool) → ((i : ℕ) → i < n → side i ≡ true → f i ≡ h i) → won f ≡ won h
 
--- a set wins where it wins in both, and these see no member both
+-- a set wins if it wins in both, and these see no member both
 pub record IsJoint (n : ℕ) (own other : ℕ → Bool) (won_g won_a won_b : (ℕ → Bool) → Bool) : Type 0 where
   pub both : (f : ℕ → Bool) → won_g f ≡ (won_a f && won_b f)
   pub sees_own : Sees n own won_a

@@ -17,7 +17,7 @@ use Rattle.subset_counts.specs.MinimalCounts.{choose, fill, minimal_count, left_
 use Rattle.mwc_closed_count.proofs.Counting.{filter-none, filter-same, count, count-and, count-first, count-never, count-parted, filter-first}
 use Rattle.council_game.specs.Votes.{IsRanked}
 
--- where all weigh the same
+-- if all weigh the same
 pub alike-weight : (ws : List ℕ) (e c : ℕ) → ((p : ℕ) → p < length ws → get_or ws p 0 ≡ e) → weight ws c ≡ size (length ws) c * e
 alike-weight ws e c same =
     let has_it : ℕ → ℕ = λ p. cond (has (length ws) p c) 1 0 in
@@ -62,7 +62,7 @@ heads-law v heads c votes two asks below =
     grind (arith, same, minimal-min v c, parts, minimal-min (first_rule v) c, first-wins v.rules c votes.has_rule)
 
 -- a coalition that members lead to, from a need and a number of members: if the first meets the
--- need, others behind it fill it up to the heads
+-- need, others after it fill it up to the heads
 unfoldable pub leads : List ℕ → ℕ → ℕ → ℕ → ℕ → Bool
 leads [] heads need a c = false
 leads (w ∷ ws) heads need a c =
@@ -79,7 +79,7 @@ leads-in : (w : ℕ) (ws : List ℕ) (heads r a c : ℕ) → leads (w ∷ ws) he
 unfolding leads
 leads-in w ws heads r a c = grind (arith, cond-false, le-ltb)
 
--- ---- how many coalitions of n places that have none of place p have a size; all, where p is no
+-- ---- how many coalitions of n places that have none of place p have a size; all, if p is no
 -- place
 abbrev lacks : ℕ → ℕ → ℕ → Bool
 lacks n p c = not (ltb p n && has n p c)
@@ -172,7 +172,7 @@ leads-are ws heads r c falls pos lt =
     let parts = by-heads (length ws) (λ x. leb r (weight ws x)) heads c in
     grind (arith, nat_tests, none-or-some, last-in, last-behind, by-last ws heads r 0 c pos lt, parts, least-weights ws r c)
 
--- ---- the list of them, where no heads are asked for
+-- ---- the list of them, if no heads are asked for
 nobody : (n : ℕ) → filter (λ c. size n c == 0) (down (2 ^ n)) ≡ 0 ∷ []
 unfolding down
 nobody zero = refl

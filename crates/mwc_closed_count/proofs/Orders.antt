@@ -9,7 +9,7 @@ use Rattle.mwc_closed_count.specs.Orders.{HaveTheSameRules}
 use Rattle.mwc_closed_count.proofs.{Joining.Holds, Joining.alike-count, Placed.game-holds, Placed.met-looks, Placed.seen-contains}
 use Rattle.mwc_closed_count.proofs.{Completing.same_test, Seating.alike-size, Seating.seen}
 
--- two games of the same members, who win in the one where they win in the other
+-- two games of the same members, who win in the one if they win in the other
 module _ (g h : GameView) (is_g : IsGame g) (is_h : IsGame h) (same : AreRulesOf g (length h.names) h.rules) where
   abbrev AreAlike : ℕ → ℕ → Type 0
   AreAlike c d = (i : ℕ) → i < length g.names → seen (length g.names) g.ranks c i ≡ seen (length h.names) h.ranks d i

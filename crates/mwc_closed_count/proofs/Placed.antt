@@ -64,7 +64,7 @@ module _ {g : GameView} (is : IsGame g) where
       (length-weights_by_rank g.ranks r.weights ∙ game-seats.are.count) (λ p lt. grind (arith, ranked-at g.ranks r p, game-seats.are.count)) in
       grind (arith, wins-each rs c, same)
 
-  -- a coalition is minimal exactly where its members are
+  -- a coalition is minimal exactly if its members are
   pub game-holds : (n : ℕ) → length g.names ≡ n → Holds n (met n g.rules) (length g.names) g.ranks (minimal (votes_of g))
   game-holds n e = subst (λ (n : ℕ). Holds n (met n g.rules) (length g.names) g.ranks (minimal (votes_of g))) e (record {
     seats = game-seats;

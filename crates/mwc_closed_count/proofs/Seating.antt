@@ -69,7 +69,7 @@ module _ {n m : ℕ} {ranks : List ℕ} (is : IsSeating n m ranks) where
       let kept = has-kept m (get_or ranks j 0) (get_or ranks i 0) c in
       grind (arith, nat_tests, cases_eq j i, has-gone m (get_or ranks i 0) c, kept, is.are.member_back j lj, is.are.member_back i li)
 
-  -- a sum over the members, by place, where those with no place add nothing
+  -- a sum over the members, by place, if those with no place add nothing
   pub placed-sum : (u : ℕ → ℕ) → ((i : ℕ) → i < n → m ≤ get_or ranks i 0 → u i ≡ 0)
       → sum_by u (range_with_len 0 n) ≡ sum_by (λ p. u (member_at ranks p)) (range_with_len 0 m)
   placed-sum u none =
@@ -84,7 +84,7 @@ module _ {n m : ℕ} {ranks : List ℕ} (is : IsSeating n m ranks) where
   pub seen-size : (c : ℕ) → sum_by (λ i. one_if (seen m ranks c i)) (range_with_len 0 n) ≡ size m c
   seen-size c = seen-sum (λ i b. one_if b) (λ i. refl) c ∙ sym (length-filter (λ p. has m p c) (range_with_len 0 m))
 
-  -- a coalition is minimal where its set is
+  -- a coalition is minimal if its set is
   pub least-min : (won : (ℕ → Bool) → Bool) → LooksAt n won → (c : ℕ) → IsLeast n won (seen m ranks c) ↔ IsMin m (λ x. won (seen m ranks x)) c
   least-min won looks c =
       let fewer = λ (i : ℕ) (li : i < n) (inside : seen m ranks c i ≡ true).

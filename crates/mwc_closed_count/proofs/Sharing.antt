@@ -22,7 +22,7 @@ have_common_member-self n r fair =
     grind (arith, nat_tests, some, have_common_member-at n, alike-sum r.weights 0, good-met r fair.quota, good-some r fair.quota)
 
 -- ---- lists
--- what passes a test stands among what passes it
+-- what passes a test is among what passes it
 in-filter : {X : Type 0} (p : X → Bool) (xs : List X) (j : ℕ) (d : X) → j < length xs → p (get_or xs j d) ≡ true → 0 < length (filter p xs)
 in-filter p [] j d lt passes = absurd (omega (arith, lt))
 in-filter p (x ∷ xs) j d lt passes = grind (arith, nat_tests, in-filter p xs (j - 1) d)
@@ -36,7 +36,7 @@ pub sides-few : (q : RuleView → Bool) (rs : List RuleView) → length (side tr
 unfolding side
 sides-few q rs = length-filter_both q (λ x. not (q x)) (λ x. refl) rs
 
--- where no others are, all pass
+-- if there are no others, all pass
 pub all-pass : (q : RuleView → Bool) (rs : List RuleView) → length (side false q rs) ≡ 0 → side true q rs ≡ rs
 unfolding side
 all-pass q [] none = refl

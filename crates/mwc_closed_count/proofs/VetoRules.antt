@@ -1,4 +1,4 @@
--- Members that can veto, what is left of the rules where all of them agree, and rules that a game
+-- Members that can veto, what is left of the rules if all of them agree, and rules that a game
 -- can have.
 use Rattle.mwc_closed_count.proofs.Imports.{sum_by-range-more, RuleView, sum-plus, get_or, wins, Votes, IsVotes, rule_at, length-map, filter-append}
 use Rattle.mwc_closed_count.proofs.Imports.{sum_by, range_with_len, sum_by-cons, sum-range, ◌≡◌, ◌∙◌, ℕ, suc, ◌+◌, ◌*◌, ◌<◌, Bool, true, false, met}
@@ -23,7 +23,7 @@ pub row-sum : (ws : List ℕ) (n : ℕ) → length ws ≡ n → sum ws ≡ sum_b
 row-sum ws n long = ap sum (fill_by_all (λ i. get_or ws i 0) ws n 0 long (λ k lt. refl)) ∙ sum-map (λ i. get_or ws i 0) (range_with_len 0 n)
 
 -- what a coalition weighs
--- where all weigh the same
+-- if all weigh the same
 pub alike-sum : (ws : List ℕ) (e : ℕ) → ((p : ℕ) → p < length ws → get_or ws p 0 ≡ e) → sum ws ≡ length ws * e
 alike-sum [] e same = omega arith
 alike-sum (w ∷ ws) e same =
@@ -87,7 +87,7 @@ asking-met : (n : ℕ) (rs : List RuleView) (f : ℕ → Bool) → met n rs f �
 asking-met n [] f = refl
 asking-met n (r ∷ rs) f = grind (arith, nat_tests, asking-met n rs f)
 
--- members win where all vetoers are among them, and the others meet what is left of the rules
+-- members win if all vetoers are among them, and the others meet what is left of the rules
 pub vetoers-both : (n : ℕ) (rs : List RuleView) (f : ℕ → Bool) → All (λ r. length r.weights ≡ n) rs
     → met n rs f ≡ met n (rules_beside n (can_veto rs) rs) f
 vetoers-both n rs f full =

@@ -33,7 +33,7 @@ have_common_member n a b = list_any (λ i. nat_lt 0 (slice_index a.weights i) &&
 abbrev pub chamber_of : ℕ → List RuleView → RuleView → List RuleView
 chamber_of n rs r = filter (have_common_member n r) rs
 
--- of pairs, how many have size s together, where f and h are how many have each size
+-- of pairs, how many have size s together, if f and h are how many have each size
 abbrev pub paired : (ℕ → ℕ) → (ℕ → ℕ) → ℕ → ℕ
 paired f h s = sum_by (λ j. f j * h (s - j)) (range_with_len 0 (s + 1))
 

@@ -8,7 +8,7 @@ use Rattle.mwc_closed_count.specs.Heads.{are_of_one_chamber}
 use Rattle.mwc_closed_count.specs.Vetoers.{can_veto, rest_of, rule_for}
 
 -- the rule that asks for each of n members who passes a test, and what some rules ask of the others
--- where all of these agree; those that ask for nothing are left out
+-- if all of these agree; those that ask for nothing are left out
 abbrev pub rules_beside : ℕ → (ℕ → Bool) → List RuleView → List RuleView
 rules_beside n f rs = filter (λ r. nat_lt 0 r.quota) (rule_for n f ∷ map (rest_of n f) rs)
 

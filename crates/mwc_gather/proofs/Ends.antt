@@ -75,7 +75,7 @@ head_of {X} P x xs ys e a = All-head P x xs (subst (λ (l : List X). All P l) e 
 pub one_done : (done rest old all : List WorkerHandle) (d : WorkerHandle) → old ≡ d ∷ rest → done ++ old ≡ all → (done ++ d ∷ []) ++ rest ≡ all
 one_done done rest old all d e f = append_assoc done (d ∷ []) rest ∙ ap (λ (w : List WorkerHandle). done ++ w) (sym e) ∙ f
 
--- where no fault was met, the parts are complete
+-- if there was no fault, the parts are complete
 pub completes : {g : Slicing} {most workers : ℕ} {early : Bool} {scheduler : Scheduler} (handles : List WorkerHandle) (parts : List Part)
     → AssignsTo g most early scheduler handles → early ≡ false → length handles ≡ workers → 0 < workers
     → AllZip (IsPartOfWorker g) handles parts → IsComplete g workers parts

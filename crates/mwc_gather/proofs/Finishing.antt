@@ -17,12 +17,12 @@ pub noted_after : (start met after : Option GatherFault) (whys : List (Option Ga
     → after ≡ first_of_all met (w ∷ []) → after ≡ first_of_all start (whys ++ w ∷ [])
 noted_after start met after whys w e f = f ∙ ap (λ (m : Option GatherFault). first_of_all m (w ∷ [])) e ∙ sym (noted_more start whys w)
 
--- where there is no room for a part
+-- if there is no room for a part
 pub memory_ends : (g : Slicing) (most : ℕ) (d : WorkerHandle) → CanEndWith g most d (Some Memory)
 memory_ends g most d = (λ e. cc, λ e. refl, λ e. absurd cc)
 
 -- some of the workers have ended, and the rest are still to be joined: what was met follows from
--- their answers, and where nothing was met all of them are parts
+-- their answers; if there was no fault, all of them are parts
 pub record Finishing (g : Slicing) (most : ℕ) (start : Option GatherFault) (handles rest : List WorkerHandle) (met : Option GatherFault) (parts : List Part) : Type 0 where
   pub all_of : AllOf g most rest
   pub within : All (λ (d : WorkerHandle). coalition_count g d.given.items ≤ all_total g) rest
@@ -90,7 +90,7 @@ module _ {g : Slicing} {most : ℕ} {start met after : Option GatherFault} {hand
       (λ n. let kept = f.none (sym same ∙ n) in
       (kept.0, rw e (all_zipped_more (IsPartOfWorker g) f.done parts d p kept.1 (part own))))
 
--- all have ended: where nothing was met, the parts are complete
+-- all have ended: if there was no fault, the parts are complete
 pub all_complete : {g : Slicing} {most workers : ℕ} {start met : Option GatherFault} {scheduler : Scheduler} (handles rest : List WorkerHandle)
     (parts : List Part) → Finishing g most start handles rest met parts → rest ≡ [] → met ≡ None
     → AssignsTo g most (is_some start) scheduler handles → length handles ≡ workers → 0 < workers → IsComplete g workers parts

@@ -126,7 +126,7 @@ pub first_held : (hs : List ℕ) (w : ℕ) → w < length hs → ((v : ℕ) → 
     × (slices_held_by hs w ≡ w ∷ rest)
 first_held hs w l h = begins_with w 0 hs w (omega arith) l (λ v b. omega arith)
 
--- the first slice of worker w is slice w, where there are more than w slices and workers
+-- the first slice of worker w is slice w, if there are more than w slices and workers
 pub slices_held_begin : {n k : ℕ} {early stopped : Bool} {marks : List (Option ℕ)} (handles : List WorkerView)
     → AssignsInTurn n k early marks stopped handles → stopped ≡ false → k ≡ length handles → (w : ℕ) → w < k → w < n → (rest : List ℕ)
     × (get_or (given_slices handles) w [] ≡ w ∷ rest)

@@ -49,7 +49,7 @@ memory_or_cut true cut why e = inl (refl, cc)
 memory_or_cut false true why e = inr (refl, refl, cc)
 memory_or_cut false false why e = cc
 
--- what a builder of all words is, where nothing keeps it from being a part
+-- what a builder of all words is, if nothing keeps it from being a part
 pub whole_sent : {g : Slicing} {most : ℕ} {given : List ℕ} {dismissed : Bool} {builder : PartBuilder} (h : HasAllWords g most given dismissed builder)
     → fault_in_builder builder ≡ None → IsSentWhole g most given dismissed h.words
 whole_sent {builder = builder} h e = all_sent h.settled (sym h.keeps.cut_is ∙ (kept_by builder.out_of_memory builder.cut e).1)

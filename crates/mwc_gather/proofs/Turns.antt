@@ -69,7 +69,7 @@ ill_set [] i s t l e h = absurd (omega arith)
 ill_set (x ∷ handles) zero s t l e h = or_moves (has_failed t) (list_any has_failed handles) (has_failed x) (λ q. h (ap has_failed e ∙ q))
 ill_set (x ∷ handles) (suc i) s t l e h = grind (arith, ill_set handles i s t (omega arith) e h, or_assoc)
 
--- the scheduler is stopped exactly where it should be after a turn too
+-- the scheduler is stopped exactly if it should be, after a turn too
 pub stops_then : (early : Bool) (handles : List WorkerView) (stopped stops : Bool) (i : ℕ)
     (s t : WorkerView) {done : Bool} {marks after : List (Option ℕ)} → i < length handles → s ≡ get_or handles i s
     → TakesTurn done marks stopped s i after stops t → stopped ≡ (early || list_any has_failed handles)
@@ -84,7 +84,7 @@ none_ill [] a = refl
 none_ill (s ∷ handles) a = ap (λ (z : Bool). z || list_any has_failed handles) (not_ill s (All-head HasNotFailed s handles a))
     ∙ none_ill handles (All-tail HasNotFailed s handles a)
 
--- where no start failed and no refusal was met, the scheduler goes on
+-- if no start failed and nothing was refused, the scheduler goes on
 pub well_goes_on : {n k : ℕ} {early stopped : Bool} {marks : List (Option ℕ)} (handles : List WorkerView) → early ≡ false
     → AssignsInTurn n k early marks stopped handles → All HasNotFailed handles → stopped ≡ false
 well_goes_on handles z d a = d.in_order.stops_are ∙ ap (λ (b : Bool). b || list_any has_failed handles) z ∙ none_ill handles a
@@ -213,7 +213,7 @@ none_left {free} {stopped} (s ∷ handles) l z a b =
       | inr y ↦ absurd (false≢true (sym z ∙ y))
     ]
 
--- where nothing was refused, and a worker was dismissed, all slices are given
+-- if nothing was refused, and a worker was dismissed, all slices are given
 pub all_assigned : {n k : ℕ} {stopped early : Bool} {marks : List (Option ℕ)} (handles : List WorkerView) → early ≡ false → 0 < length handles
     → AssignsInTurn n k early marks stopped handles → All HasNotFailed handles → All (λ (s : WorkerView). s.dismissed ≡ true) handles
     → AreAssigned n (given_slices handles)

@@ -52,7 +52,7 @@ module _ {all : List ℕ} {j wanted left : ℕ} {before : List Word} where
         omega arith,
       )
 
-  -- with the word that ends it, where nothing is to come
+  -- with the word that ends it, if nothing is to come
   whole_row : {out row : List Word} (g : Slicing) → g.slice j ≡ all → UnderWay all j wanted left before [] out row
       → SendsFirst before (slice_words g j) out (row ++ Done j ∷ [])
   whole_row {out} {row} g e u =

@@ -28,7 +28,7 @@ count_is : (j : ℕ) (parts : List Part)
 count_is j [] = refl
 count_is j (p ∷ parts) = grind (arith, nat_tests, common_steps, count_is j parts, sum_by-append, sum_by-cons)
 
--- where all slices are given, the parts have each once
+-- if all slices are given, the parts have each once
 pub assigned_each_once : {n : ℕ} (parts : List Part) → AreAssigned n (part_slices parts) → HasEachSliceOnce n parts
 assigned_each_once parts d j = count_is j parts ∙ assigned_once j d
 

@@ -18,13 +18,13 @@ pub ahead_more : (n : ℕ) (before row after : List Word) → after ≡ before +
     → n ≤ count_by is_done after + 1
 ahead_more n before row after e l = grind (arith, common_steps)
 
--- and none where it was idle, or has said that it is done
+-- and none if it was idle, or has said that it is done
 pub idle_more : (n : ℕ) (idle now : Bool) (before row after : List Word) → after ≡ before ++ row → now ≡ (idle || list_any is_done row)
     → n ≤ count_by is_done before + 1 → (idle ≡ true → n ≤ count_by is_done before) → now ≡ true → n ≤ count_by is_done after
 idle_more n true now before row after e f l i z = grind (arith, done_more)
 idle_more n false now before row after e f l i z = grind (arith, done_more, done_counts)
 
--- a worker has ended where it had, or one of the words that it sent more is an End
+-- a worker has ended if it had, or if one of the words that it sent more is an End
 pub ended_after : (ended now : Bool) (before row after : List Word) → after ≡ before ++ row → ended ≡ list_any is_end before
     → now ≡ list_any is_end row → (ended || now) ≡ list_any is_end after
 ended_after ended now before row after more was is = grind (arith, common_steps)

@@ -9,7 +9,7 @@ use Rattle.mwc_pipe.specs.declared.closed.Unfinished.{Unfinished}
 use Rattle.mwc_gather.specs.declared.sent.Sent.{Sent}
 use Rattle.mwc_gather.specs.declared.sent.Sent.TheVariants as sent
 
--- the words of slice j, where it has fewer than `left` coalitions; else those up to coalition
+-- the words of slice j, if it has fewer than `left` coalitions; else those up to coalition
 -- number `left`
 unfoldable pub sending : Slicing → ℕ → ℕ → List Word
 sending g j left = if nat_lt (length (g.slice j)) left then slice_words g j else cut_words g j left

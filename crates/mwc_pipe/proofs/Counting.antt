@@ -74,7 +74,7 @@ module _ {T : Type 0} where
       AreAnswered capacity past ((step, reply) ∷ events)
   answered_more capacity past step reply events e more = grind (arith, common_steps)
 
-  -- the reply to a put while there is room, and where there is none
+  -- the reply to a put while there is room, and if there is none
   put_accepted : (capacity : ℕ) (past : List (Event T)) (x : T) → has_close past ≡ false →
       length (items_out past) ≤ length (items_in past) → length (items_in past) < length (items_out past) + capacity →
       reply_to capacity past (Put x) ≡ Accepted

@@ -80,7 +80,7 @@ module _ {T : Type 0} where
       ∙ rw (list_any-append (λ event. is_close event.0) past ((step, reply_to capacity past step) ∷ []), or-false)
       (or_assoc (has_close past) (is_close step) (list_any is_close steps))
 
-  -- what stands in the past stands in the history
+  -- what is in the past is in the history
   get_past : (capacity : ℕ) (past : List (Event T)) (steps : List (Step T)) (k : ℕ) (event : Event T) →
       slice_get past k ≡ Some event → slice_get (history_after capacity past steps) k ≡ Some event
   get_past capacity past [] k event e = e
@@ -114,7 +114,7 @@ module _ {T : Type 0} where
       let was_shut = shut_after capacity [] (take k steps) ∙ close_before steps i k less close in
       rw (slice_get-map, ← zero-add k, event, was_shut) refl
 
-  -- what stands after these steps
+  -- what is there after these steps
   pub record Replayed (capacity : ℕ) (steps : List (Step T)) (given : List (Reply T)) (ins outs : List T) (pipe : PipeView T) : Type 0 where
     pub given_is : given ≡ replies capacity steps
     pub ins_is : ins ≡ items_in (history capacity steps)
@@ -122,7 +122,7 @@ module _ {T : Type 0} where
     pub leaves : Leaves (history capacity steps) pipe
     pub same : pipe.capacity ≡ capacity
 
-  -- the pipe is closed where a close stands among the steps
+  -- the pipe is closed if a close is among the steps
   pub replayed_closed : (capacity : ℕ) (steps : List (Step T)) (pipe : PipeView T) →
       Leaves (history capacity steps) pipe → pipe.closed ≡ list_any is_close steps
   replayed_closed capacity steps pipe leaves = leaves.closed ∙ shut_after capacity [] steps

@@ -15,7 +15,7 @@ use Rattle.council_base.proofs.Shared.Ranges.{range-more, sum_by-range-more, sum
 use Rattle.mwc_tally.specs.Inner.SliceCounts.{CountedUpTo, CountSlices, CountWhole, AreThreadCounts, slice_of}
 use Rattle.mwc_tally.specs.declared.{thread_counts.ThreadCounts.ThreadCounts, sliced_game.SlicedGame.SlicedGame}
 
--- a walk that is counted as it goes, where c is next
+-- a walk that is counted as it goes, if c is next
 module _ {g : GameView} {whole to_come rest : List ℕ} {c : ℕ} {t : Tables} (next : to_come ≡ c ∷ rest)
     (h : CountedUpTo g whole to_come t) where
   next-joined : h.before ++ c ∷ rest ≡ whole

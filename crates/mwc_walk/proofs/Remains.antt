@@ -98,7 +98,7 @@ one-slice v game = sym (append-nil (slice v 0 0)) ∙ slices-joined v 0 (omega a
 -- what the laws rest on
 pub ruleset slices = (slices-joined, one-slice)
 
--- the first ones are all, where no others are to come
+-- the first ones are all, if no others are to come
 pub lists-all : (g : GameView) (most : ℕ) (list : List ℕ) → IsVotes (votes_of g) → list ≡ take most (slice (votes_of g) 0 0)
     → drop most (slice (votes_of g) 0 0) ≡ [] → ListsAll g most list
 lists-all g most list game first none = grind (arith, one-slice, common_steps, listing-is, length-drop)

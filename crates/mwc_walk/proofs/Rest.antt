@@ -96,7 +96,7 @@ above-not_minimal v p x c game le win low high min =
 pub dead-nothing : (v : Votes) (p x : ℕ) → IsVotes v → p ≤ v.members → reaches v.rules p x ≡ false → NothingBelow v p x
 dead-nothing v p x game le dead = λ c prefix. unfold minimal in grind (arith, and_left, false_from_ne_true, both_ways, loses-below)
 
--- where nothing is below a prefix, it leaves the same
+-- if nothing is below a prefix, it leaves the same
 pub left-nothing : (v : Votes) (k j p x : ℕ) → NothingBelow v p x
     → slice_below v k j ((x + 1) * 2 ^ (v.members - p)) ≡ slice_below v k j (x * 2 ^ (v.members - p))
 unfolding slice_below minimal_below
@@ -111,13 +111,13 @@ left-won v k j p x game le win =
     let e : (x + 1) * 2 ^ (v.members - p) ≡ (x * 2 ^ (v.members - p) + 1) + (2 ^ (v.members - p) - 1) = grind (arith, next-block) in
     grind (arith, filter-down_skip, false_from_ne_true, above-not_minimal)
 
--- c itself, where it is minimal and in the slice
+-- c itself, if it is minimal and in the slice
 pub left-take : (v : Votes) (k j c : ℕ) → minimal v c ≡ true → c / 2 ^ (v.members - k) ≡ 2 ^ k - 1 - j
     → slice_below v k j (c + 1) ≡ c ∷ slice_below v k j c
 unfolding slice_below minimal_below in_slice
 left-take v k j c h inside = grind (arith, cond-true, eq-eqb, filter-down_take)
 
--- where the walk starts, the whole slice is left
+-- when the walk starts, the whole slice is left
 pub left-all : (v : Votes) (k j : ℕ) → k ≤ v.members → j < 2 ^ k
     → slice_below v k j ((2 ^ k - 1 - j + 1) * 2 ^ (v.members - k)) ≡ slice v k j
 unfolding slice_below minimal_below in_slice slice minimal_coalitions
@@ -127,7 +127,7 @@ left-all v k j le below =
     let e : (2 ^ k - 1 - j + 1) * 2 ^ (v.members - k) + (2 ^ v.members - (2 ^ k - 1 - j + 1) * 2 ^ (v.members - k)) ≡ 2 ^ v.members =
     omega arith in grind (arith, filter-filter_skip, past-block)
 
--- where it ends, nothing is
+-- when it ends, nothing is left
 pub left-none : (v : Votes) (k j : ℕ) → slice_below v k j ((2 ^ k - 1 - j) * 2 ^ (v.members - k)) ≡ []
 unfolding slice_below minimal_below in_slice
 left-none v k j = grind (arith, before-block, filter-filter_none)

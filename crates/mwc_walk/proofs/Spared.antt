@@ -81,7 +81,7 @@ module _ {v : Votes} {a : Cursor} (is : CursorIs v a) where
   pub excess-are : (es : List ℕ) → ExcessIs v a.place a.prefix es → AreExcesses v a.place a.prefix es
   excess-are es is-e = λ i below c prefix won. grind (arith, is-e i below, meets i c, there-and-comes i c, sum-here)
 
-  -- where more is needed than can come, nothing wins below
+  -- if more is needed than can come, nothing wins below
   pub out-of-reach : (i need : ℕ) → i < a.rules → get_or (lane_at a.lanes i).rest a.place 0 < need → IsNeed v a.place a.prefix i need
       → NothingBelow v a.place a.prefix
   out-of-reach i need below more comes = λ c prefix. false_from_ne_true _ (λ min.

@@ -104,7 +104,7 @@ module _ {v : Votes} {a : Cursor} (is : CursorIs v a) where
   unfolding LanesAre
   sum-here i below = is.lanes.1 i (omega (arith, below, is.rules))
 
-  -- ---- coming back, where the last place is not a fixed one
+  -- ---- coming back, if the last place is not a fixed one
   module _ (stale : a.fresh ≡ false) (more : a.place ≡ a.bits → ⊥) where
     -- back to the place before, which is not in
     pub back-up : (a.prefix % 2 ≡ 1 → ⊥) → Steps v a On (record a { prefix = a.prefix / 2; place = a.place - 1 })
@@ -159,7 +159,7 @@ module _ {v : Votes} {a : Cursor} (is : CursorIs v a) where
       let here = sum-here i (omega (arith, lt, is.rules)) in rw (own.quota, here) refl))
 
   module _ (fresh : a.fresh ≡ true) where
-    -- a prefix is passed by, where nothing is left below it and no visit is owed
+    -- a prefix is passed by, if nothing is left below it and no visit is owed
     pass-by : slice_below v a.bits a.number (a.prefix * 2 ^ (v.members - a.place)) ≡ slice_below v a.bits a.number
         ((a.prefix + 1) * 2 ^ (v.members - a.place))
         → (length v.rules ≡ 1 → cond (reaches v.rules a.place a.prefix) (a.place - a.bits) 0 ≡ 0)
@@ -229,7 +229,7 @@ module _ {v : Votes} {a : Cursor} (is : CursorIs v a) where
     enter-give fresh m found min =
         rw (found, is.members) (grind (arith, cond-true, cond-false, in-slice, left-take, open-most, left-won, won-visited))
 
--- the lanes, where the walk starts
+-- the lanes, when the walk starts
 pub lanes-first : (v : Votes) (k x m : ℕ) (ls : List Lane) → k ≤ v.members → m ≡ x * 2 ^ (v.members - k) → LanesStand v ls
     → ((i : ℕ) → i < length v.rules → (lane_at ls i).sum ≡ weight (rule_at v.rules i).weights m) → LanesAre v k x ls
 unfolding LanesAre

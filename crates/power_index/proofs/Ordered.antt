@@ -1,4 +1,4 @@
--- Two fractions are ordered by their quotients, and where these are equal by what is left, turned
+-- Two fractions are ordered by their quotients, and if these are equal by what is left, turned
 -- upside down.
 use Rattle.power_index.proofs.Imports.{◌≡◌, ◌∙◌, ◌≢◌, ℕ, suc, ◌+◌, ◌*◌, ◌/◌, ◌%◌, ◌<◌, ◌≤◌, ap, refl, arith, inl, inr, cases_lt, cases_eq}
 use Rattle.power_index.proofs.Imports.{div-add-mod, mod-lt, mul-le-mul, nat_tests}
@@ -23,7 +23,7 @@ below a b c d pos pos' h =
     let more : b * d * suc (a / b) ≤ b * d * (c / d) = mul-le-mul (omega arith) h in
     omega (arith, one, more, parts a b d (a / b) refl, parts c d b (c / d) refl, pos')
 
--- where the quotients differ, or nothing is left of one, these and what is left decide
+-- if the quotients differ, or nothing is left of one, these and what is left decide
 pub decided : (a b c d : ℕ) → 0 < b → 0 < d → (a / b ≡ c / d → a % b ≢ 0 → c % d ≡ 0)
     → ordering_then (nat_cmp (a / b) (c / d)) (nat_cmp (a % b) (c % d)) ≡ nat_cmp (a * d) (c * b)
 decided a b c d pos pos' stop = elim (cases_lt (a / b) (c / d)) [

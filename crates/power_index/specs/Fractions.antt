@@ -43,7 +43,7 @@ unfoldable pub common_divisor_up_to : ℕ → ℕ → ℕ → ℕ
 common_divisor_up_to a b zero = 1
 common_divisor_up_to a b (suc n) = if divides_both a b (suc n) then suc n else common_divisor_up_to a b n
 
--- the greatest common divisor of a and b, where b is above 0
+-- the greatest common divisor of a and b, if b is above 0
 abbrev pub greatest_common_divisor : ℕ → ℕ → ℕ
 greatest_common_divisor a b = common_divisor_up_to a b b
 

@@ -10,7 +10,7 @@ pub sum-alike : (f g : Subset → ℕ) (xs : List Subset) (d : Subset) → ((k :
 sum-alike f g [] d h = refl
 sum-alike f g (x ∷ xs) d h = simp sum_by-cons (omega (arith, h 0 (omega arith), sum-alike f g xs d (λ k lt. h (suc k) (omega arith))))
 
--- a sum behind a place is the sum of what is 0 before it
+-- a sum after a place is the sum of what is 0 before it
 sum-behind : (f g : Subset → ℕ) (n : ℕ) (xs : List Subset) (d : Subset) → ((k : ℕ) → k < n → g (get_or xs k d) ≡ 0)
     → ((k : ℕ) → n ≤ k → k < length xs → f (get_or xs k d) ≡ g (get_or xs k d)) → sum_by f (drop n xs) ≡ sum_by g xs
 sum-behind f g zero xs d none same = sum-alike f g xs d (λ k lt. same k (omega arith) lt)
@@ -30,14 +30,14 @@ here-few subsets t s h half =
 pub fits-few : (need k s : ℕ) (subsets : List Subset) → IsHalf subsets → sum_by (fits need k s) subsets ≤ 2 ^ 20
 fits-few need k s subsets half = grind (arith, nat_tests, half.long, sum_by-le (fits need k s) 1 subsets)
 
--- where the last that is outside does not meet the need, all that meet it are counted
+-- if the last that is outside does not meet the need, all that meet it are counted
 pub all-entered : (need : ℕ) (subsets : List Subset) (t : Fitting) (d : Subset) → AreEntered subsets t → Meet need t.outside subsets → IsHalf subsets
     → (0 < t.outside → (get_or subsets (t.outside - 1) d).weight < need) → AreOfNeed need subsets t
 all-entered need subsets t d h meet half last s =
     let below : (k : ℕ) → k < t.outside → (get_or subsets k d).weight < need = λ k lt. grind (arith, cases_eq) in
     grind (arith, nat_tests, h.here s, below, sum-behind (λ x. one_of_size s x.size) (fits need 0 s) t.outside subsets d)
 
--- ---- behind members of another half
+-- ---- after members of another half
 pub added : (need : ℕ) (subsets : List Subset) (t : Fitting) (k s : ℕ) → AreOfNeed need subsets t
     → cond (leb k s) (get_or t.here (s - k) 0) 0 ≡ sum_by (fits need k s) subsets
 added need subsets t k s h = grind (arith, nat_tests, cases_lt s k, sum-zero subsets)

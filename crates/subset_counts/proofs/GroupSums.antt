@@ -59,7 +59,7 @@ has-low d p m lt = grind (arith, nat_tests, bit_at_cat_low (m / 2 ^ d) d (m % 2 
 has-high : (d p m : ℕ) → d ≤ p → has (p - d) (m / 2 ^ d) ≡ has p m
 has-high d p m le = grind (arith, nat_tests, bit_at_cat_high (m / 2 ^ d) d (m % 2 ^ d) p (mod-lt m (pow_pos d)) le, shr_split m d)
 
--- behind the last digit stands no member
+-- after the last digit there is no member
 has-last : (n p r m : ℕ) → m < 2 ^ n → (r ≡ p) ⊎ (r ≡ n) × (n ≤ p) → has r m ≡ has p m
 has-last n p r m small (inl same) = ap (λ (i : ℕ). has i m) same
 has-last n p r m small (inr past) = grind (arith, bit_at_above)

@@ -15,7 +15,7 @@ pub come-start : (ws : List ℕ) (heads q s : ℕ) (done : List ℕ) (row : List
 come-start ws heads q s done row none is = omega (arith, none, ap (weigh (minimal_count ws heads s)) is)
 
 -- ---- the members from one on
--- what a row comes to without a member behind the next is what it comes to when the next is decided
+-- what a row comes to without a member after the next is what it comes to when the next is decided
 sum-left_out : (k : ℕ) (ws : List ℕ) → sum (left_out k ws) ≤ sum ws
 unfolding left_out
 sum-left_out k [] = omega arith

@@ -33,7 +33,7 @@ unfolding minimal_count
 minimal_count-few [] h s r a less = refl
 minimal_count-few (w ∷ ws) h s r a less = grind (arith, minimal_count-few ws h s (r - w) (a + 1) less, minimal_count-few ws h s r a less, nat_tests)
 
--- of more than are asked for as many as of any, where none are asked for
+-- of more than are asked for as many as of any, if none are asked for
 minimal_count-more : (ws : List ℕ) (h s r a : ℕ) → h < s → minimal_count ws h s r a ≡ minimal_count ws 0 s r a
 unfolding minimal_count
 minimal_count-more [] h s r a more = refl

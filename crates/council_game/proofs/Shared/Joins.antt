@@ -4,7 +4,7 @@ use Rattle.std.proofs.Common.{append_assoc, length-append, flat_map, append-nil}
 use Rattle.std.proofs.lemmas.{Grind.flat_map-append, List.take_more, List.Folds.length-flat_map-take}
 use Rattle.council_game.specs.Joined.{joined_numbers}
 
--- numbers behind others, with the separator before each
+-- numbers after others, with the separator before each
 abbrev behind : List ℕ → List ℕ → List ℕ
 behind s vs = flat_map (λ v. s ++ decimal v) vs
 

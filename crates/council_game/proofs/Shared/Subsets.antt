@@ -8,7 +8,7 @@ use Rattle.council_game.specs.Laws.{ProperSubsetsLose}
 use Rattle.council_base.proofs.Shared.Digits.{has-kept, without-less}
 use Rattle.council_game.proofs.{Monotone.weight-mono, Places.spare-place, Shared.Meanings.needs-each-member}
 
--- where a set wins, each set wins that has all its places
+-- if a set wins, each set wins that has all its places
 pub wins-mono : (n a c : ℕ) (rs : List RuleView) → AllByRecursion (IsRule n) rs → ((i : ℕ) → i < n → a / 2 ^ i % 2 ≤ c / 2 ^ i % 2)
     → wins rs a ≡ true → wins rs c ≡ true
 unfolding wins

@@ -55,7 +55,7 @@ weight-more ws p x b h below =
     let e : x * 2 ^ length (get_or ws p 0 ∷ []) + b ≡ 2 * x + b = omega arith in
     grind (arith, nat_tests, common_steps, take_more, weight-cat, weight-cons, weight-nil)
 
--- Where c has place q besides the places of a, it weighs more by that place.
+-- If c has place q besides the places of a, it weighs more by that place.
 weight-one_more : (ws : List ℕ) (a c k q : ℕ) → k + 1 + q ≡ length ws → a / 2 ^ k % 2 ≡ 0 → c / 2 ^ k % 2 ≡ 1
     → ((i : ℕ) → i ≢ k → a / 2 ^ i % 2 ≡ c / 2 ^ i % 2)
     → weight ws a + get_or ws q 0 ≡ weight ws c

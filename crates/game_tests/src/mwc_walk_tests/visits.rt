@@ -86,7 +86,7 @@ const ORDERS: [[usize; 4]; 24] = [
     [3, 2, 1, 0],
 ];
 
-/// Whether the order leaves all but the first `count` at the end, as they are.
+/// Whether the order leaves all but the first `count` at the end, unchanged.
 fn is_of(order: &[usize; 4], count: usize) -> bool {
     for rule in count..4 {
         if order[rule] != rule {

@@ -31,7 +31,7 @@ module _ {G : Type 0} where
   abbrev pub slices_of : Job G → Slicing
   slices_of job = slicing job.guarded job.bits
 
-  -- all is gathered; or there is a fault, which is TooMany only where there is more than was asked
+  -- all is gathered; or there is a fault, which is TooMany only if there is more than was asked
   -- for
   abbrev pub Answers : Job G → ℕ → Result Gathered GatherFault → Type 0
   Answers job workers r = IfOk r (Gathers (votes_of job.guarded) job.bits workers job.most)

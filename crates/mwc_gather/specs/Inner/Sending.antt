@@ -14,7 +14,7 @@ abbrev pub is_done : Word → Bool
 is_done (Done j) = true
 is_done _ = false
 
--- the word that says that there are no more, where it was said
+-- the word that says that there are no more, if it was said
 abbrev pub end_words : Bool → List Word
 end_words false = []
 end_words true = End false ∷ []

@@ -52,7 +52,7 @@ CanEndWith g most d None = HasNotFailed (view_of d) × (d.dismissed ≡ true)
 CanEndWith g most d (Some why) = (why ≢ Start) × (d.builder.out_of_memory ≡ true → why ≡ Memory)
     × (why ≡ TooMany → most < coalition_count g d.given.items)
 
--- where `workers` workers were to be started, `started` were: all, or fewer, with a fault that kept
+-- if `workers` workers were to be started, `started` were: all, or fewer, with a fault that kept
 -- the next from its start
 abbrev pub HasStarted : ℕ → ℕ → Option GatherFault → Type 0
 HasStarted workers started None = started ≡ workers

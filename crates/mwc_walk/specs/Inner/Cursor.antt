@@ -19,7 +19,7 @@ rest_of_slice v c = slice_below v c.bits c.number (bound v c)
 abbrev pub steps_left : Votes → Cursor → ℕ
 steps_left v c = 128 * bound v c + (if c.fresh then v.members - c.place else 64 + c.place)
 
--- the visits that a fresh prefix came by: one where its last member was taken in, those of the
+-- the visits that a fresh prefix came by: one if its last member was taken in, those of the
 -- fixed places at their end
 abbrev pub new_visit : Cursor → ℕ
 new_visit c = if c.fresh then (if ltb c.bits c.place then c.prefix % 2 else c.bits) else 0
@@ -97,7 +97,7 @@ SomeSteps v a On b = Follows v a b × (rest_of_slice v b ≡ rest_of_slice v a)
 SomeSteps v a (Give m) b = GivesNext v a m b
 SomeSteps v a End b = FindsEnd v a b
 
--- where a walk starts: the whole slice is left, and only the fixed places are visited
+-- when a walk starts: the whole slice is left, and only the fixed places are visited
 pub record Starts (v : Votes) (k j : ℕ) (c : Cursor) : Type 0 where
   pub is : CursorIs v c
   pub bits : c.bits ≡ k

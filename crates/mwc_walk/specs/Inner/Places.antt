@@ -31,7 +31,7 @@ IsExcess v p x i e = (c : ℕ) → c / 2 ^ (v.members - p) ≡ x → wins v.rule
 abbrev pub AreExcesses : Votes → ℕ → ℕ → List ℕ → Type 0
 AreExcesses v p x es = (i : ℕ) → i < length v.rules → IsExcess v p x i (slice_index es i)
 
--- each rule can spare place q, where rule i passes its quota by number i of es
+-- each rule can spare place q, if rule i passes its quota by number i of es
 abbrev pub CanSpare : Votes → List ℕ → ℕ → Type 0
 CanSpare v es q = (i : ℕ) → i < length v.rules → slice_index (rule_at v.rules i).weights q ≤ slice_index es i
 

@@ -12,7 +12,7 @@ use crate::laws::{made_games_have_their_parts, quotas_can_be_changed};
 use council_game::{Game, GameFault, Memory, Rule};
 use std::alloc::{AllocError, Global};
 
-fn copied(alloc: Global, names: &[&str]) -> Result<Vec<String>, AllocError>
+fn copy_all(alloc: Global, names: &[&str]) -> Result<Vec<String>, AllocError>
     ensures { IfOk result
         (λ v. map string_bytes v.items ≡ map (λ name. name.now) names.now) }
 {
@@ -38,7 +38,7 @@ pub fn game_from_slices(
     ensures { Answers result (made_game None (map (λ name. name.now) names.now)
         (record { quota = quota; weights = weights.now } ∷ [])) }
 {
-    let names = copied(alloc, names)?;
+    let names = copy_all(alloc, names)?;
     let weights = Vec::from_slice(alloc, weights)?;
     Game::new(alloc, None, names, weights, quota)
 }
@@ -109,7 +109,7 @@ pub fn with_weights(alloc: Global, game: &Game, weights: Vec<u64>) -> Result<Gam
 ///
 /// # Errors
 ///
-/// Memory where a growth was refused.
+/// Memory if an allocation was refused.
 pub fn at_quota(alloc: Global, game: &Game, quota: u64) -> Result<Game, Memory>
     requires some { 1 ≤ quota }
     requires met { quota ≤ total (rule_at game.now.rules 0) }

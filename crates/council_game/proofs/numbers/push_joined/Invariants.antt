@@ -1,6 +1,6 @@
 use Rattle.std.proofs.Common.{◌≡◌, ◌++◌, ◌≤◌, ℕ, List, length, take, Vec, Global, vec_capacity}
 use Rattle.council_game.specs.{Front.StaysInFront, Joined.joined_numbers, Joined.GivesEach}
-use Rattle.council_game.proofs.joined.push_joined.Given as goal
+use Rattle.council_game.proofs.numbers.push_joined.Given as goal
 
 -- the first r values are there, and the room stays or grows
 pub record FirstPut (gives : ℕ → ℕ → Type 0) (count : ℕ) (separator : List ℕ) (old new : Vec ℕ Global) (r : ℕ) : Type 0 where

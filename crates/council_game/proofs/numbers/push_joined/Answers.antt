@@ -1,9 +1,9 @@
 use Rattle.std.proofs.Common.{ℕ, List, ◌<◌, arith, length, append_assoc, length-append, take_all}
 use Rattle.std.proofs.lemmas.Grind.{common_steps}
-use Rattle.council_game.proofs.joined.push_joined.Goals.{then-r-gt0+in_ok-extend_from_slice, else-r-gt0}
+use Rattle.council_game.proofs.numbers.push_joined.Goals.{then-r-gt0+in_ok-extend_from_slice, else-r-gt0}
 use Rattle.council_game.proofs.{Fronts.further, Fronts.still, Fronts.on-err, Room.takes-not, Room.room-is}
 use Rattle.council_game.proofs.Shared.Joins.{put-first, put-more, more-within, next-within}
-use Rattle.council_game.proofs.joined.push_joined.Goals as goal
+use Rattle.council_game.proofs.numbers.push_joined.Goals as goal
 
 pub loop-r-preserved : goal.loop-r-preserved
 loop-r-preserved g c = record {

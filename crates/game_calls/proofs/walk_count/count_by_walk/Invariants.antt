@@ -1,6 +1,6 @@
 use Rattle.std.proofs.Common.{◌≡◌, ◌+◌, length}
 use Rattle.council_game.specs.{Game.votes_of, Votes.minimal_coalitions}
-use Rattle.game_calls.proofs.walked.count_by_walk.Given as goal
+use Rattle.game_calls.proofs.walk_count.count_by_walk.Given as goal
 
 abbrev pub invariant-loop-coalition : goal.invariant-loop-coalition
 invariant-loop-coalition l = l.count + length l.walk.to_come ≡ length (minimal_coalitions (votes_of l.game))

@@ -2,7 +2,7 @@ use Rattle.std.proofs.Common.{◌∙◌, sym}
 use Rattle.std.proofs.lemmas.Bool.{both_ways, false_from_ne_true, not-true, not_from_false}
 use Rattle.council_game.specs.{Game.votes_of, Votes.wins}
 use Rattle.game_calls.proofs.Collecting.{needed}
-use Rattle.game_calls.proofs.needed.is_vetoer.Goals as goal
+use Rattle.game_calls.proofs.veto.is_vetoer.Goals as goal
 
 pub returns : goal.returns
 returns c =

@@ -3,7 +3,7 @@ use Rattle.council_game.specs.{Fault.Answers, Game.GameView, Game.made_game, Vot
 use Rattle.council_game.specs.declared.fault.GameFault.{GameFault}
 use Rattle.game_calls.specs.Quotas.{with_rules}
 use Rattle.game_calls.proofs.Parts.{IsMadeOf}
-use Rattle.game_calls.proofs.made.with_rules.Goals as goal
+use Rattle.game_calls.proofs.new_games.with_rules.Goals as goal
 
 if-made : (g : GameView) (rules : List RuleView) (r : Result GameView GameFault) → Answers r (made_game g.title g.names rules)
     → IsMadeOf → IfOk r (λ made. made ≡ with_rules g rules)

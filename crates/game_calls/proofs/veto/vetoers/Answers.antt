@@ -2,8 +2,8 @@ use Rattle.std.proofs.Common.{◌<◌, length, arith}
 use Rattle.std.proofs.lemmas.Bool.{both_ways}
 use Rattle.game_calls.specs.Winning.{IsVetoer}
 use Rattle.game_calls.proofs.Collecting.{collects-none, collects-more, collects-less}
-use Rattle.game_calls.proofs.needed.vetoers.Goals.{then-is_vetoer, else-is_vetoer}
-use Rattle.game_calls.proofs.needed.vetoers.Goals as goal
+use Rattle.game_calls.proofs.veto.vetoers.Goals.{then-is_vetoer, else-is_vetoer}
+use Rattle.game_calls.proofs.veto.vetoers.Goals as goal
 
 pub loop-member-init : goal.loop-member-init
 loop-member-init c = collects-none c.args.game.now (IsVetoer c.args.game.now) _ c.none-vetoers.ensures

@@ -12,7 +12,7 @@ use std::alloc::AllocError;
 ///
 /// # Errors
 ///
-/// `AllocError` where a growth was refused; the vector is then unchanged.
+/// `AllocError` if an allocation was refused; the vector is then unchanged.
 pub fn push_decimal(out: &mut Vec<u8>, number: u64) -> Result<(), AllocError>
     ensures items { OnOk result (out.new.items ≡ out.old.items ++ decimal number) }
     ensures err { OnErr result (out.new.items ≡ out.old.items) }
@@ -26,7 +26,7 @@ pub fn push_decimal(out: &mut Vec<u8>, number: u64) -> Result<(), AllocError>
 ///
 /// # Errors
 ///
-/// `AllocError` where a growth was refused; a part of the text may then follow what was there.
+/// `AllocError` if an allocation was refused; a part of the text may then follow what was there.
 pub fn push_joined<F: Fn(usize) -> u64>(
     out: &mut Vec<u8>,
     separator: &[u8],
