@@ -28,7 +28,7 @@ def read(path):
 
 def laws_of(text):
     """The laws of a source: name, doc comment in one line for each paragraph, clauses."""
-    for doc, name, clauses in re.findall(r"((?:^///.*\n)+)(?:#\[.*\n)*pub fn (\w+)(?:<.*>)?\(\)\n((?:    .*\n)+)\{\}", text, re.M):
+    for doc, name, clauses in re.findall(r"((?:^///.*\n)+)(?:#\[.*\n)*pub fn (\w+)(?:<.*>)?\(\)\n((?:    .*\n)+)\{\n?(?:    .*\n)*\}", text, re.M):
         paragraphs = re.sub(r"^/// ?", "", doc, flags=re.M).strip().split("\n\n")
         yield name, [re.sub(r"\s+", " ", it) for it in paragraphs], re.sub(r"^    ", "", clauses, flags=re.M)
 

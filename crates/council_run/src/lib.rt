@@ -10,6 +10,7 @@
 mod counting;
 mod fault;
 mod found;
+pub mod laws;
 mod listing;
 mod number;
 mod order;

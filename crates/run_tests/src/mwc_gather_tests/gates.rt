@@ -209,3 +209,18 @@ fn a_slice_passes_before_its_first_word(rt: HostRuntime) {
         assert_same(&rt, told, (false, true, 0, found), left);
     }
 }
+
+/// Each pass of a guarded game passes the gate once, by its own worker and slice.
+#[test]
+fn a_guarded_game_passes_its_gate(rt: HostRuntime) {
+    let game = five(&rt, rt.alloc());
+    let seen = Seen::new(2);
+    let guarded = Guarded::new(&game, &seen);
+    assert_same(&rt, (seen.count(2), seen.count(3)), (0, 0), "no pass");
+    assert_same(&rt, guarded.pass(1, 3).members(), 5, "members");
+    guarded.pass(0, 2);
+    guarded.pass(0, 2);
+    let other = seen.other.load(Ordering::SeqCst);
+    let passed = (seen.passed_by(3, 1), seen.count(2), other, seen.found());
+    assert_same(&rt, passed, (true, 2, 0, 0), "three passes");
+}
