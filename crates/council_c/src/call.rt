@@ -1,7 +1,7 @@
 //! The call.
 ghost use Rattle.council_c.specs.Answer.{Answers};
 
-use crate::filled::fill;
+use crate::fill::fill;
 use crate::options::CouncilOptions;
 use std::alloc::Global;
 

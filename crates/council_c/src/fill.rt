@@ -136,12 +136,12 @@ pub(crate) fn fill(
     let Some(options) = call.options() else {
         return Err(Fault::Options);
     };
-    let filled = if call.tally {
+    let length = if call.tally {
         put_tally(alloc, bytes, &options, room)
     } else {
         put_list(alloc, bytes, &options, room)
     };
-    match filled {
+    match length {
         Ok(length) => Ok(length),
         Err(fault) => Err(Fault::Run(fault.cause)),
     }

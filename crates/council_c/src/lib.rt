@@ -8,7 +8,7 @@
 
 mod call;
 mod fault;
-mod filled;
+mod fill;
 mod options;
 mod page;
 mod put;

@@ -1,7 +1,7 @@
 -- No line of coalitions, sizes or members is longer than the room that a block keeps for it.
 use Rattle.council_report.proofs.Imports.{◌≡◌, ℕ, ◌+◌, ◌^◌, ◌<◌, ◌≤◌, ◌++◌, List, [], ◌∷◌, length, get_or, map, decimal, Bool, cond, true}
 use Rattle.council_report.proofs.Imports.{zero, suc, arith, length-append, flat_map, range_with_len, length-map, length-range_with_len}
-use Rattle.council_report.proofs.Imports.{GameView, IsGame, votes_of, votes-are, weight-le, table_of_member_size, few-members, Counted}
+use Rattle.council_report.proofs.Imports.{GameView, IsGame, votes_of, votes-are, weight-le, table_of_member_size, few-members, GameCounts}
 use Rattle.council_report.proofs.Imports.{ReportLines, line_of_size, line_of_member, lines_of, with_tab, names_of, coalition_line, size_line}
 use Rattle.council_report.proofs.Imports.{get_or-range_with_len, nat_tests, common_steps, IsRule, weight, member_line}
 use Rattle.std.proofs.lemmas.{Fmt.length-decimal-le, Fmt.length-decimal-le_wide, List.FromFn.length-map-range_with_len, List.Sums.sum_by-le}
@@ -91,7 +91,7 @@ numbers-field : (f : ℕ → ℕ) (a n : ℕ) → ((i : ℕ) → i < a + n → f
 numbers-field f a zero small = tt
 numbers-field f a (suc n) small = (number-field (f a) (small a (omega arith)), numbers-field f (a + 1) n (λ i lt. small i (omega arith)))
 
-pub size-fits : (k : Counted) (s : ℕ) → s ≤ k.members → length (line_of_size k s) ≤ 4096
+pub size-fits : (k : GameCounts) (s : ℕ) → s ≤ k.members → length (line_of_size k s) ≤ 4096
 unfolding size_line
 size-fits k s le =
     let count : ℕ = table_of_size k.counts.now s in
@@ -111,7 +111,7 @@ size-fits k s le =
       ),
     ))
 
-pub member-fits : (k : Counted) (i : ℕ) → i < k.members → length (line_of_member k i) ≤ 4096
+pub member-fits : (k : GameCounts) (i : ℕ) → i < k.members → length (line_of_member k i) ≤ 4096
 unfolding member_line
 member-fits k i lt =
     let inside : i < k.counts.now.members = omega (arith, lt, k.counted_members) in
@@ -136,7 +136,7 @@ chosen-fits : (b : Bool) (text : List ℕ) (n : ℕ) → (b ≡ true → length 
 chosen-fits b text n h = cond_both b text [] (λ t. length t ≤ n) h (λ _. omega arith)
 
 -- 2^40 + 80 lines at most, whose bytes can be counted
-pub lines-count : (shown : ReportLines) (k : Counted) (list : List ℕ) (told : ℕ) → (shown.list ≡ true → length list ≤ 2 ^ 40) → told < 2 ^ 63
+pub lines-count : (shown : ReportLines) (k : GameCounts) (list : List ℕ) (told : ℕ) → (shown.list ≡ true → length list ≤ 2 ^ 40) → told < 2 ^ 63
     → told + length (lines_of shown k list) < 2 ^ 64
 unfolding lines_of
 lines-count shown k list told few small =

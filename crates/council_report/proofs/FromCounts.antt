@@ -1,5 +1,5 @@
 -- The lines from the counts of a list, or from its pieces, are those of the list.
-use Rattle.council_report.proofs.Imports.{Bool, true, false, flat_map, range_with_len, nat_tests, Counted, ReportLines, size_line, line_of_size}
+use Rattle.council_report.proofs.Imports.{Bool, true, false, flat_map, range_with_len, nat_tests, GameCounts, ReportLines, size_line, line_of_size}
 use Rattle.council_report.proofs.Imports.{◌≡◌, ◌∙◌, ◌<◌, ◌≤◌, ◌+◌, ◌++◌, ℕ, zero, suc, List, [], map, length, cond, refl, ap, sym, arith}
 use Rattle.council_report.proofs.Imports.{lines_of, ◌∷◌, cond-true, flat_map-append, GameView, coalition_line, coalition_lines}
 use Rattle.std.proofs.lemmas.List.Folds.{flat_map-map}
@@ -20,7 +20,7 @@ texts-same f h a n m long same = sym (flat_map-map (λ t. t) f (range_with_len a
     ∙ ap (flat_map (λ (t : List ℕ). t)) (range-same f h a n same)
     ∙ flat_map-map (λ t. t) h (range_with_len a n) ∙ ap (λ k. flat_map h (range_with_len a k)) long
 
-size-same : (k : Counted) (list : List ℕ) → AreCounts k.game.now list k.counts.now → (s : ℕ) → s ≤ k.members
+size-same : (k : GameCounts) (list : List ℕ) → AreCounts k.game.now list k.counts.now → (s : ℕ) → s ≤ k.members
     → line_of_size k s ≡ size_line_of k.game.now list s
 unfolding size_line
 size-same k list h s le = grind (arith, nat_tests, range-same)
@@ -30,7 +30,7 @@ shown-same true x y same = same refl
 shown-same false x y same = refl
 
 -- what holds of the report from the counts holds of that over the list
-pub from-counts : (P : List ℕ → Type 0) (shown : ReportLines) (k : Counted) (listed list : List ℕ) (count : ℕ)
+pub from-counts : (P : List ℕ → Type 0) (shown : ReportLines) (k : GameCounts) (listed list : List ℕ) (count : ℕ)
     → P (heading shown k.game.now count ++ lines_of shown k listed) → AreCounts k.game.now list k.counts.now → count ≡ length list
     → (shown.list ≡ true → listed ≡ list) → P (report_over shown k.game.now list)
 unfolding lines_of
@@ -43,7 +43,7 @@ pub texts-joined : {X Y Z : Type 0} (f : Y → List Z) (h : X → List Y) (xs : 
 texts-joined f h [] = refl
 texts-joined {Z} f h (x ∷ xs) = grind (arith, nat_tests, texts-joined f h xs, flat_map-append)
 
--- where they are shown, they are the lines of the list
+-- if they are shown, they are the lines of the list
 pub listed-text : {X : Type 0} (shown : ReportLines) (g : GameView) (h : X → List ℕ) (pieces : List X) → shown.list ≡ true
     → flat_map (λ p. flat_map (coalition_line g) (h p)) pieces ≡ coalition_lines shown g (flat_map h pieces)
 listed-text shown g h pieces is =

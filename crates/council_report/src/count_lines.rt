@@ -8,7 +8,7 @@ ghost use Rattle.council_report.specs.Lines.{with_tab, with_slashes, name_of, we
 ghost use Rattle.council_report.specs.Inner.Ready.{AppendsInRoom};
 ghost use Rattle.council_report.specs.Inner.Lines.{line_of_size, line_of_member};
 
-use crate::counted::Counted;
+use crate::game_counts::GameCounts;
 use crate::output::Block;
 use crate::text::{push_field, push_number, push_values};
 use council_game::Game;
@@ -35,7 +35,7 @@ fn push_index(out: &mut Block, index: Fraction)
 }
 
 /// For each member, how many coalitions of a size contain it.
-fn push_counts(out: &mut Block, counted: &Counted<'_>, size: usize)
+fn push_counts(out: &mut Block, counted: &GameCounts<'_>, size: usize)
     requires { size ≤ counted.now.members }
     ensures { AppendsInRoom out.old out.new (flat_map with_tab (map (λ i. decimal
         (table_of_member_size counted.now.counts.now i size)) (members counted.now.game.now))) }
@@ -46,9 +46,9 @@ fn push_counts(out: &mut Block, counted: &Counted<'_>, size: usize)
 }
 
 /// `size`, a size, how many coalitions have it, and how many of those contain each member; no line
-/// where none has it.
+/// if none has it.
 #[tactic(auto, unfolding(crate::specs::Lines::size_line))]
-pub(crate) fn push_size(out: &mut Block, counted: &Counted<'_>, size: usize)
+pub(crate) fn push_size(out: &mut Block, counted: &GameCounts<'_>, size: usize)
     requires { size ≤ counted.now.members }
     ensures { AppendsInRoom out.old out.new (line_of_size counted.now size) }
 {
@@ -80,7 +80,7 @@ fn push_weights(out: &mut Block, game: &Game, member: usize)
 }
 
 /// A member's name, its weights, and how many coalitions contain it.
-fn push_member_counts(out: &mut Block, counted: &Counted<'_>, member: usize)
+fn push_member_counts(out: &mut Block, counted: &GameCounts<'_>, member: usize)
     requires { member < counted.now.members }
     ensures { AppendsInRoom out.old out.new (with_tab (name_of counted.now.game.now member)
         ++ with_tab (with_slashes (weights_of_member counted.now.game.now member))
@@ -93,7 +93,7 @@ fn push_member_counts(out: &mut Block, counted: &Counted<'_>, member: usize)
 }
 
 /// Both indices of a member.
-fn push_indices(out: &mut Block, counted: &Counted<'_>, member: usize)
+fn push_indices(out: &mut Block, counted: &GameCounts<'_>, member: usize)
     requires { member < counted.now.members }
     ensures { AppendsInRoom out.old out.new (flat_map with_tab
         (index_fields (lowest_terms (table_deegan_packel counted.now.counts.now member))
@@ -105,7 +105,7 @@ fn push_indices(out: &mut Block, counted: &Counted<'_>, member: usize)
 
 /// `member`, a name, its weights, how many coalitions contain it, and its two indices.
 #[tactic(auto, unfolding(crate::specs::Lines::member_line))]
-pub(crate) fn push_member(out: &mut Block, counted: &Counted<'_>, member: usize)
+pub(crate) fn push_member(out: &mut Block, counted: &GameCounts<'_>, member: usize)
     requires { member < counted.now.members }
     ensures { AppendsInRoom out.old out.new (line_of_member counted.now member) }
 {

@@ -9,7 +9,7 @@ use power_index::Counts;
 /// A game, the number of its members, and the counts of a list of its coalitions, of which there
 /// are some, none of them empty. The list itself need not be there.
 #[derive(Drop)]
-pub(crate) struct Counted<'a> {
+pub(crate) struct GameCounts<'a> {
     pub(crate) game: &'a Game,
     pub(crate) members: usize,
     pub(crate) counts: &'a Counts,

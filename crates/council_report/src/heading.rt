@@ -32,7 +32,7 @@ fn push_each_notation(out: &mut Block, game: &Game)
     }
 }
 
-/// A line for the notation of each rule, where they are shown.
+/// A line for the notation of each rule, if they are shown.
 fn push_notations(out: &mut Block, game: &Game, shown: ReportLines)
     ensures { AppendsText out.old out.new (notation_lines shown game.now) }
 {

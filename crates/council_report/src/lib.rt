@@ -5,9 +5,9 @@
 //! ```
 #![tactic(auto)]
 
-mod counted;
-mod counted_lines;
+mod count_lines;
 mod fault;
+mod game_counts;
 mod heading;
 mod lines;
 mod output;

@@ -7,7 +7,7 @@ use crate::output::Block;
 use crate::text::{push_field, push_number, push_values};
 use council_game::Game;
 
-/// `title`, the title; no line where there is none.
+/// `title`, the title; no line if there is none.
 #[tactic(auto, unfolding(crate::specs::Lines::title_line))]
 pub(crate) fn push_title(out: &mut Block, game: &Game)
     ensures { AppendsText out.old out.new (title_line game.now) }

@@ -5,7 +5,7 @@ ghost use Rattle.council_report.specs.Inner.SharedLine.{HasNoneFrom, SameBefore}
 
 use council_game::Coalition;
 
-/// The first of `members` places at which two coalitions differ; `members` where they are the same.
+/// The first of `members` places at which two coalitions differ; `members` if they are the same.
 pub(crate) fn first_difference(members: usize, a: Coalition, b: Coalition) -> usize
     requires few { members ≤ MEMBERS }
     requires a_below { a < 2 ^ members }

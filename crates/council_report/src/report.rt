@@ -15,8 +15,8 @@ ghost use Rattle.council_report.specs.Outcome.{Writes};
 ghost use Rattle.council_report.specs.Sending.{Sending};
 
 use crate::ReportLines;
-use crate::counted::Counted;
 use crate::fault::ReportFault;
+use crate::game_counts::GameCounts;
 use crate::heading::push_heading;
 use crate::output::{Block, WriteFault};
 use crate::shared_line::SharedLine;
@@ -27,7 +27,7 @@ use power_index::Counts;
 use power_index::laws::minimal_coalitions_can_be_counted;
 use std::alloc::Global;
 
-/// A line for each coalition, where they are shown.
+/// A line for each coalition, if they are shown.
 fn put_shown_coalitions<W: Sink>(
     block: &mut Block,
     writer: &mut W,
@@ -50,11 +50,11 @@ fn put_shown_coalitions<W: Sink>(
     }
 }
 
-/// A line for each size, where they are shown.
+/// A line for each size, if they are shown.
 fn put_shown_sizes<W: Sink>(
     block: &mut Block,
     writer: &mut W,
-    counted: &Counted<'_>,
+    counted: &GameCounts<'_>,
     shown: ReportLines,
 ) -> Result<(), WriteFault>
     requires ready { IsReady block.old }
@@ -74,7 +74,7 @@ fn put_shown_sizes<W: Sink>(
 fn put_lines<W: Sink>(
     block: &mut Block,
     writer: &mut W,
-    counted: &Counted<'_>,
+    counted: &GameCounts<'_>,
     pieces: &[&[Coalition]],
     line: &mut SharedLine,
     shown: ReportLines,
@@ -95,7 +95,7 @@ fn put_lines<W: Sink>(
 fn send<W: Sink>(
     mut block: Block,
     writer: &mut W,
-    counted: &Counted<'_>,
+    counted: &GameCounts<'_>,
     pieces: &[&[Coalition]],
     line: &mut SharedLine,
     shown: ReportLines,
@@ -114,7 +114,7 @@ fn send<W: Sink>(
 }
 
 /// Writes the report of a game over a list of its coalitions with these counts. The list need be
-/// there, in pieces, only where it is shown. The lines are made from the counts; that they are
+/// there, in pieces, only if it is shown. The lines are made from the counts; that they are
 /// those of the list is shown here.
 fn write_over<W: Sink>(
     alloc: Global,
@@ -139,7 +139,7 @@ fn write_over<W: Sink>(
         return Err(ReportFault::Memory);
     }
     let mut line = SharedLine::new(alloc, game)?;
-    let counted = Counted {
+    let counted = GameCounts {
         game,
         members: counts.members(),
         counts,
@@ -210,7 +210,7 @@ pub fn write_tally<W: Sink>(
 ///
 /// # Errors
 ///
-/// Memory where a growth was refused; nothing was written then. Write where a write or the flush
+/// Memory if an allocation was refused; nothing was written then. Write if a write or the flush
 /// failed, or a write took nothing; it tells how many bytes the writer took, which are the first
 /// ones of the report.
 pub fn write_report<W: Sink>(

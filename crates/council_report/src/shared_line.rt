@@ -61,7 +61,7 @@ impl SharedLine {
         self.coalition = coalition;
     }
 
-    /// Takes in the next place, where no member of it is in.
+    /// Takes in the next place, if no member of it is in.
     fn pass(&mut self, game: &Game)
         requires line { IsLine game.now self.old }
         requires more { self.old.end < length game.now.names }

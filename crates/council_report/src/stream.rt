@@ -9,8 +9,8 @@ ghost use Rattle.council_report.specs.Inner.Ready.{IsReady, CanCount};
 ghost use Rattle.council_report.specs.Inner.Writing.{WritesText};
 ghost use Rattle.council_report.specs.Sending.{Sending};
 
-use crate::counted::Counted;
-use crate::counted_lines::{push_member, push_size};
+use crate::count_lines::{push_member, push_size};
+use crate::game_counts::GameCounts;
 use crate::output::{Block, WriteFault};
 use crate::shared_line::SharedLine;
 use council_base::Sink;
@@ -66,7 +66,7 @@ pub(crate) fn put_pieces<W: Sink>(
 pub(crate) fn put_sizes<W: Sink>(
     block: &mut Block,
     writer: &mut W,
-    counted: &Counted<'_>,
+    counted: &GameCounts<'_>,
 ) -> Result<(), WriteFault>
     requires ready { IsReady block.old }
     requires counted { CanCount block.old
@@ -85,7 +85,7 @@ pub(crate) fn put_sizes<W: Sink>(
 pub(crate) fn put_members<W: Sink>(
     block: &mut Block,
     writer: &mut W,
-    counted: &Counted<'_>,
+    counted: &GameCounts<'_>,
 ) -> Result<(), WriteFault>
     requires ready { IsReady block.old }
     requires counted { CanCount block.old (lines_of_members counted.now) }

@@ -25,7 +25,7 @@ pub fn of_one_rule(
     Game::new(alloc, None, names, weights, quota)
 }
 
-/// The game of two rules, as of states and of people: a coalition wins where it meets both quotas.
+/// The game of two rules, as of states and of people: a coalition wins if it meets both quotas.
 ///
 /// # Errors
 ///

@@ -17,12 +17,12 @@ use power_index::laws::{
 };
 use std::alloc::Global;
 
-/// Both indices of a member; none where the game has more than 4,000,000 minimal winning
+/// Both indices of a member; none if the game has more than 4,000,000 minimal winning
 /// coalitions.
 ///
 /// # Errors
 ///
-/// `Memory` where a growth was refused.
+/// `Memory` if an allocation was refused.
 pub fn both_indices(
     alloc: Global,
     game: &Game,
@@ -44,7 +44,7 @@ pub fn both_indices(
     Ok(Some((both.deegan_packel, both.public_good)))
 }
 
-/// Both indices of the first member of the game that the bytes hold; none where it has more than
+/// Both indices of the first member of the game that the bytes hold; none if it has more than
 /// 4,000,000 minimal winning coalitions.
 ///
 /// # Errors

@@ -12,12 +12,12 @@ use mwc_walk::list_all;
 use power_index::Counts;
 use std::alloc::Global;
 
-/// Whether a member is a dummy: no minimal winning coalition contains it. None where the game has
+/// Whether a member is a dummy: no minimal winning coalition contains it. None if the game has
 /// more than 4,000,000 of them.
 ///
 /// # Errors
 ///
-/// `Memory` where a growth was refused.
+/// `Memory` if an allocation was refused.
 pub fn is_dummy(alloc: Global, game: &Game, member: usize) -> Result<Option<bool>, Memory>
     requires { member < length game.now.names }
     ensures dummy { IfOk result (λ o. IfSome o (λ dummy. dummy ≡
@@ -36,7 +36,7 @@ pub fn is_dummy(alloc: Global, game: &Game, member: usize) -> Result<Option<bool
 ///
 /// # Errors
 ///
-/// `Memory` where a growth was refused.
+/// `Memory` if an allocation was refused.
 pub fn coalitions_with(
     alloc: Global,
     game: &Game,
@@ -58,12 +58,12 @@ pub fn coalitions_with(
 }
 
 /// All minimal winning coalitions of a game of at most 20 members, by the walk and by trying each:
-/// one list twice. None where there are more than 4,000,000.
+/// one list twice. None if there are more than 4,000,000.
 ///
 /// # Errors
 ///
-/// `Memory` where a growth was refused.
-pub fn listed_twice(
+/// `Memory` if an allocation was refused.
+pub fn list_twice(
     alloc: Global,
     game: &Game,
 ) -> Result<Option<(Vec<Coalition>, Vec<Coalition>)>, Memory>

@@ -6,18 +6,18 @@
 mod all_indices;
 mod best;
 mod blocking;
-mod exchanged;
+mod exchange;
 mod games;
 mod indices;
-mod listed;
-mod named;
+mod lists;
+mod names;
 mod power;
 mod quotas;
 mod reports;
 mod rings;
 mod slices;
 mod tables;
-mod tallied;
+mod tally;
 #[cfg(test)]
 mod tests;
 

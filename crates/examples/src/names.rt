@@ -12,7 +12,7 @@ use council_game::{Game, Memory};
 use game_calls::{coalition_named, critical_members};
 use std::alloc::Global;
 
-/// Whether two members, given by their names, win together; none where the game has no member of a
+/// Whether two members, given by their names, win together; none if the game has no member of a
 /// name.
 pub fn win_together(game: &Game, first: &str, second: &str) -> Option<bool>
     ensures won { IfSome result (λ won. (i j c : ℕ)
@@ -32,12 +32,12 @@ pub fn win_together(game: &Game, first: &str, second: &str) -> Option<bool>
 }
 
 /// The critical members of the coalition with these names, each by its place in the file; none
-/// where nobody has a name.
+/// if nobody has a name.
 ///
 /// # Errors
 ///
-/// `Memory` where a growth was refused.
-pub fn critical_of_named(
+/// `Memory` if an allocation was refused.
+pub fn find_critical(
     alloc: Global,
     game: &Game,
     names: &[&str],

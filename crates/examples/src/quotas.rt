@@ -14,7 +14,7 @@ use std::alloc::Global;
 ///
 /// # Errors
 ///
-/// `Memory` where a growth was refused.
+/// `Memory` if an allocation was refused.
 pub fn counts_at_quotas(alloc: Global, game: &Game, quotas: &[u64]) -> Result<Vec<u64>, Memory>
     requires { All (λ q. (1 ≤ q) × (q ≤ total (rule_at game.now.rules 0))) quotas.now }
     ensures { IfOk result (λ v. v.items

@@ -10,12 +10,12 @@ use council_report::{ReportFault, ReportLines, write_report};
 use mwc_walk::list_all;
 use std::alloc::Global;
 
-/// The report of a game as bytes; none where the game has more than 4,000,000 minimal winning
+/// The report of a game as bytes; none if the game has more than 4,000,000 minimal winning
 /// coalitions.
 ///
 /// # Errors
 ///
-/// Memory, or Write where the vector could not grow.
+/// Memory, or Write if the vector could not grow.
 pub fn report_into_memory(
     alloc: Global,
     game: &Game,

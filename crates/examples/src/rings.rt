@@ -33,12 +33,12 @@ fn send_all(to: RingIn, words: &[Word]) -> Result<Closed, Unfinished>
 }
 
 /// Sends 1 to 65,536 words through a ring by a thread of its own, and gives what arrives: the same
-/// words in the same order. None where the thread could not be started, or the ring not be
+/// words in the same order. None if the thread could not be started, or the ring not be
 /// finished.
 ///
 /// # Errors
 ///
-/// `Memory` where a growth was refused.
+/// `Memory` if an allocation was refused.
 pub fn through_a_ring<R: Threads>(
     rt: &R,
     alloc: Global,

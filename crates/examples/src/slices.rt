@@ -64,7 +64,7 @@ impl PipeIn<Word> for Kept {
     }
 }
 
-/// The words that a worker sends of one slice, whose gate is passed once. None where the slice has
+/// The words that a worker sends of one slice, whose gate is passed once. None if the slice has
 /// more than 4,000,000 coalitions, or a growth was refused.
 ///
 /// There are at most 10 bits, and no more than members; `slice` is below 2^bits.

@@ -19,7 +19,7 @@ fn is_above_others(indices: &[Index], i: usize) -> bool
     true
 }
 
-/// The most powerful member: the one whose index is above that of each other; none where two share
+/// The most powerful member: the one whose index is above that of each other; none if two share
 /// the first place.
 pub fn most_powerful(indices: &[Index]) -> Option<usize>
     ensures member { IfSome result (λ i. i < length indices.now) }

@@ -21,7 +21,7 @@ use std::thread::Threads;
 /// # Errors
 ///
 /// Those of `tally`.
-pub fn tallied_index<R: Threads + Wait + Sync>(
+pub fn tally_index<R: Threads + Wait + Sync>(
     rt: &R,
     alloc: Global,
     game: &Game,

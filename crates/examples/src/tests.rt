@@ -3,17 +3,17 @@ ghost use Rattle.std.specs.Prelude.{◌≡◌, length};
 
 use crate::best::{lightest, smallest};
 use crate::blocking::is_blocking;
-use crate::exchanged::exchange_weights;
+use crate::exchange::exchange_weights;
 use crate::games::{are_ranked_alike, of_one_rule, of_two_rules, quota_in_millionths};
 use crate::indices::{both_indices, first_of_bytes, indices_add_up};
-use crate::listed::{coalitions_with, is_dummy, listed_twice};
-use crate::named::{critical_of_named, win_together};
+use crate::lists::{coalitions_with, is_dummy, list_twice};
+use crate::names::{find_critical, win_together};
 use crate::power::{have_equal_power, vetoers_in_order, weigh_the_same};
 use crate::reports::report_into_memory;
 use crate::rings::through_a_ring;
 use crate::slices::{Passes, words_of_slice};
 use crate::tables::{first_wrong_row, most_powerful};
-use crate::tallied::tallied_index;
+use crate::tally::tally_index;
 use council_file::parse_game;
 use council_game::{Coalition, Game, Rule, plain_list};
 use council_report::ReportLines;
@@ -138,11 +138,11 @@ fn members_of_coalitions(rt: HostRuntime) {
     );
     assert_same(&rt, first_unnamed(&game, &["Bo", "Di"]), Some(1), "Di");
     assert!(rt; is_blocking(&game, two));
-    let answer = critical_of_named(alloc, &game, &["Cleo", "Ada", "Bo"]).expect(&rt, "memory");
+    let answer = find_critical(alloc, &game, &["Cleo", "Ada", "Bo"]).expect(&rt, "memory");
     let critical = answer.expect(&rt, "members of these names");
     assert!(rt; critical.as_slice() == [0].as_slice());
     assert!(rt;
-        critical_of_named(alloc, &game, &["Di"])
+        find_critical(alloc, &game, &["Di"])
             .expect(&rt, "memory")
             .is_none()
     );
@@ -247,7 +247,7 @@ fn coalitions_with_a_member(rt: HostRuntime) {
     let game = five(&rt, alloc);
     let list = plain_list(alloc, &game).expect(&rt, "memory");
     assert!(rt; list.len() == 5);
-    let answer = listed_twice(alloc, &game).expect(&rt, "memory");
+    let answer = list_twice(alloc, &game).expect(&rt, "memory");
     let (walked, tried) = answer.expect(&rt, "a list of few");
     assert_same(&rt, walked.as_slice(), list.as_slice(), "walked");
     assert_same(&rt, tried.as_slice(), list.as_slice(), "tried");
@@ -314,6 +314,6 @@ member\t2\t1\t1\t1/2\t0.500000\t1/2\t0.500000\n";
 #[test]
 fn a_tally(rt: HostRuntime) {
     let game = five(&rt, rt.alloc());
-    let index = tallied_index(&rt, rt.alloc(), &game, 0, 2).expect(&rt, "memory");
+    let index = tally_index(&rt, rt.alloc(), &game, 0, 2).expect(&rt, "memory");
     assert_index(&rt, index, 3, 10, b"0.300000");
 }

@@ -17,7 +17,7 @@ use std::alloc::Global;
 
 impl Kind {
     /// Returns how many members of this kind a choice has.
-    fn taken(&self, choice: usize) -> usize
+    fn members_in(&self, choice: usize) -> usize
         requires some { 0 < self.now.stride }
         requires few { self.now.members ≤ MEMBERS }
         ensures taken { result ≡ choice / self.now.stride % (self.now.members + 1) }
@@ -36,7 +36,7 @@ fn choice_weight(game: &Game, kinds: &Kinds, rule: usize, choice: usize) -> u64
     game.was_checked();
     let mut sum = 0;
     for kind in &kinds.list {
-        sum += kind.taken(choice) as u64 * weight(game, rule, kind.place);
+        sum += kind.members_in(choice) as u64 * weight(game, rule, kind.place);
     }
     sum
 }
@@ -49,7 +49,7 @@ fn choice_size(game: &Game, kinds: &Kinds, choice: usize) -> usize
     game.was_checked();
     let mut size = 0;
     for kind in &kinds.list {
-        size += kind.taken(choice);
+        size += kind.members_in(choice);
     }
     size
 }
@@ -76,7 +76,7 @@ fn choice_is_minimal(game: &Game, kinds: &Kinds, wins: &[bool], choice: usize) -
         return false;
     }
     for kind in &kinds.list {
-        if kind.taken(choice) > 0 && wins[choice - kind.stride] {
+        if kind.members_in(choice) > 0 && wins[choice - kind.stride] {
             return false;
         }
     }

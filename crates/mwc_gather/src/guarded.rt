@@ -68,7 +68,7 @@ impl<'a, G> Guarded<'a, G> {
     }
 
     /// For the prover: returns the game as proofs see it, which takes no bytes.
-    pub(crate) fn seen(&self) -> Snapshot<Game>
+    pub(crate) fn snapshot(&self) -> Snapshot<Game>
         ensures { result.value ≡ self.now }
     {
         Snapshot::of(self.game)

@@ -21,13 +21,13 @@ pub(crate) struct Job<'a, G> {
 
 impl<'a, G> Job<'a, G> {
     /// For the prover: returns the job with a worker's ends of its two rings.
-    pub fn given(&self, out: &RingIn, tasks: &RingOut) -> GivenJob
+    pub fn with_rings(&self, out: &RingIn, tasks: &RingOut) -> GivenJob
         ensures game { result.game.value ≡ self.now.guarded }
         ensures asked { (result.bits ≡ self.now.bits) × (result.most ≡ self.now.most) }
         ensures rings { (result.out.value ≡ out.now) × (result.tasks.value ≡ tasks.now) }
     {
         GivenJob {
-            game: self.guarded.seen(),
+            game: self.guarded.snapshot(),
             bits: self.bits,
             most: self.most,
             out: Snapshot::of(out),

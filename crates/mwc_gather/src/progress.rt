@@ -7,7 +7,7 @@ use council_game::Coalition;
 use mwc_walk::{Seek, Walk};
 
 /// How many prefixes are examined between two reports.
-const REPORT_EVERY: u64 = 1 << 20;
+const PREFIXES_PER_REPORT: u64 = 1 << 20;
 
 /// What was reported of a walk, and what was not.
 #[derive(Drop)]
@@ -42,11 +42,11 @@ impl Progress {
         ensures { 0 < result }
     {
         let visits = walk.visits().saturating_sub(self.visits);
-        if visits < REPORT_EVERY {
-            return REPORT_EVERY - visits;
+        if visits < PREFIXES_PER_REPORT {
+            return PREFIXES_PER_REPORT - visits;
         }
         self.report(guarded, walk);
-        REPORT_EVERY
+        PREFIXES_PER_REPORT
     }
 
     /// Returns the next coalition of the slice, as `Walk::next` does, and reports on the way.

@@ -83,7 +83,7 @@ impl WorkerHandle {
             given,
             builder,
         } = Channels::new(alloc, slice_count(job.bits))?;
-        let given_job = job.given(&out, &list);
+        let given_job = job.with_rings(&out, &list);
         let own = Job {
             guarded: job.guarded.for_thread(),
             bits: job.bits,

@@ -25,7 +25,7 @@ pub record AppendsText (old new : Block) (text : List ℕ) : Type 0 where
   pub capacity : vec_capacity old.bytes ≤ vec_capacity new.bytes
   pub written : new.written ≡ old.written
 
--- and it was not refused where the text fits the room
+-- and it was not refused if the text fits the room
 pub record AppendsInRoom (old new : Block) (text : List ℕ) : Type 0 where
   pub adds : AppendsText old new text
   pub fits : old.refused ≡ false → length old.bytes.items + length text ≤ vec_capacity old.bytes

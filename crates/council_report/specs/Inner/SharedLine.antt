@@ -24,7 +24,7 @@ name_at g p = name_of g (member_at g.ranks p)
 unfoldable pub fields_of : GameView → List ℕ → List ℕ
 fields_of g places = flat_map with_tab (map (λ p. name_at g p) places)
 
--- the weights by rank under rule number r; none where there is no such rule
+-- the weights by rank under rule number r; none if there is no such rule
 unfoldable pub weights_under : GameView → ℕ → List ℕ
 weights_under g r = (rule_at (votes_of g).rules r).weights
 

@@ -1,9 +1,9 @@
 use Rattle.std.proofs.Common.{ℕ, List, subst, ap, arith, length}
 use Rattle.council_report.specs.Report.{report}
 use Rattle.council_c.specs.Answer.{Shows}
-use Rattle.council_c.proofs.filled.put_report.Goals.{in-Ok, in-Err-Write+in_ok-length-in-Err-Write}
+use Rattle.council_c.proofs.fill.put_report.Goals.{in-Ok, in-Err-Write+in_ok-length-in-Err-Write}
 use Rattle.council_c.proofs.Buffers.{shows-beginning}
-use Rattle.council_c.proofs.filled.put_report.Goals as goal
+use Rattle.council_c.proofs.fill.put_report.Goals as goal
 
 pub returns-clause-text : goal.returns-clause-text
 returns-clause-text c =

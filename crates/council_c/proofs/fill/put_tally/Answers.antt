@@ -4,7 +4,7 @@ use Rattle.council_report.specs.Report.{report}
 use Rattle.council_run.proofs.Shared.Finding.{finds-found}
 use Rattle.council_run.specs.declared.fault.RunFault.{RunFault}
 use Rattle.council_c.specs.Answer.{FillsBy, StopsOn}
-use Rattle.council_c.proofs.filled.put_tally.Goals as goal
+use Rattle.council_c.proofs.fill.put_tally.Goals as goal
 
 pub put_found-requires : goal.put_found-requires
 put_found-requires c =

@@ -2,7 +2,7 @@ use Rattle.council_report.proofs.Imports.{ℕ, List, map, decimal, flat_map, ran
 use Rattle.council_report.proofs.Imports.{table_of_member_size, with_tab}
 use Rattle.std.proofs.{Common.zero-add, lemmas.List.FromFn.map-range_with_len_more}
 use Rattle.council_report.proofs.Turns.{rows-more}
-use Rattle.council_report.proofs.counted_lines.push_counts.Goals as goal
+use Rattle.council_report.proofs.count_lines.push_counts.Goals as goal
 
 pub loop-member-preserved : goal.loop-member-preserved
 loop-member-preserved c =

@@ -1,5 +1,5 @@
 use Rattle.council_report.proofs.Imports.{map, decimal, flat_map, range_with_len, table_of_member_size, with_tab, AppendsInRoom}
-use Rattle.council_report.proofs.counted_lines.push_counts.Given as goal
+use Rattle.council_report.proofs.count_lines.push_counts.Given as goal
 
 abbrev pub invariant-loop-member : goal.invariant-loop-member
 invariant-loop-member l =

@@ -3,7 +3,7 @@ use Rattle.std.specs.List.{AllZip, range_with_len}
 use Rattle.std.proofs.lemmas.List.{get_or-map, FromFn.get_or-range_with_len, FromFn.length-range_with_len}
 use Rattle.council_game.specs.{Game.GameView, Renaming.AreInverse, Renaming.IsRenamedRule, Renaming.exchanged, Votes.RuleView, Votes.rule_at}
 use Rattle.game_calls.specs.Quotas.{with_weights}
-use Rattle.examples.proofs.exchanged.exchange_weights.Goals as goal
+use Rattle.examples.proofs.exchange.exchange_weights.Goals as goal
 
 -- the one rule with its weights exchanged is the rule of the exchanged members
 exchanged-rule : (rs : List RuleView) (n i j : ℕ) (ws : List ℕ) → length rs ≡ 1 → AreInverse n (exchanged i j) (exchanged i j)

@@ -1,7 +1,7 @@
 use Rattle.std.proofs.Common.{◌≡◌, map, slice_index}
 use Rattle.std.specs.List.{range_with_len}
 use Rattle.council_game.specs.{Renaming.exchanged, Votes.rule_at}
-use Rattle.examples.proofs.exchanged.exchange_weights.Given as goal
+use Rattle.examples.proofs.exchange.exchange_weights.Given as goal
 
 abbrev pub invariant-loop-member : goal.invariant-loop-member
 invariant-loop-member l = l.weights.items

@@ -3,7 +3,7 @@ use Rattle.std.proofs.Common.{below_more}
 use Rattle.mwc_closed_count.specs.declared.kinds.Kind.{Kind}
 use Rattle.mwc_closed_count.specs.Inner.Choices.{kind_at}
 use Rattle.mwc_closed_count.proofs.{KindLaws.held, Listed.listed-long, Taken.lost, Taken.needs-all, Taken.needs-none, Taken.needs-some, Taken.spares, Taken.taken-is, Taken.wins-at}
-use Rattle.mwc_closed_count.proofs.choices.choice_is_minimal.Goals.{else-taken-gt0-via-then-taken-gt0+else-wins-choice, else-taken-gt0-via-else-taken-gt0}
+use Rattle.mwc_closed_count.proofs.choices.choice_is_minimal.Goals.{else-members_in-gt0-via-then-members_in-gt0+else-wins-choice, else-members_in-gt0-via-else-members_in-gt0}
 use Rattle.mwc_closed_count.proofs.choices.choice_is_minimal.Goals as goal
 
 pub returns-then-not-wins-choice : goal.returns-then-not-wins-choice
@@ -11,8 +11,8 @@ returns-then-not-wins-choice c =
     let v = votes_of c.args.game.now in
     lost v c.args.choice (sym (wins-at v c.args.choice c.args.wins.now c.requires.wins c.requires.choice) ∙ c.if-not-wins-choice.true)
 
-pub taken-requires : goal.taken-requires
-taken-requires c =
+pub members_in-requires : goal.members_in-requires
+members_in-requires c =
     let v = votes_of c.args.game.now in
     let h = held v _ c.loop-kind.kind-index _ (c.deref-kind-items.ensures.value ∙ c.requires.kinds.list) c.loop-kind-test.true in
     record { some = h.some; few = omega (arith, h.members, c.was_checked.ensures.votes.few) }
@@ -21,22 +21,22 @@ pub returns-then-wins-choice : goal.returns-then-wins-choice
 returns-then-wins-choice c =
     let v = votes_of c.args.game.now in
     let h = held v _ c.loop-kind.kind-index _ (c.deref-kind-items.ensures.value ∙ c.requires.kinds.list) c.loop-kind-test.true in
-    let own = taken-is v c.loop-kind.kind-index c.args.choice _ h.is c.taken.ensures.taken in
+    let own = taken-is v c.loop-kind.kind-index c.args.choice _ h.is c.members_in.ensures.taken in
     let fewer = wins-at v _ c.args.wins.now c.requires.wins (omega (arith, c.requires.choice)) in
-    spares v c.args.choice c.loop-kind.kind-index h.below (omega (arith, own, c.if-taken-gt0.true))
+    spares v c.args.choice c.loop-kind.kind-index h.below (omega (arith, own, c.if-members_in-gt0.true))
     (ap (λ (k : Kind). choice_wins v (c.args.choice - k.stride)) (sym h.is) ∙ sym fewer ∙ c.if-wins-choice.true)
 
 pub loop-kind-preserved : goal.loop-kind-preserved
 loop-kind-preserved c =
     let v = votes_of c.args.game.now in
     let h = held v _ c.loop-kind.kind-index _ (c.deref-kind-items.ensures.value ∙ c.requires.kinds.list) c.loop-kind-test.true in
-    let own = taken-is v c.loop-kind.kind-index c.args.choice _ h.is c.taken.ensures.taken in
-    below_more _ _ c.loop-kind.invariant (elim c.else-taken-gt0.branch [
-      | else-taken-gt0-via-then-taken-gt0+else-wins-choice w ↦
+    let own = taken-is v c.loop-kind.kind-index c.args.choice _ h.is c.members_in.ensures.taken in
+    below_more _ _ c.loop-kind.invariant (elim c.else-members_in-gt0.branch [
+      | else-members_in-gt0-via-then-members_in-gt0+else-wins-choice w ↦
           let fewer = wins-at v _ c.args.wins.now c.requires.wins (omega (arith, c.requires.choice)) in
           needs-some v c.args.choice c.loop-kind.kind-index
           (ap (λ (k : Kind). choice_wins v (c.args.choice - k.stride)) (sym h.is) ∙ sym fewer ∙ w.if-wins-choice.false)
-      | else-taken-gt0-via-else-taken-gt0 w ↦ needs-none v c.args.choice c.loop-kind.kind-index _ own w.if-taken-gt0.false
+      | else-members_in-gt0-via-else-members_in-gt0 w ↦ needs-none v c.args.choice c.loop-kind.kind-index _ own w.if-members_in-gt0.false
     ])
 
 pub returns : goal.returns

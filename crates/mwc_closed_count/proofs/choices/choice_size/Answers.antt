@@ -3,8 +3,8 @@ use Rattle.mwc_closed_count.specs.Inner.Choices.{kind_at}
 use Rattle.mwc_closed_count.proofs.{KindLaws.held, KindLaws.kinds-few, Listed.listed-long, Taken.size-next, Taken.taken-is}
 use Rattle.mwc_closed_count.proofs.choices.choice_size.Goals as goal
 
-pub taken-size-requires : goal.taken-size-requires
-taken-size-requires c =
+pub members_in-size-requires : goal.members_in-size-requires
+members_in-size-requires c =
     let h = held (votes_of c.args.game.now) _ c.loop-kind.kind-index _ (c.deref-kind-items.ensures.value ∙ c.requires.list) c.loop-kind-test.true in
     record { some = h.some; few = omega (arith, h.members, c.was_checked.ensures.votes.few) }
 
@@ -12,15 +12,15 @@ pub overflow_add-size : goal.overflow_add-size
 overflow_add-size c =
     let v = votes_of c.args.game.now in
     let long = listed-long (kind_at v) (length (kinds v)) _ (c.deref-kind-items.ensures.value ∙ c.requires.list) in
-    omega (arith, c.loop-kind.invariant.few, c.taken-size.ensures.few, long, c.loop-kind-test.true, kinds-few (votes_of c.args.game.now), c.was_checked.ensures.votes.few)
+    omega (arith, c.loop-kind.invariant.few, c.members_in-size.ensures.few, long, c.loop-kind-test.true, kinds-few (votes_of c.args.game.now), c.was_checked.ensures.votes.few)
 
 pub loop-kind-preserved : goal.loop-kind-preserved
 loop-kind-preserved c =
     let h = held (votes_of c.args.game.now) _ c.loop-kind.kind-index _ (c.deref-kind-items.ensures.value ∙ c.requires.list) c.loop-kind-test.true in
     record {
       size = size-next (votes_of c.args.game.now) c.loop-kind.kind-index c.args.choice _ _
-          (taken-is (votes_of c.args.game.now) c.loop-kind.kind-index c.args.choice _ h.is c.taken-size.ensures.taken) c.loop-kind.invariant.size;
-      few = omega (arith, c.loop-kind.invariant.few, c.taken-size.ensures.few);
+          (taken-is (votes_of c.args.game.now) c.loop-kind.kind-index c.args.choice _ h.is c.members_in-size.ensures.taken) c.loop-kind.invariant.size;
+      few = omega (arith, c.loop-kind.invariant.few, c.members_in-size.ensures.few);
     }
 
 pub returns : goal.returns
