@@ -10,6 +10,9 @@ other pages. Words are those of the whole page, code and tables too, that have a
 
 Then `ok style: comments of FOLDER` or `FAILED ..` for each folder at the top and each crate: no whole-line comment of
 its sources and scripts is wider than 100 columns, but for code and tables in it, and none has a worn-out phrase.
+
+Last `ok style: summaries`: the documentation of each public function begins with a line of its own, a sentence such as
+"Returns the ..", of at most 80 characters. That of a law may begin with any such sentence.
 """
 import glob
 import os
@@ -194,6 +197,23 @@ def faults_of_comments(path, mark):
     return faults
 
 
+def faults_of_summaries(path):
+    """The public functions of a source without a summary."""
+    faults, doc = [], []
+    for number, line in enumerate(read(path).split("\n"), 1):
+        line = line.strip()
+        if line.startswith("///"):
+            doc.append(line[4:])
+        elif line.startswith("pub fn"):
+            first, after = [*doc, "", ""][:2]
+            verb = path.endswith("/laws.rt") or re.match(r"[A-Z][a-z]*s ", first) or first.startswith("For the prover:")
+            if not verb or len(first) > 80 or not first.endswith(".") or after:
+                faults.append(f"{path}:{number} has none")
+        if not line.startswith(("///", "#[")):
+            doc = []
+    return faults
+
+
 listed = subprocess.run(["git", "-C", TOP, "ls-files", "-z"], capture_output=True, text=True)
 paths = [it for it in listed.stdout.split("\0") if it and os.path.isfile(os.path.join(TOP, it))]
 if listed.returncode != 0:
@@ -206,4 +226,6 @@ for path in sorted(paths):
         folders.setdefault("/".join(parts[:2]) if parts[0] == "crates" else parts[0] if len(parts) > 1 else "the top", []).append(path)
 for folder, its in folders.items():
     good &= report(f"comments of {folder}", [fault for path in its for fault in faults_of_comments(path, mark_of(path))])
+sources = [it for it in sorted(paths) if it.endswith(".rt") and "_tests/" not in it]
+good &= report("summaries", [fault for path in sources for fault in faults_of_summaries(path)])
 sys.exit(0 if good else 1)

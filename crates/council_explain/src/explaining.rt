@@ -68,9 +68,11 @@ fn explain_fault(
     Ok(())
 }
 
-/// Why a game file was refused, and where: lines of text, each begun with two blanks and ended with
-/// LF; none where there is nothing to say. The bytes are those of the file, and the fault is the
-/// one that `council_file::parse_game` answers for them.
+/// Explains why a game file was refused, and where, in lines of text.
+///
+/// Each line begins with two blanks and ends with LF; there is none if there is nothing to say. The
+/// bytes are those of the file, and the fault is the one that `council_file::parse_game` answers
+/// for them.
 ///
 /// # Errors
 ///

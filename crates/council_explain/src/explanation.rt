@@ -31,23 +31,23 @@ impl<'a> Explanation<'a> {
         }
     }
 
-    /// The value at a key of the top.
+    /// Returns the value at a key of the top.
     pub fn value_at(&self, key: &str) -> Option<&'a Value> {
         self.table.get(key)
     }
 
-    /// The members, and none where they are no array.
+    /// Returns the members, or none if they are no array.
     pub fn members(&self) -> &'a [Value] {
         elements(self.value_at("member"))
     }
 
-    /// The value at a key of a member, which has a number from 1.
+    /// Returns the value at a key of a member; members count from 1.
     pub fn value_of(&self, member: usize, key: &str) -> Option<&'a Value> {
         self.members().get(member.wrapping_sub(1))?.get(key)
     }
 }
 
-/// What is not the program's own, of at most as many characters as a line shows.
+/// Cuts a text that is not the program's own to what a line shows.
 pub fn short<T: Display>(what: T) -> Sanitized<T> {
     sanitize(what, LONGEST)
 }

@@ -54,8 +54,9 @@ impl Explanation<'_> {
         self.line(format_args!("the text has {count} weights: at most 40 are allowed"));
     }
 
-    /// Says that the weight of a member, which has a number from 1, is too great for a bracket
-    /// text.
+    /// Says that the weight of a member is too great for a bracket text.
+    ///
+    /// Members count from 1.
     pub fn explain_weight_of(&mut self, rule: &Rule, member: usize) {
         if let Some(weight) = rule.weights.get(member.wrapping_sub(1)) {
             self.line(format_args!("weight {member} is {weight}: the greatest is 1000000000000"));

@@ -16,7 +16,7 @@ pub struct Kept<'a, I> {
 }
 
 impl<'a, I: Source> Kept<'a, I> {
-    /// Nothing was read yet; what will be is kept where `keeps` says so.
+    /// Makes a reader that keeps what it reads if `keeps` says so.
     pub fn new(alloc: Global, reader: &'a mut I, keeps: bool) -> Kept<'a, I>
         ensures inside { result.reader.now ≡ reader.old }
         ensures kept { option_map (λ v. v.items) result.bytes ≡ (if keeps then Some [] else None) }
@@ -25,7 +25,7 @@ impl<'a, I: Source> Kept<'a, I> {
         Kept { reader, bytes }
     }
 
-    /// The bytes that were read; none where they were not kept.
+    /// Returns the bytes that were read, or none if they were not kept.
     pub fn bytes(&self) -> Option<&[u8]>
         ensures { option_map (λ s. s.now) result ≡ option_map (λ v. v.items) self.now.bytes }
     {

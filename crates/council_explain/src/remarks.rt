@@ -11,7 +11,9 @@ const LOW_QUOTA: &str =
 const LOW_QUOTAS: &str =
     "each quota is at most half of its total, so two coalitions without a common member could win";
 
-/// Remarks on a weight `000` in a bracket text, as a comma between thousands makes one.
+/// Remarks on a weight `000` in a bracket text.
+///
+/// A comma between thousands makes one.
 ///
 /// The bytes are those of the file.
 pub fn remark_on_thousands(bytes: &[u8]) -> Option<&'static str> {
@@ -34,8 +36,10 @@ fn has_low_quotas(game: &Game) -> bool {
     true
 }
 
-/// Remarks on a game that may be improper: two coalitions without a common member could both win,
-/// because the quota of each rule is at most half of its total (Felsenthal and Machover 1998).
+/// Remarks on quotas of at most half of their totals.
+///
+/// If those of all rules are, the game may be improper: two coalitions without a common member
+/// could both win (Felsenthal and Machover 1998).
 ///
 /// The bytes are those of the file. Says nothing if they have no game, or memory is refused.
 pub fn remark_on_quotas(alloc: Global, bytes: &[u8]) -> Option<&'static str> {

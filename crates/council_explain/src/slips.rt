@@ -114,7 +114,9 @@ impl Explanation<'_> {
         }
     }
 
-    /// Says what helps where the text is no TOML from a place on, if that is a common slip.
+    /// Says what helps against a common slip.
+    ///
+    /// From this place on, the text is no TOML.
     pub fn explain_slip(&mut self, place: usize, message: &str) {
         let (front, rest) = self.text.split_at_checked(place).unwrap_or((self.text, ""));
         let (_, row) = front.rsplit_once('\n').unwrap_or(("", front));

@@ -79,9 +79,11 @@ fn bare_letter(within: Within, letter: char, is_open: bool) -> Option<char> {
     }
 }
 
-/// A text of TOML without blanks, comments and quotes. Its rows are the headers, and the keys
-/// outside of brackets with their values: the end of a line within quotes or brackets is a CR. In
-/// quotes on one line, `?` replaces each letter that no key without quotes has.
+/// Returns a text of TOML without blanks, comments and quotes.
+///
+/// Its rows are the headers, and the keys outside of brackets with their values: the end of a line
+/// within quotes or brackets is a CR. In quotes on one line, `?` replaces each letter that no key
+/// without quotes has.
 pub fn bare(alloc: Global, text: &str) -> Result<String, Memory> {
     let mut bare = String::new(alloc);
     let mut within = Within::Nothing;
@@ -169,7 +171,9 @@ fn is_key_header(row: &str, key: &str) -> bool {
 }
 
 impl Explanation<'_> {
-    /// Says the line and the column of a place, and what the line has; the column is in characters.
+    /// Says the line and the column of a place, and what the line has.
+    ///
+    /// The column is in characters.
     pub fn explain_place(&mut self, place: usize) {
         let front = self.text.get(..place).unwrap_or(self.text);
         let (_, last) = front.rsplit_once('\n').unwrap_or(("", front));

@@ -6,7 +6,7 @@ use toml::Value;
 /// What is said of a percentage and of a fraction.
 const GUIDE: &str = "docs/GUIDE.md says how percentages and fractions become whole numbers";
 
-/// The elements of an array, and none of another value.
+/// Returns the elements of an array, and none of another value.
 pub fn elements(value: Option<&Value>) -> &[Value] {
     match value {
         Some(Value::Array(items)) => items.as_slice(),
@@ -27,7 +27,7 @@ pub(crate) fn kind(value: &Value) -> &'static str {
     }
 }
 
-/// Whether a letter is a digit.
+/// Returns whether a letter is a digit.
 pub fn is_digit(letter: char) -> bool {
     letter.is_ascii_digit()
 }
@@ -98,8 +98,10 @@ impl Explanation<'_> {
         self.explain_factor(self.bare, '.');
     }
 
-    /// Says by which power of ten the decimals of a text become whole numbers, unless it has none,
-    /// or more than the greatest weight has zeros. And that three decimals may be thousands.
+    /// Says by which power of ten the decimals of a text become whole numbers.
+    ///
+    /// It says nothing if the text has no decimals, or more than the greatest weight has zeros.
+    /// Three decimals may also be thousands.
     pub fn explain_factor(&mut self, text: &str, sign: char) {
         let decimals = most_decimals(text, sign, false);
         if 0 < decimals

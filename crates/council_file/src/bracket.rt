@@ -9,7 +9,9 @@ use crate::token::Token;
 use council_game::{Game, GameFault, Memory, Rule};
 use std::alloc::{AllocError, Global};
 
-/// Whether a text is in brackets: it begins with `[` and a digit, but for blanks.
+/// Returns whether a text is a bracket text.
+///
+/// Apart from blanks, it begins with `[` and a digit.
 pub fn is_bracket(bytes: &[u8]) -> bool
     ensures { result ≡ is_bracket bytes.now }
 {
@@ -43,7 +45,7 @@ fn weights_of(alloc: Global, scanner: &mut Scanner<'_>) -> Result<Option<Vec<u64
     Ok(None)
 }
 
-/// The rule of a bracket text, and nothing if the text breaks the grammar.
+/// Returns the rule of a bracket text, or none if it breaks the grammar.
 ///
 /// # Errors
 ///

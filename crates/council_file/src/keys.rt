@@ -11,14 +11,14 @@ ghost use Rattle.council_file.specs.File.{top_keys, member_keys, has_other_key, 
 use crate::members::member_list;
 use toml::{Table, Value};
 
-/// Whether a file may have the key at its top.
+/// Returns whether a file may have the key at its top.
 pub fn is_top_key(key: &str) -> bool
     ensures { result ≡ list_any (pointwise nat_eq key.now) top_keys }
 {
     matches!(key, "title" | "quota" | "quotas" | "member")
 }
 
-/// Whether a member may have the key.
+/// Returns whether a member may have the key.
 pub fn is_member_key(key: &str) -> bool
     ensures { result ≡ list_any (pointwise nat_eq key.now) member_keys }
 {

@@ -5,15 +5,17 @@ ghost use Rattle.council_file.specs.Laws.{NotationReadsBack};
 ghost use Rattle.council_file.specs.Reads.{Gave};
 ghost use Rattle.std.specs.Prelude.{◌≡◌, ℕ, List, Option, Some};
 
-/// The notation of a rule reads back as the game of only that rule, whose members are named 1, 2,
-/// .. and which has no title.
+/// The notation of a rule reads back as the game of only that rule.
+///
+/// The game has no title, and its members are named 1, 2, ..
 #[tactic(auto, using(crate::proofs::ReadsBack::reads_back))]
 pub fn notation_reads_back()
     ensures { (g : GameView) → IsGame g → NotationReadsBack g }
 {}
 
-/// If all bytes of a reader are known, the game of those that it gave is the game of all of
-/// them, and so is the first fault.
+/// If a reader's bytes are known, the game of what it gave is that of all.
+///
+/// So is the first fault.
 #[tactic(auto, using(crate::proofs::Given::known_bytes))]
 pub fn known_bytes_give_their_game()
     ensures { (all bytes : List ℕ) (after : Option (List ℕ)) → Gave (Some all) after bytes →

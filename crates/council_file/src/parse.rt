@@ -48,7 +48,9 @@ fn game_of_tree(alloc: Global, table: &Table) -> Result<Game, GameFault>
     Game::with_rules(alloc, title, names, rules)
 }
 
-/// The game of the bytes of a game file, TOML or bracket text, or the first fault.
+/// Returns the game of the bytes of a game file, or the first fault.
+///
+/// The file is TOML or a bracket text.
 ///
 /// # Errors
 ///

@@ -52,8 +52,10 @@ fn read_bytes<R: Source>(alloc: Global, reader: &mut R) -> Result<Vec<u8>, GameF
     Ok(bytes)
 }
 
-/// Returns the game of the bytes that the reader gives, up to its end. No read is made after one
-/// that fails or gives none, or once 65,537 bytes have come; so there are at most 65,537 reads.
+/// Returns the game of the bytes that the reader gives, up to its end.
+///
+/// No read is made after one that fails or gives none, or once 65,537 bytes have come; so there are
+/// at most 65,537 reads.
 ///
 /// # Errors
 ///

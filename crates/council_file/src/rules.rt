@@ -74,8 +74,9 @@ fn lone_rule(alloc: Global, table: &Table) -> Result<Vec<Rule>, AllocError>
     Ok(rules)
 }
 
-/// The rules in the tree of a file: a number that is missing or out of range is one that no game
-/// has.
+/// Returns the rules in the tree of a file.
+///
+/// A number that is missing or out of range is one that no game has.
 ///
 /// # Errors
 ///

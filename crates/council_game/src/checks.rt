@@ -15,7 +15,9 @@ fn is_plain(text: &str) -> bool
     text.as_bytes().iter().all(|b| *b >= 32 && *b != 127)
 }
 
-/// Whether a text can be a title: at most 200 bytes, none below 0x20 and none 0x7F.
+/// Returns whether a text can be a title.
+///
+/// It has at most 200 bytes, none below 0x20 and none 0x7F.
 pub fn is_title(text: &str) -> bool
     ensures { result ≡ is_title text.now }
 {

@@ -13,9 +13,10 @@ pub const PARTS: u128 = 1_000_000_000_000_000;
 pub const MOST: u128 = 4_000_000_000_000_000_000;
 
 impl Game {
-    /// Returns a copy of the game whose places are in the order in which a walk over its coalitions
-    /// is short: members who contribute more come first. Returns none if its places are in this
-    /// order, or if it has one rule.
+    /// Returns a copy of the game with its places by contribution.
+    ///
+    /// Members who contribute more come first: in this order a walk over the coalitions is short.
+    /// It is none if the places are in this order, or if the game has one rule.
     ///
     /// What a member contributes to a rule is its weight divided by what the rule can do without
     /// (total - quota + 1). So members who can veto come first, and large members before small

@@ -44,8 +44,9 @@ pub enum GameFault {
 }
 
 impl GameFault {
-    /// A number of the fault, from 1 to 14, for tables and tests. It is not the order of the
-    /// checks, and no status of the program.
+    /// Returns the number of the fault, from 1 to 14, for tables and tests.
+    ///
+    /// It is not the order of the checks, and no status of the program.
     pub fn number(self) -> u8
         ensures { result ≡ number_of self }
     {

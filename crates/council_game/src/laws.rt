@@ -13,7 +13,7 @@ pub fn coalitions_weigh_their_members()
     ensures { WeighsItsMembers }
 {}
 
-/// A coalition is minimal exactly if it wins, and loses without any one of its members.
+/// A coalition is minimal exactly if it wins, and loses without any member.
 #[tactic(auto, using(crate::proofs::Searches::for_laws))]
 pub fn minimal_coalitions_need_each_member()
     ensures votes { (v : Votes) → NeedsEachMember v }
@@ -51,26 +51,29 @@ pub fn coalitions_are_sets()
     ensures { (g : GameView) → IsGame g → HasEachSet g }
 {}
 
-/// Which places the members have changes nothing: in two games of the same members and rules,
-/// coalitions of the same members win alike and are minimal alike, and as many minimal winning
-/// coalitions pass any test of their members.
+/// Which places the members have changes nothing.
+///
+/// In two games of the same members and rules, coalitions of the same members win alike and are
+/// minimal alike, and as many minimal winning coalitions pass any test of their members.
 #[tactic(auto, using(crate::proofs::Searches::for_sets))]
 pub fn places_do_not_matter()
     ensures { (g h : GameView) → IsGame g → IsGame h → h.names ≡ g.names → h.rules ≡ g.rules
         → IsSameByMembers g h }
 {}
 
-/// The members of a game, renamed, are those of another one, if each rule has the same quota there
-/// and gives each member, renamed, the same weight.
+/// Games whose members have the same weights under new names are renamings.
+///
+/// Each rule has the same quota in both games, and gives each member, renamed, the same weight.
 #[tactic(auto, using(crate::proofs::Searches::for_renaming))]
 pub fn renamed_rules_win_alike()
     ensures { (to from : ℕ → ℕ) (g h : GameView) → IsGame g → IsGame h → length h.names ≡ length g.names
         → AreInverse (length g.names) to from → HaveRenamedRules to g h → IsRenaming to from g h }
 {}
 
-/// Which names the members have changes nothing: coalitions of renamed members are as large, win
-/// alike and are minimal alike, and as many minimal winning coalitions pass any test of their
-/// members.
+/// Which names the members have changes nothing.
+///
+/// Coalitions of renamed members are as large, win alike and are minimal alike, and as many minimal
+/// winning coalitions pass any test of their members.
 #[tactic(auto, using(crate::proofs::Searches::for_renaming))]
 pub fn names_do_not_matter()
     ensures { (to from : ℕ → ℕ) (g h : GameView) → IsGame g → IsGame h → IsRenaming to from g h

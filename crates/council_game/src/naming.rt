@@ -10,8 +10,9 @@ use crate::{Coalition, Game, Memory};
 use std::alloc::Global;
 
 impl Game {
-    /// The coalition of some members, each given by its place in the file, from 0, in any order. A
-    /// member that is given twice is in once.
+    /// Returns the coalition of some members, in any order.
+    ///
+    /// Each is given by its place in the file, from 0. A member that is given twice is in once.
     pub fn coalition_of(&self, members: &[usize]) -> Coalition
         requires { All (λ i. i < length self.now.names) members.now }
         ensures members { (i : ℕ) → i < length self.now.names →
@@ -50,8 +51,9 @@ impl Game {
         coalition.with(self.members(), self.place_of(member))
     }
 
-    /// The members of a coalition, each by its place in the file, from 0: by rank, the heaviest
-    /// first.
+    /// Returns the members of a coalition by rank, the heaviest first.
+    ///
+    /// Each is given by its place in the file, from 0.
     ///
     /// # Errors
     ///

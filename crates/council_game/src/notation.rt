@@ -28,8 +28,9 @@ fn notation_of(alloc: Global, game: &Game, rule: usize) -> Result<Vec<u8>, Alloc
     Ok(text)
 }
 
-/// Appends the notation `[q; w1, .., wn]` of a rule: its quota, and its weights in the order of the
-/// file, in decimal without leading zeros.
+/// Appends the notation `[q; w1, .., wn]` of a rule.
+///
+/// It has the quota and the weights in the order of the file, in decimal without leading zeros.
 ///
 /// # Errors
 ///

@@ -7,8 +7,9 @@ ghost use Rattle.council_game.specs.Game.{votes_of};
 use crate::{Coalition, Game, Memory};
 use std::alloc::Global;
 
-/// The minimal winning coalitions of a game of at most 20 members, in listing order, by trying each
-/// coalition.
+/// Lists the minimal winning coalitions by trying each coalition.
+///
+/// The game has at most 20 members. The list is in listing order.
 ///
 /// # Errors
 ///

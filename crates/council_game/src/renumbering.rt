@@ -7,9 +7,10 @@ ghost use Rattle.council_game.specs.Votes.{minimal_coalitions};
 use crate::{Coalition, Game};
 
 impl Game {
-    /// Turns the list of this game's minimal winning coalitions into that of another game of the
-    /// same members and rules, whose members have other rank places. Both lists are in listing
-    /// order.
+    /// Turns the list of this game's coalitions into that of another game.
+    ///
+    /// The other game has the same members and rules, and other rank places. Both lists are those
+    /// of the minimal winning coalitions, in listing order.
     pub fn renumber_all(&self, list: &mut [Coalition], other: &Game)
         requires names { other.now.names ≡ self.now.names }
         requires rules { other.now.rules ≡ self.now.rules }
@@ -24,7 +25,7 @@ impl Game {
         list.sort_unstable_by_key(|coalition| u64::MAX - coalition.mask());
     }
 
-    /// Returns the coalition of another game with the members of a coalition of this one.
+    /// Returns the coalition of another game with the same members.
     ///
     /// The other game has as many members, and may have them at other rank places.
     pub fn renumber(&self, coalition: Coalition, other: &Game) -> Coalition

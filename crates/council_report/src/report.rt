@@ -152,9 +152,10 @@ fn write_over<W: Sink>(
     }
 }
 
-/// Writes the report of a game over a list of 1 to 2^40 of its coalitions, none of them empty, and
-/// flushes once. The list is in pieces, which stand in its order, and its counts are known already.
-/// The answer is the number of bytes.
+/// Writes the report of a game over pieces of a list, and flushes once.
+///
+/// The list has 1 to 2^40 coalitions of the game, none of them empty. Its pieces are in its order,
+/// and its counts are known already. The answer is the number of bytes.
 ///
 /// No byte goes out before all memory is there.
 ///
@@ -179,8 +180,10 @@ pub fn write_report_of<W: Sink>(
     write_over(alloc, game, pieces, counts, shown, writer)
 }
 
-/// Writes the report of a game, with no line for a coalition, only from the counts of its minimal
-/// winning coalitions, however many these are, and flushes once. The answer is the number of bytes.
+/// Writes the report of a game from counts, and flushes once.
+///
+/// The counts are those of its minimal winning coalitions, however many there are. The report has
+/// no line for a coalition. The answer is the number of bytes.
 ///
 /// No byte goes out before all memory is there.
 ///
@@ -203,8 +206,10 @@ pub fn write_tally<W: Sink>(
     write_over(alloc, game, &[], counts, shown, writer)
 }
 
-/// Writes the report of a game over a list of 1 to 4,000,000 of its coalitions, none of them empty,
-/// and flushes once. The answer is the number of bytes.
+/// Writes the report of a game over a list, and flushes once.
+///
+/// The list has 1 to 4,000,000 coalitions of the game, none of them empty. The answer is the number
+/// of bytes.
 ///
 /// No byte goes out before all memory is there.
 ///

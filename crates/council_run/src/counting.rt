@@ -108,8 +108,9 @@ fn count_all<T: Threads + Wait + Sync, G: Gate + Sync>(
     }
 }
 
-/// Counts the coalitions of a game by sums, and what these leave by worker threads behind a gate.
-/// It takes a game with any number of them, and keeps none.
+/// Counts the coalitions of a game by sums, and the rest by worker threads.
+///
+/// The threads work behind a gate. The game may have any number of coalitions; none is kept.
 ///
 /// # Errors
 ///
@@ -131,8 +132,9 @@ pub fn count_by_workers<T: Threads + Wait + Sync, G: Gate + Sync>(
     })
 }
 
-/// Counts the coalitions of a game by sums, and what these leave by one walk, in the calling
-/// thread.
+/// Counts the coalitions of a game by sums, and the rest by one walk.
+///
+/// It starts no thread.
 ///
 /// # Errors
 ///

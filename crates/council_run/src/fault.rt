@@ -113,9 +113,10 @@ impl From<ReportFault> for RunFault {
     }
 }
 
-/// Returns the status that the program ends with: 1 if the game file could not be read, 3 for any
-/// other fault of the game, 4 for too many coalitions, and 5 if memory, a thread, a ring or the
-/// writer failed.
+/// Returns the status that the program ends with.
+///
+/// It is 1 if the game file could not be read, 3 for any other fault of the game, 4 for too many
+/// coalitions, and 5 if memory, a thread, a ring or the writer failed.
 pub fn status(fault: &RunFault) -> u8
     ensures { result ≡ status_of fault.now.cause }
 {

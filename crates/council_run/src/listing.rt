@@ -111,8 +111,10 @@ pub fn list_by_workers<T: Threads + Wait + Sync, G: Gate + Sync>(
     Ok(Found { counts, coalitions })
 }
 
-/// Lists the coalitions of a game by one walk, in the calling thread, and counts them. There may be
-/// at most `most`. They are kept only if they are to be shown in a list.
+/// Lists the coalitions of a game by one walk, and counts them.
+///
+/// It starts no thread. There may be at most `most`. They are kept only if they are to be shown in
+/// a list.
 ///
 /// # Errors
 ///

@@ -21,8 +21,9 @@ fn number_of(alloc: Global, game: &Game) -> Result<Option<u64>, GameFault>
     }
 }
 
-/// Returns how many minimal winning coalitions the game of a game file has, if sums count all of
-/// it; none for any other game.
+/// Returns the number of minimal winning coalitions of a game file's game.
+///
+/// It is none if there is no game, or sums do not count all of it.
 ///
 /// # Errors
 ///

@@ -18,8 +18,10 @@ use std::alloc::Global;
 use std::sync::Wait;
 use std::thread::Threads;
 
-/// Reads a game, lists its minimal winning coalitions by worker threads, and writes its report and
-/// nothing else. It returns the number of bytes written. It may wait for its workers.
+/// Reads a game, lists its minimal winning coalitions and writes its report.
+///
+/// Worker threads list them, and the call may wait for these. It writes nothing else, and returns
+/// the number of bytes written.
 ///
 /// The contract says which calls the reader and the writer got, whatever they are: no read after
 /// one that failed or gave nothing; each write gets what is left of a block of the report, and
@@ -51,9 +53,10 @@ pub fn run<T: Threads + Wait + Sync, R: Source, W: Sink, G: Gate + Sync>(
     Ok(found.write(alloc, &game, options.lines(), writer)?)
 }
 
-/// Reads a game, counts its minimal winning coalitions, however many there are, and writes its
-/// report, with no line for a coalition, and nothing else. It returns the number of bytes written.
-/// It may wait for its workers.
+/// Reads a game, counts its minimal winning coalitions and writes its report.
+///
+/// There may be any number of them; the report has no line for a coalition. It writes nothing else,
+/// and returns the number of bytes written. It may wait for its workers.
 ///
 /// Sums count what they can, and worker threads walk over the rest. No coalition is kept, so the
 /// memory does not grow with their number, and `most` and `list` of the options have no effect.

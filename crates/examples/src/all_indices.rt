@@ -11,8 +11,9 @@ use mwc_walk::list_all;
 use power_index::{Counts, MemberIndices, all_indices};
 use std::alloc::Global;
 
-/// Returns both indices of each member, in the order of the file, or `None` if the game has more
-/// than 4,000,000 minimal winning coalitions.
+/// Returns both indices of each member, in the order of the file.
+///
+/// It is none if the game has more than 4,000,000 minimal winning coalitions.
 ///
 /// # Errors
 ///

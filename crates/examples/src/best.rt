@@ -10,8 +10,10 @@ use mwc_walk::Walk;
 use mwc_walk::laws::{one_slice_is_the_whole, steps_keep_the_least, steps_keep_the_whole};
 use power_index::laws::minimal_coalitions_can_be_counted;
 
-/// A minimal winning coalition that weighs least under the first rule: the best of a walk, which
-/// keeps one coalition and compares. The first in listing order need not be it.
+/// Returns a minimal winning coalition of least weight under the first rule.
+///
+/// It is the best of a walk, which keeps one coalition and compares. The first in listing order
+/// need not be it.
 pub fn lightest(game: &Game) -> Option<Coalition>
     ensures some { IsSome result }
     ensures listed { IfSome result (Contains (minimal_coalitions (votes_of game.now))) }
@@ -35,7 +37,9 @@ pub fn lightest(game: &Game) -> Option<Coalition>
     Some(best)
 }
 
-/// Returns a smallest winning coalition: the best of a walk by the number of members.
+/// Returns a minimal winning coalition with the least number of members.
+///
+/// It is the best of a walk.
 pub fn smallest(game: &Game) -> Option<Coalition>
     ensures some { IsSome result }
     ensures listed { IfSome result (Contains (minimal_coalitions (votes_of game.now))) }

@@ -8,8 +8,9 @@ use council_game::{Coalition, Game};
 use game_calls::laws::larger_coalitions_win;
 use game_calls::outsiders;
 
-/// Whether a coalition is blocking (Felsenthal and Machover 1998): no coalition wins that has none
-/// of its members.
+/// Returns whether no coalition wins that has none of these members.
+///
+/// Such a coalition is blocking (Felsenthal and Machover 1998).
 pub fn is_blocking(game: &Game, coalition: Coalition) -> bool
     ensures { IsTrue result ↔ ((c : ℕ) →
         ((i : ℕ) → i < length game.now.names → contains game.now i c ≡ true

@@ -7,7 +7,7 @@ ghost use Rattle.std.specs.Prelude.{◌≡◌, ◌↔◌, ◌*◌, ◌/◌, ◌<
 use council_game::{Game, GameFault, Rule};
 use std::alloc::Global;
 
-/// The game of one rule, without a title.
+/// Makes the game of one rule, without a title.
 ///
 /// # Errors
 ///
@@ -25,7 +25,9 @@ pub fn of_one_rule(
     Game::new(alloc, None, names, weights, quota)
 }
 
-/// The game of two rules, as of states and of people: a coalition wins if it meets both quotas.
+/// Makes the game of two rules, as of states and of people.
+///
+/// A coalition wins if it meets both quotas.
 ///
 /// # Errors
 ///
@@ -48,7 +50,7 @@ pub fn of_two_rules(
     Game::with_rules(alloc, None, names, rules)
 }
 
-/// The quota of the first rule as a share of the total of its weights, in millionths, cut off.
+/// Returns the first rule's quota in millionths of its total, cut off.
 pub fn quota_in_millionths(game: &Game) -> u128
     ensures { result
         ≡ 1000000 * (rule_at game.now.rules 0).quota / total (rule_at game.now.rules 0) }
@@ -56,8 +58,9 @@ pub fn quota_in_millionths(game: &Game) -> u128
     1_000_000 * u128::from(game.quota()) / u128::from(game.total())
 }
 
-/// Whether two games of as many members rank them alike: each member has the same rank place in
-/// both.
+/// Returns whether each member has the same rank place in two games.
+///
+/// The games have as many members.
 pub fn are_ranked_alike(one: &Game, other: &Game) -> bool
     requires { length one.now.names ≡ length other.now.names }
     ensures { IsTrue result ↔ ((i : ℕ) → i < length one.now.names →

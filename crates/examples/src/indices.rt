@@ -17,8 +17,9 @@ use power_index::laws::{
 };
 use std::alloc::Global;
 
-/// Both indices of a member; none if the game has more than 4,000,000 minimal winning
-/// coalitions.
+/// Returns both indices of a member.
+///
+/// It is none if the game has more than 4,000,000 minimal winning coalitions.
 ///
 /// # Errors
 ///
@@ -44,8 +45,9 @@ pub fn both_indices(
     Ok(Some((both.deegan_packel, both.public_good)))
 }
 
-/// Both indices of the first member of the game that the bytes hold; none if it has more than
-/// 4,000,000 minimal winning coalitions.
+/// Returns both indices of the first member of the game that the bytes hold.
+///
+/// It is none if the game has more than 4,000,000 minimal winning coalitions.
 ///
 /// # Errors
 ///
@@ -62,7 +64,9 @@ pub fn first_of_bytes(alloc: Global, bytes: &[u8]) -> Result<Option<(Index, Inde
     Ok(both_indices(alloc, &game, 0)?)
 }
 
-/// The indices of the members of a game add up to 1, of each kind. Nothing is run for it.
+/// States that the indices of a game's members add up to 1, of each kind.
+///
+/// It is free at run time.
 pub fn indices_add_up(game: &Game)
     ensures deegan_packel { AddUpToOne
         (map (deegan_packel game.now (minimal_coalitions (votes_of game.now))) (members game.now)) }

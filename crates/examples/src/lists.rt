@@ -12,8 +12,9 @@ use mwc_walk::list_all;
 use power_index::Counts;
 use std::alloc::Global;
 
-/// Whether a member is a dummy: no minimal winning coalition contains it. None if the game has
-/// more than 4,000,000 of them.
+/// Returns whether no minimal winning coalition contains a member.
+///
+/// Such a member is a dummy. It is none if the game has more than 4,000,000 of them.
 ///
 /// # Errors
 ///
@@ -32,7 +33,7 @@ pub fn is_dummy(alloc: Global, game: &Game, member: usize) -> Result<Option<bool
     Ok(Some(counts.of_member(member) == 0))
 }
 
-/// Those coalitions of a list that contain a member, in their order.
+/// Returns the coalitions of a list that contain a member, in their order.
 ///
 /// # Errors
 ///
@@ -57,8 +58,9 @@ pub fn coalitions_with(
     Ok(found)
 }
 
-/// All minimal winning coalitions of a game of at most 20 members, by the walk and by trying each:
-/// one list twice. None if there are more than 4,000,000.
+/// Lists the minimal winning coalitions by the walk and by trying each.
+///
+/// The game has at most 20 members. Both lists are the same; none if there are more than 4,000,000.
 ///
 /// # Errors
 ///

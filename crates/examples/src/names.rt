@@ -12,8 +12,9 @@ use council_game::{Game, Memory};
 use game_calls::{coalition_named, critical_members};
 use std::alloc::Global;
 
-/// Whether two members, given by their names, win together; none if the game has no member of a
-/// name.
+/// Returns whether two members, given by their names, win together.
+///
+/// It is none if the game has no member of a name.
 pub fn win_together(game: &Game, first: &str, second: &str) -> Option<bool>
     ensures won { IfSome result (λ won. (i j c : ℕ)
         × (position (pointwise nat_eq first.now) game.now.names ≡ Some i)
@@ -31,8 +32,9 @@ pub fn win_together(game: &Game, first: &str, second: &str) -> Option<bool>
     Some(game.wins(game.coalition_of(&[first, second])))
 }
 
-/// The critical members of the coalition with these names, each by its place in the file; none
-/// if nobody has a name.
+/// Returns the critical members of the coalition with these names.
+///
+/// Each is given by its place in the file. It is none if nobody has a name.
 ///
 /// # Errors
 ///

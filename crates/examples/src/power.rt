@@ -16,7 +16,9 @@ use game_calls::{has_member, member_indices, vetoers};
 use power_index::laws::symmetric_members_have_equal_indices;
 use std::alloc::Global;
 
-/// Returns the vetoers of a game, each by its place in the file, in the order of the file.
+/// Returns the vetoers of a game, in the order of the file.
+///
+/// Each is given by its place in the file.
 ///
 /// # Errors
 ///

@@ -9,8 +9,9 @@ use council_game::{Game, Memory};
 use game_calls::{at_quota, count_by_walk};
 use std::alloc::Global;
 
-/// How many minimal winning coalitions a game of one rule has at each of some quotas, each within
-/// the total.
+/// Counts the minimal winning coalitions of a game at some quotas.
+///
+/// The game has one rule, and each quota is within its total.
 ///
 /// # Errors
 ///

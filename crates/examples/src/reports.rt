@@ -10,8 +10,9 @@ use council_report::{ReportFault, ReportLines, write_report};
 use mwc_walk::list_all;
 use std::alloc::Global;
 
-/// The report of a game as bytes; none if the game has more than 4,000,000 minimal winning
-/// coalitions.
+/// Returns the report of a game as bytes.
+///
+/// It is none if the game has more than 4,000,000 minimal winning coalitions.
 ///
 /// # Errors
 ///

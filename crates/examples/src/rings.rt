@@ -32,9 +32,10 @@ fn send_all(to: RingIn, words: &[Word]) -> Result<Closed, Unfinished>
     to.close()
 }
 
-/// Sends 1 to 65,536 words through a ring by a thread of its own, and gives what arrives: the same
-/// words in the same order. None if the thread could not be started, or the ring not be
-/// finished.
+/// Sends 1 to 65,536 words through a ring by a thread, and returns them.
+///
+/// They are the same words in the same order. It is none if the thread could not be started, or the
+/// ring not be finished.
 ///
 /// # Errors
 ///

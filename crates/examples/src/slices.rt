@@ -18,14 +18,14 @@ pub struct Passes {
 }
 
 impl Passes {
-    /// A gate that nobody has passed.
+    /// Makes a gate that nobody has passed.
     pub fn none() -> Passes {
         Passes {
             count: AtomicU64::new(0),
         }
     }
 
-    /// How often it was passed.
+    /// Returns how often the gate was passed.
     pub fn count(&self) -> u64 {
         self.count.load(Ordering::SeqCst)
     }
@@ -64,8 +64,10 @@ impl PipeIn<Word> for Kept {
     }
 }
 
-/// The words that a worker sends of one slice, whose gate is passed once. None if the slice has
-/// more than 4,000,000 coalitions, or a growth was refused.
+/// Returns the words that a worker sends of one slice.
+///
+/// Its gate is passed once. It is none if the slice has more than 4,000,000 coalitions, or an
+/// allocation was refused.
 ///
 /// There are at most 10 bits, and no more than members; `slice` is below 2^bits.
 pub fn words_of_slice<R: Wait>(

@@ -19,8 +19,9 @@ fn is_above_others(indices: &[Index], i: usize) -> bool
     true
 }
 
-/// The most powerful member: the one whose index is above that of each other; none if two share
-/// the first place.
+/// Returns the member whose index is above that of each other.
+///
+/// It is none if two share the first place.
 pub fn most_powerful(indices: &[Index]) -> Option<usize>
     ensures member { IfSome result (λ i. i < length indices.now) }
     ensures above { IfSome result (λ i. (j : ℕ) → j < length indices.now → j ≢ i →
@@ -47,7 +48,9 @@ fn is_right(index: Index, row_top: u16, row_bottom: u16) -> bool
     by_index == by_row
 }
 
-/// The first row of a published table, of tops and bottoms, that is not the index of its member.
+/// Returns the first row of a published table that is not its member's index.
+///
+/// A row is a top and a bottom.
 pub fn first_wrong_row(indices: &[Index], table: &[(u16, u16)]) -> Option<usize>
     requires { length table.now ≡ length indices.now }
     ensures row { IfSome result (λ k. k < length table.now) }

@@ -15,8 +15,9 @@ use std::alloc::Global;
 use std::sync::Wait;
 use std::thread::Threads;
 
-/// The Deegan-Packel index of a member, however many minimal winning coalitions the game has: they
-/// are counted by `workers` threads, and none is kept.
+/// Returns the Deegan-Packel index of a member, of games of any size.
+///
+/// The minimal winning coalitions are counted by `workers` threads, and none is kept.
 ///
 /// # Errors
 ///

@@ -8,8 +8,10 @@ use crate::membership::{has_member, without_member};
 use council_game::{Coalition, Game, Memory};
 use std::alloc::Global;
 
-/// Whether a member, given by its place in the file, is critical in a coalition (Felsenthal and
-/// Machover 1998): it is in, the coalition wins, and loses without it.
+/// Returns whether a member is critical in a coalition.
+///
+/// It is in, the coalition wins, and loses without it (Felsenthal and Machover 1998). Members are
+/// given by their places in the file.
 pub fn is_critical(game: &Game, coalition: Coalition, member: usize) -> bool
     requires { member < length game.now.names }
     ensures { result ≡ is_critical game.now coalition member }
@@ -19,7 +21,9 @@ pub fn is_critical(game: &Game, coalition: Coalition, member: usize) -> bool
         && !game.wins(without_member(game, coalition, member))
 }
 
-/// The critical members of a coalition, each by its place in the file, in the order of the file.
+/// Returns the critical members of a coalition, in the order of the file.
+///
+/// Each is given by its place in the file.
 ///
 /// # Errors
 ///

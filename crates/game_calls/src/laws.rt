@@ -63,7 +63,9 @@ pub fn winning_coalitions_have_minimal_ones()
         → wins (votes_of g).rules c ≡ true → HasMinimalSubsetOf g c }
 {}
 
-/// A member of all minimal winning coalitions is a vetoer: no coalition wins without it.
+/// A member of all minimal winning coalitions is a vetoer.
+///
+/// No coalition wins without a vetoer.
 pub fn members_of_all_are_vetoers()
     ensures votes { (v : Votes) → IsVotes v → HasVetoersInAll v }
     ensures members { (g : GameView) → IsGame g → (i : ℕ) → i < length g.names
@@ -77,8 +79,9 @@ pub fn subsets_are_no_larger()
         → size_of g a ≤ size_of g c }
 {}
 
-/// A game that is made has the title, the names and the rules that it is made of, and the rank
-/// places by the first rule.
+/// A game has the title, the names and the rules that it is made of.
+///
+/// Its rank places are those by the first rule.
 #[tactic(auto, using(crate::proofs::Parts::made))]
 pub fn made_games_have_their_parts()
     ensures { (title : Option (List ℕ)) (names : List (List ℕ)) (rules : List RuleView) (g : GameView)
@@ -95,38 +98,44 @@ pub fn exchanging_goes_back()
     ensures { (n i j : ℕ) → i < n → j < n → AreInverse n (exchanged i j) (exchanged i j) }
 {}
 
-/// The first rule of a game at another quota, 1 to its total, is a game: no check refuses it.
+/// The first rule of a game at a quota from 1 to its total is a game.
+///
+/// No check refuses it.
 pub fn quotas_can_be_changed()
     ensures { (g : GameView) → IsGame g → (q : ℕ) → 1 ≤ q → q ≤ total (rule_at g.rules 0)
         → IsGame (at_quota g q) }
 {}
 
-/// What passes a test among 0, 1, .., n is what passes among those below n, and then n if it
-/// passes: one step of a loop that keeps the members or places that pass.
+/// What passes up to n is what passes below n, and then n if it passes.
+///
+/// This is one step of a loop that keeps the members or places that pass a test.
 #[tactic(auto, using(council_game::proofs::Shared::Lists::filter_one_more))]
 pub fn filters_take_one_more()
     ensures { (test : ℕ → Bool) (n : ℕ) → filter test (range_with_len 0 (n + 1))
         ≡ filter test (range_with_len 0 n) ++ (if test n then n ∷ [] else []) }
 {}
 
-/// What is given for 0, 1, .., n is what is given for those below n, and then for n: one step of a
-/// loop that pushes something for each member or place.
+/// What is given up to n is what is given below n, and then that for n.
+///
+/// This is one step of a loop that pushes something for each member or place.
 #[tactic(auto, using(council_game::proofs::Shared::Lists::map_one_more))]
 pub fn maps_take_one_more()
     ensures { (f : ℕ → ℕ) (n : ℕ) → map f (range_with_len 0 (n + 1))
         ≡ map f (range_with_len 0 n) ++ f n ∷ [] }
 {}
 
-/// Fractions with bottoms above 0 are ordered as their lowest terms are. So `Index::compare` orders
-/// the indices as they are defined.
+/// Fractions with bottoms above 0 are ordered as their lowest terms are.
+///
+/// So `Index::compare` orders the indices as they are defined.
 #[tactic(auto, using(crate::proofs::Ordered::lowest_terms_ordered))]
 pub fn lowest_terms_keep_order()
     ensures { (p q : ℕ × ℕ) → 0 < p.1 → 0 < q.1 →
         fraction_cmp (lowest_terms p) (lowest_terms q) ≡ fraction_cmp p q }
 {}
 
-/// Fractions with bottoms above 0 have the same lowest terms exactly if they are the same
-/// number.
+/// Fractions have the same lowest terms exactly if they are the same number.
+///
+/// Their bottoms are above 0.
 #[tactic(auto, using(crate::proofs::Ordered::apart))]
 pub fn lowest_terms_tell_fractions_apart()
     ensures { (p q : ℕ × ℕ) → 0 < p.1 → 0 < q.1 →
@@ -140,8 +149,9 @@ pub fn fractions_are_ordered()
         → p.0 * r.1 < r.0 * p.1 }
 {}
 
-/// The indices of a game's members in lowest terms, as the calls give them, add up to 1, of each
-/// kind: over each list of coalitions that are not empty, if there is one in it.
+/// The indices of a game's members in lowest terms add up to 1, of each kind.
+///
+/// This holds over each list of coalitions that are not empty, if there is one in it.
 #[tactic(auto, using(crate::proofs::LowestTermsAddUp::sums))]
 pub fn lowest_terms_add_up()
     ensures deegan_packel { (g : GameView) (list : List ℕ) → IsGame g → 0 < length list

@@ -6,7 +6,7 @@ ghost use Rattle.std.specs.Prelude.{◌≡◌, ◌≢◌, ◌<◌, ◌^◌, ℕ,
 use crate::laws::nobody_is_in_the_empty_coalition;
 use council_game::{Coalition, Game};
 
-/// Whether a member is in a coalition.
+/// Returns whether a member is in a coalition.
 pub fn has_member(game: &Game, coalition: Coalition, member: usize) -> bool
     requires { member < length game.now.names }
     ensures { result ≡ contains game.now member coalition }
@@ -14,7 +14,9 @@ pub fn has_member(game: &Game, coalition: Coalition, member: usize) -> bool
     coalition.has(game.members(), game.place_of(member))
 }
 
-/// The coalition with a member besides; the same if that member is in.
+/// Returns the coalition with one more member.
+///
+/// It is the same if that member is in.
 pub fn with_member(game: &Game, coalition: Coalition, member: usize) -> Coalition
     requires { member < length game.now.names }
     ensures mask { result ≡ if contains game.now member coalition
@@ -28,7 +30,9 @@ pub fn with_member(game: &Game, coalition: Coalition, member: usize) -> Coalitio
     coalition.with(game.members(), game.place_of(member))
 }
 
-/// The coalition without a member; the same if that member is not in.
+/// Returns the coalition without a member.
+///
+/// It is the same if that member is not in.
 pub fn without_member(game: &Game, coalition: Coalition, member: usize) -> Coalition
     requires { member < length game.now.names }
     ensures mask { result ≡ if contains game.now member coalition
@@ -42,7 +46,7 @@ pub fn without_member(game: &Game, coalition: Coalition, member: usize) -> Coali
     coalition.without(game.members(), game.place_of(member))
 }
 
-/// All members that are not in a coalition.
+/// Returns the coalition of all members that are not in a coalition.
 pub fn outsiders(game: &Game, coalition: Coalition) -> Coalition
     ensures members { (i : ℕ) → i < length game.now.names →
         contains game.now i result ≡ not (contains game.now i coalition) }

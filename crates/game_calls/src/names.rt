@@ -16,7 +16,9 @@ fn is_unnamed(game: &Game, name: &str) -> bool
     }
 }
 
-/// The place of the first of these names that no member has; none if each has a member.
+/// Returns the place of the first of these names that no member has.
+///
+/// It is none if each has a member.
 pub fn first_unnamed(game: &Game, names: &[&str]) -> Option<usize>
     ensures place { result ≡ position (λ name. is_unnamed game.now name.now) names.now }
     ensures bound { IfSome result (λ k. k < length names.now) }
@@ -39,8 +41,9 @@ fn coalition_of_names(game: &Game, names: &[&str]) -> Coalition
     coalition
 }
 
-/// The coalition of the members with these names, in any order; a member that is named twice is in
-/// once.
+/// Returns the coalition of the members with these names, in any order.
+///
+/// A member that is named twice is in once.
 ///
 /// # Errors
 ///

@@ -23,7 +23,9 @@ fn copy_all(alloc: Global, names: &[&str]) -> Result<Vec<String>, AllocError>
     Ok(copies)
 }
 
-/// The game of one rule, without a title, of these names and weights; as many weights as names.
+/// Makes the game of these names and weights under one rule.
+///
+/// It has no title. There are as many weights as names.
 ///
 /// # Errors
 ///
@@ -83,7 +85,9 @@ pub fn with_rules(alloc: Global, game: &Game, rules: Vec<Rule>) -> Result<Game, 
     Game::with_rules(alloc, title, names, rules)
 }
 
-/// Returns the game of the same title and members under one rule, with other weights.
+/// Returns the game of the same members under one rule of other weights.
+///
+/// The title is the same.
 ///
 /// Its quota is that of the first rule.
 ///
@@ -104,8 +108,9 @@ pub fn with_weights(alloc: Global, game: &Game, weights: Vec<u64>) -> Result<Gam
     with_rules(alloc, game, rules)
 }
 
-/// The game of the same title and members, and of only the first rule, at another quota: 1 to the
-/// total of its weights.
+/// Returns the game under only its first rule, at another quota.
+///
+/// Title and members are the same. The quota is 1 to the total of the weights.
 ///
 /// # Errors
 ///

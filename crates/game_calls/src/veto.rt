@@ -7,8 +7,9 @@ use crate::laws::{larger_coalitions_win, members_of_all_are_vetoers};
 use crate::membership::{everyone, with_member, without_member};
 use council_game::{Coalition, Game};
 
-/// Returns whether a member is a vetoer: no coalition wins without it (Felsenthal and Machover
-/// 1998).
+/// Returns whether no coalition wins without a member.
+///
+/// Such a member is a vetoer (Felsenthal and Machover 1998).
 pub fn is_vetoer(game: &Game, member: usize) -> bool
     requires { member < length game.now.names }
     ensures { IsTrue result ↔ IsVetoer game.now member }

@@ -8,7 +8,9 @@ use mwc_walk::Walk;
 use mwc_walk::laws::one_slice_is_the_whole;
 use power_index::laws::minimal_coalitions_can_be_counted;
 
-/// How many minimal winning coalitions a game has, counted by a walk over the one slice at 0 bits.
+/// Counts the minimal winning coalitions of a game.
+///
+/// It walks over the one slice at 0 bits, and takes no memory.
 pub fn count_by_walk(game: &Game) -> u64
     ensures { result ≡ length (minimal_coalitions (votes_of game.now)) }
 {

@@ -9,7 +9,7 @@ ghost use Rattle.mwc_closed_count.specs.Vetoers.{IsVetoer};
 ghost use Rattle.power_index.specs.Tables.{AreCounts, Tables};
 ghost use Rattle.std.specs.Prelude.{◌≡◌, ℕ, ◌+◌, ◌<◌, ◌^◌, ◌↔◌, true, length};
 
-/// States which coalitions of a game of one rule are minimal: those that complete it.
+/// Under one rule, the minimal coalitions are those that complete the quota.
 ///
 /// They complete the quota by their last member.
 #[tactic(auto, using(crate::proofs::Leads::laws))]

@@ -19,6 +19,7 @@ pub(crate) struct Progress {
 }
 
 impl Progress {
+    /// Begins with nothing reported.
     pub fn new() -> Progress {
         Progress {
             visits: 0,
@@ -49,7 +50,9 @@ impl Progress {
         PREFIXES_PER_REPORT
     }
 
-    /// Returns the next coalition of the slice, as `Walk::next` does, and reports on the way.
+    /// Returns the next coalition of the slice, and reports on the way.
+    ///
+    /// It is that of `Walk::next`.
     pub fn next<G: SliceObserver>(
         &mut self,
         guarded: &Guarded<'_, G>,

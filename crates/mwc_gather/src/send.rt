@@ -105,7 +105,7 @@ fn send_last<W: PutsRows<P>, R: Wait, P: PipeIn<Word>>(
     send::<W, _, _>(rt, buffer.words(), out, pair)
 }
 
-/// Passes the gate, and sends the words of a slice, up to its coalition number `left`.
+/// Passes the gate, and sends a slice up to its coalition number `left`.
 ///
 /// `left` is 1 to 4,000,001. It waits while the pipe is full, and takes no memory.
 ///

@@ -34,6 +34,7 @@ pub(crate) struct Waker {
 }
 
 impl Waker {
+    /// Makes a waker that nobody has called.
     pub fn new() -> Waker {
         Waker {
             asleep: AtomicBool::new(false),
@@ -72,6 +73,7 @@ pub(crate) struct Wakers {
 }
 
 impl Wakers {
+    /// Makes wakers that nobody has called.
     pub fn new() -> Wakers {
         Wakers {
             gatherer: Waker::new(),
@@ -111,6 +113,7 @@ pub(crate) struct Backoff {
 }
 
 impl Backoff {
+    /// Begins with no wait.
     pub fn new() -> Backoff {
         Backoff {
             looks: 0,

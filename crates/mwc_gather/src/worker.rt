@@ -64,7 +64,7 @@ fn finish<R: Wait>(
     out.close()
 }
 
-/// Sends the slices that the tasks give, one after another; then sends End and closes.
+/// Sends the slices that the tasks give, then End, and closes.
 ///
 /// It stops at a task that gives no slice, or after coalition number `most + 1`. It hands back the
 /// end that the tasks came from. It takes no memory.

@@ -4,29 +4,34 @@ ghost use Rattle.mwc_walk.specs.Laws.{IsLeast, SlicesMakeTheWhole};
 ghost use Rattle.mwc_walk.specs.Slices.{slice};
 ghost use Rattle.std.specs.Prelude.{◌≡◌, ◌<◌, ◌≤◌, ◌++◌, ◌∷◌, [], ℕ, List};
 
-/// The slices 0, 1, .., joined in that order, are the minimal winning coalitions. This holds of
-/// each number of bits that is no greater than 10 or than the number of members.
+/// The slices, joined in order, are the minimal winning coalitions.
+///
+/// This holds of each number of bits that is no greater than 10 or than the number of members.
 #[tactic(auto, using(crate::proofs::Remains::slices))]
 pub fn slices_make_the_whole()
     ensures { (v : Votes) → IsVotes v → SlicesMakeTheWhole v }
 {}
 
-/// At 0 bits there is one slice, which is all minimal winning coalitions: what a walk over it
-/// gives.
+/// At 0 bits the one slice is all minimal winning coalitions.
+///
+/// A walk over it gives them.
 #[tactic(auto, using(crate::proofs::Remains::slices))]
 pub fn one_slice_is_the_whole()
     ensures { (v : Votes) → IsVotes v → slice v 0 0 ≡ minimal_coalitions v }
 {}
 
-/// One step of a loop over a walk: what was given and what is to come are the same list as before.
+/// One step keeps what was given and what is to come the same list.
+///
+/// This is a step of a loop over a walk.
 #[tactic(auto, using(crate::proofs::Loops::steps))]
 pub fn steps_keep_the_whole()
     ensures { (before after to_come left all : List ℕ) (c : ℕ) → after ≡ before ++ c ∷ []
         → to_come ≡ c ∷ left → before ++ to_come ≡ all → after ++ left ≡ all }
 {}
 
-/// One step of a loop over a walk that keeps the least so far, by a number of each coalition: it
-/// stays the least, or the next one is.
+/// After one step the least so far is still the least, or the next one is.
+///
+/// This is a step of a loop over a walk that keeps the least by a number of each coalition.
 #[tactic(auto, using(crate::proofs::Loops::steps))]
 pub fn steps_keep_the_least()
     ensures stays { (f : ℕ → ℕ) (before after : List ℕ) (least c : ℕ) → after ≡ before ++ c ∷ []

@@ -16,8 +16,9 @@ pub fn slice_count(bits: u8) -> u16
     1 << bits
 }
 
-/// Returns the first `most` coalitions of slice `j` at `bits` bits, in listing order, or all of
-/// them if there are no more.
+/// Lists the first `most` coalitions of slice `j` at `bits` bits.
+///
+/// They are in listing order. If there are no more, it lists all of them.
 ///
 /// There are at most 10 bits, and no more than members; `j` is below 2^bits.
 ///

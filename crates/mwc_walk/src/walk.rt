@@ -44,7 +44,7 @@ impl<'a> Model for Walk<'a> {
 }
 
 impl<'a> Walk<'a> {
-    /// Returns the walk over slice `j` of a game at `bits` bits, with the whole slice to come.
+    /// Returns a walk at the start of slice `j` of a game at `bits` bits.
     ///
     /// The slice has the minimal winning coalitions whose first `bits` places are those of the
     /// number 2^bits - 1 - j. There are at most 10 bits, and no more than members; `j` is below
@@ -95,8 +95,9 @@ impl<'a> Walk<'a> {
         }
     }
 
-    /// Seeks the next coalition of the slice as `next` does, but makes at most `visits` visits, 1
-    /// or more.
+    /// Seeks the next coalition as `next` does, by at most `visits` visits.
+    ///
+    /// There is at least 1 visit.
     ///
     /// After these it answers `NotYet`, with nothing else changed, and goes on when you call it
     /// again. It never answers `NotYet` under one rule, where the next coalition is near, or if the

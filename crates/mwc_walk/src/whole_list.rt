@@ -9,8 +9,9 @@ use crate::slices::list_next;
 use council_game::{Coalition, Game, Memory};
 use std::alloc::Global;
 
-/// Returns all minimal winning coalitions of a game in listing order; none if there are more than
-/// `most`.
+/// Lists all minimal winning coalitions of a game, in listing order.
+///
+/// It is none if there are more than `most`.
 ///
 /// They are listed in this thread. For a game of few members it is the list that
 /// `council_game::plain_list` gives by trying each coalition.

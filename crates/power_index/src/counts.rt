@@ -247,7 +247,9 @@ impl Counts {
         all[size]
     }
 
-    /// Returns the number of coalitions that contain a member, by its place in the file.
+    /// Returns the number of coalitions that contain a member.
+    ///
+    /// The member is given by its place in the file.
     pub fn wide_of_member(&self, member: usize) -> u64
         requires { member < self.now.members }
         ensures count { result ≡ table_of_member self.now member }
@@ -268,7 +270,9 @@ impl Counts {
         each[self.ranks[member]][size]
     }
 
-    /// Returns the number of coalitions, or the greatest number of 32 bits if there are more.
+    /// Returns the number of coalitions, at most 2^32 - 1.
+    ///
+    /// If there are more, it is that.
     pub fn total(&self) -> u32
         ensures { result ≡ min (table_total self.now) (2 ^ 32 - 1) }
     {
@@ -295,7 +299,7 @@ impl Counts {
         narrow(self.wide_of_member(member))
     }
 
-    /// Returns `wide_of_member_size`, or the greatest number of 32 bits if it is greater.
+    /// Returns `wide_of_member_size`, or 2^32 - 1 if that is less.
     pub fn of_member_size(&self, member: usize, size: usize) -> u32
         requires member { member < self.now.members }
         requires size { size ≤ self.now.members }

@@ -26,7 +26,9 @@ fn gcd(a: u128, b: u128) -> u128
     x
 }
 
-/// Returns `top / bottom` in lowest terms: no number above 1 divides both. 0 becomes 0/1.
+/// Returns `top / bottom` in lowest terms: no number above 1 divides both.
+///
+/// 0 becomes 0/1.
 pub fn lowest(top: u128, bottom: u128) -> Fraction
     requires { 0 < bottom }
     ensures lowest { IsLowestOf (top, bottom) (pair_of result) }

@@ -33,7 +33,9 @@ impl Model for Index {
 }
 
 impl Index {
-    /// Returns the index that a fraction is, as `deegan_packel` and `public_good` give it.
+    /// Returns the index that is a fraction.
+    ///
+    /// `deegan_packel` and `public_good` give such fractions.
     pub fn of(fraction: Fraction) -> Index
         requires { IsIndex (pair_of fraction) }
         ensures { result ≡ pair_of fraction }
@@ -72,7 +74,9 @@ impl Index {
         self.bottom
     }
 
-    /// Returns one digit, a point and six digits: the millionths are cut off, not rounded.
+    /// Returns one digit, a point and six digits.
+    ///
+    /// The millionths are cut off, not rounded.
     pub fn decimals(self) -> [u8; 8]
         ensures { result ≡ decimals self }
     {

@@ -12,16 +12,18 @@ ghost use Rattle.power_index.specs.Renaming.{HaveRenamedCounts};
 ghost use Rattle.power_index.specs.Tables.{AreCounts, AreCountsOfGame, AreTallies, Tables};
 ghost use Rattle.std.specs.Prelude.{◌≡◌, ℕ, ◌<◌, ◌≤◌, ◌^◌, List, length, map};
 
-/// The Deegan-Packel indices of all members add up to 1, over any list of nonempty coalitions that
-/// is not itself empty.
+/// The Deegan-Packel indices of all members add up to 1.
+///
+/// This holds over any list of nonempty coalitions that is not itself empty.
 #[tactic(auto, using(crate::proofs::Shared::AddUp::deegan_packel_adds_up))]
 pub fn deegan_packel_adds_up()
     ensures { (g : GameView) (list : List ℕ) → IsGame g → 0 < length list
         → AreNonemptyCoalitions g list → AddUpToOne (map (deegan_packel g list) (members g)) }
 {}
 
-/// The public good indices of all members add up to 1, over any list of nonempty coalitions that is
-/// not itself empty.
+/// The public good indices of all members add up to 1.
+///
+/// This holds over any list of nonempty coalitions that is not itself empty.
 #[tactic(auto, using(crate::proofs::Shared::AddUp::public_good_adds_up))]
 pub fn public_good_adds_up()
     ensures { (g : GameView) (list : List ℕ) → IsGame g
@@ -29,7 +31,7 @@ pub fn public_good_adds_up()
         → AddUpToOne (map (public_good g list) (members g)) }
 {}
 
-/// The minimal winning coalitions are such a list: there are 1 to 2^40, and none is empty.
+/// There are 1 to 2^40 minimal winning coalitions, and none is empty.
 #[tactic(auto, using(crate::proofs::Shared::Minimal::can_be_counted))]
 pub fn minimal_coalitions_can_be_counted()
     ensures few { (g : GameView) → IsGame g → length (minimal_coalitions (votes_of g)) ≤ 2 ^ MEMBERS }
@@ -38,27 +40,32 @@ pub fn minimal_coalitions_can_be_counted()
         AreNonemptyCoalitions g (minimal_coalitions (votes_of g)) }
 {}
 
-/// A pair with a bottom above 0 has one form in lowest terms, and it is the one that is computed.
+/// A pair with a bottom above 0 has one form in lowest terms.
+///
+/// It is the one that is computed.
 #[tactic(auto, using(crate::proofs::Shared::LowestTerms::has_lowest_terms))]
 pub fn lowest_terms_are_unique()
     ensures { (p : ℕ × ℕ) → 0 < p.1 → HasLowestTerms p }
 {}
 
-/// Tables that hold a list of coalitions as they are counted, by rank place, hold its counts.
+/// Tables counted by rank place hold the counts of their list.
 pub fn tallies_are_counts()
     ensures { (g : GameView) (list : List ℕ) (t : Tables) →
         AreTallies g list t → AreCounts g list t }
 {}
 
-/// Which places the members have changes no count and no index: the counts of a game are those of
-/// each game of the same members and rules.
+/// Which places the members have changes no count and no index.
+///
+/// The counts of a game are those of each game of the same members and rules.
 pub fn places_change_no_count()
     ensures { (g h : GameView) (t : Tables) → IsGame g → IsGame h → h.names ≡ g.names → h.rules ≡ g.rules
         → AreCountsOfGame h t → AreCountsOfGame g t }
 {}
 
-/// Which names the members have changes no count and no index: if the members of a game, renamed,
-/// are those of another one, each has the counts and the indices of the member of its new name.
+/// Which names the members have changes no count and no index.
+///
+/// If the members of a game, renamed, are those of another one, each has the counts and the indices
+/// of the member of its new name.
 pub fn names_change_no_count()
     ensures { (to from : ℕ → ℕ) (g h : GameView) → IsGame g → IsGame h → IsRenaming to from g h
         → HaveRenamedCounts to g h }
