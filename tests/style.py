@@ -30,7 +30,7 @@ LIMITS = [
     (["docs/FORMATS.md"], 1400),
     (["docs/GUIDE.md"], 3000),
     (["docs/LIBRARY.md", "docs/LANGUAGES.md"], 1900),
-    (["docs/LAWS.md"], 1680),
+    (["docs/LAWS.md"], 1660),
     (["CONTRIBUTING.md"], 1200),
     (["CHANGELOG.md"], 1200),
 ]
