@@ -1,7 +1,7 @@
 -- Tests: which members pass one, what of a list does, and how many coalitions.
 use Rattle.mwc_closed_count.proofs.Imports.{list_all, list_any, range_with_len, nat_tests, length-range_with_len, All-filter, AllPass-from_list_all}
 use Rattle.mwc_closed_count.proofs.Imports.{◌∙◌, ◌&&◌, not, ◌⊎◌, ℕ, ◌<◌, Bool, true, false, All, List, filter, ap, arith, length-map, places-at}
-use Rattle.mwc_closed_count.proofs.Imports.{cond, [], ◌∷◌, map, refl, All-head, All-tail, suc, ◌+◌, ◌*◌, ◌^◌, ◌++◌, length, get_or, ◌≡◌}
+use Rattle.mwc_closed_count.proofs.Imports.{[], ◌∷◌, map, refl, All-head, All-tail, suc, ◌+◌, ◌^◌, ◌++◌, length, get_or, ◌≡◌}
 use Rattle.mwc_closed_count.proofs.Imports.{filter-append, filter-both, down, down-below}
 use Rattle.std.proofs.lemmas.List.{Elements.filter_passes, Folds.Any-from_list_any, Folds.list_any_at}
 use Rattle.std.proofs.{Common.length-append, lemmas.Bool.cases_Bool}
@@ -69,15 +69,5 @@ pub count-first : (q one rest : ℕ → Bool) (n : ℕ) → ((c : ℕ) → c < 2
     → count q (down (2 ^ suc n)) ≡ count one (down (2 ^ n)) + count rest (down (2 ^ n))
 count-first q one rest n within without = grind (arith, nat_tests, filter-first q one rest n within without, length-append, length-map)
 
--- those with a condition and those without it
-pub count-parted : (t q without u : ℕ → Bool) (xs : List ℕ) → ((c : ℕ) → without c ≡ not (q c))
-    → count (λ c. t c && (without c && u c)) xs + count (λ c. t c && (q c && u c)) xs ≡ count (λ c. t c && u c) xs
-count-parted t q without u [] is = omega arith
-count-parted t q without u (x ∷ xs) is = grind (arith, nat_tests, is x, count-parted t q without u xs is)
-
 pub count-filter : (q p : ℕ → Bool) (xs : List ℕ) → count q (filter p xs) ≡ count (λ c. p c && q c) xs
 count-filter q p xs = ap (λ (l : List ℕ). length l) (filter-both p q xs)
-
--- a condition that no coalition changes
-pub count-and : (q : ℕ → Bool) (b : Bool) (xs : List ℕ) → count (λ c. q c && b) xs ≡ cond b 1 0 * count q xs
-count-and q b xs = grind (arith, nat_tests, count-never xs)

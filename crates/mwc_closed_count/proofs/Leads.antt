@@ -3,18 +3,20 @@
 use Rattle.mwc_closed_count.proofs.Imports.{◌≡◌, ◌∙◌, ◌↔◌, ◌⊎◌, ◌&&◌, ℕ, ◌+◌, ◌-◌, ◌*◌, ◌^◌, ◌<◌, ◌≤◌, Bool, true, cond, leb, List, [], ◌∷◌, length}
 use Rattle.mwc_closed_count.proofs.Imports.{get_or, take, sym, ap, arith, range_with_len, cases_lt, length-filter, RuleView, Votes, nat_tests, refl}
 use Rattle.mwc_closed_count.proofs.Imports.{false, ltb, ◌++◌, map, filter, inl, inr, le-ltb, down, minimal_coalitions, suc, IsVotes, has, without}
-use Rattle.mwc_closed_count.proofs.Imports.{weight, size, wins, minimal, rule_at, weight-without, rule-is, sum-range, zero, ◌==◌, ◌||◌, not}
+use Rattle.mwc_closed_count.proofs.Imports.{weight, size, wins, minimal, rule_at, weight-without, rule-is, sum-range, zero, ◌==◌, ◌||◌}
 use Rattle.mwc_closed_count.proofs.Imports.{down-below, get_or-replicate, replicate}
 use Rattle.std.proofs.{Common.lt-ltb, lemmas.Bool.cond-false, lemmas.Bool.cond-true, lemmas.List.length-replicate}
 use Rattle.power_index.proofs.Shared.Sums.{sum-times}
 use Rattle.mwc_closed_count.specs.{Completing.completing, Heads.AsksForHeads, Heads.first_rule, Heads.IsMinimalByHeads}
-use Rattle.mwc_closed_count.proofs.Completing.{IsLeast, wins-one, last-in, last-behind, StopsPartWay, double-pow, first-in, first-out, last, none-or-some}
-use Rattle.mwc_closed_count.proofs.Completing.{rest-in, rest-out, size-left, size-with, weight-left, weight-with, same_test}
+use Rattle.mwc_closed_count.proofs.Completing.{IsLeast, wins-one, last-in, last-behind, StopsPartWay, double-pow, last, none-or-some}
+use Rattle.mwc_closed_count.proofs.Completing.{size-left, size-with, weight-left, weight-with, same_test}
 use Rattle.mwc_closed_count.proofs.{Placed.minimal-min, Seating.IsMin, VetoRules.weight-sum}
 use Rattle.council_game.proofs.Shared.WeightByDigits.{weight-nil}
-use Rattle.subset_counts.proofs.Shared.Choices.{choose-none, left_out-past}
-use Rattle.subset_counts.specs.MinimalCounts.{choose, fill, minimal_count, left_out}
-use Rattle.mwc_closed_count.proofs.Counting.{filter-none, filter-same, count, count-and, count-first, count-never, count-parted, filter-first}
+use Rattle.subset_counts.proofs.Shared.Sets.{front, later, minimal_from, from-later, from-met, from-missed}
+use Rattle.subset_counts.specs.Sets.{but_last, count_minimal_sets, is_minimal, weigh}
+use Rattle.council_base.specs.Coalitions.{places_of}
+use Rattle.council_base.proofs.Shared.Ranges.{sum_by-range-more}
+use Rattle.mwc_closed_count.proofs.Counting.{filter-none, filter-same, count, filter-first}
 use Rattle.council_game.specs.Votes.{IsRanked}
 
 -- if all weigh the same
@@ -62,7 +64,7 @@ heads-law v heads c votes two asks below =
     grind (arith, same, minimal-min v c, parts, minimal-min (first_rule v) c, first-wins v.rules c votes.has_rule)
 
 -- a coalition that members lead to, from a need and a number of members: if the first meets the
--- need, others after it fill it up to the heads
+-- need, others behind it fill it up to the heads
 unfoldable pub leads : List ℕ → ℕ → ℕ → ℕ → ℕ → Bool
 leads [] heads need a c = false
 leads (w ∷ ws) heads need a c =
@@ -78,76 +80,6 @@ leads-in : (w : ℕ) (ws : List ℕ) (heads r a c : ℕ) → leads (w ∷ ws) he
     ≡ cond (leb r w) (size (length ws) c == heads - (a + 1)) (leads ws heads (r - w) (a + 1) c)
 unfolding leads
 leads-in w ws heads r a c = grind (arith, cond-false, le-ltb)
-
--- ---- how many coalitions of n places that have none of place p have a size; all, if p is no
--- place
-abbrev lacks : ℕ → ℕ → ℕ → Bool
-lacks n p c = not (ltb p n && has n p c)
-
-chosen : (ws : List ℕ) (p k : ℕ)
-    → count (λ c. lacks (length ws) p c && (size (length ws) c == k)) (down (2 ^ length ws)) ≡ choose (length (left_out p ws)) k
-unfolding choose down left_out
-chosen [] p k = grind (arith, nat_tests)
-chosen (w ∷ ws) zero k =
-    let n : ℕ = length ws in
-    let parts = count-first (λ c. lacks (suc n) 0 c && (size (suc n) c == k)) (λ c. false) (λ c. lacks n n c && (size n c == k)) n
-    (λ c lt. grind (arith, nat_tests, first-in)) (λ c lt. grind (arith, nat_tests, first-out, size-left)) in
-    grind (arith, parts, count-never (down (2 ^ n)), chosen ws n k, left_out-past n ws)
-chosen (w ∷ ws) (suc p) zero =
-    let n : ℕ = length ws in
-    let parts = count-first (λ c. lacks (suc n) (suc p) c && (size (suc n) c == 0)) (λ c. false) (λ c. lacks n p c && (size n c == 0)) n
-    (λ c lt. grind (arith, nat_tests, size-with)) (λ c lt. grind (arith, nat_tests, rest-out, size-left)) in
-    omega (arith, parts, count-never (down (2 ^ n)), chosen ws p 0, choose-none (length (left_out p ws)))
-chosen (w ∷ ws) (suc p) (suc k) =
-    let n : ℕ = length ws in
-    let parts = count-first (λ c. lacks (suc n) (suc p) c && (size (suc n) c == suc k)) (λ c. lacks n p c && (size n c == k))
-    (λ c. lacks n p c && (size n c == suc k)) n
-    (λ c lt. grind (arith, nat_tests, rest-in, size-with)) (λ c lt. grind (arith, nat_tests, rest-out, size-left)) in
-    omega (arith, parts, chosen ws p k, chosen ws p (suc k))
-
--- ---- how many members lead to
-filled : (ws : List ℕ) (p heads s a : ℕ)
-    → count (λ c. (size (length ws) c == heads - a) && (lacks (length ws) p c && (a + size (length ws) c == s))) (down (2 ^ length ws))
-    ≡ fill heads s (length (left_out p ws)) a
-filled ws p heads s a =
-    (λ i. count (λ c. alike (size (length ws) c) (lacks (length ws) p c) i) (down (2 ^ length ws)))
-    ∙ (let split = count-and (λ c. lacks (length ws) p c && (size (length ws) c == heads - a)) (a + (heads - a) == s) (down (2 ^ length ws)) in
-    grind (arith, nat_tests, choose-none, chosen ws p (heads - a), split))
-  where
-    alike : (x : ℕ) (l : Bool) → ((x == heads - a) && (l && (a + x == s))) ≡ ((l && (x == heads - a)) && (a + (heads - a) == s))
-    alike x l = grind (arith, nat_tests)
-
-leads-lacking : (ws : List ℕ) (p heads s r a : ℕ)
-    → count (λ c. leads ws heads r a c && (lacks (length ws) p c && (a + size (length ws) c == s))) (down (2 ^ length ws))
-    ≡ minimal_count (left_out p ws) heads s r a
-unfolding leads minimal_count left_out down
-leads-lacking [] p heads s r a = refl
-leads-lacking (w ∷ ws) zero heads s r a =
-    let n : ℕ = length ws in
-    let parts = count-first (λ c. leads (w ∷ ws) heads r a c && (lacks (suc n) 0 c && (a + size (suc n) c == s))) (λ c. false)
-    (λ c. leads ws heads r a c && (lacks n n c && (a + size n c == s))) n
-    (λ c lt. grind (arith, nat_tests, first-in)) (λ c lt. grind (arith, nat_tests, leads-out, first-out, size-left)) in
-    grind (arith, parts, count-never (down (2 ^ n)), leads-lacking ws n heads s r a, left_out-past n ws)
-leads-lacking (w ∷ ws) (suc p) heads s r a =
-    let n : ℕ = length ws in
-    let behind : Bool → ℕ → Bool = λ b c.
-    cond b (size n c == heads - (a + 1)) (leads ws heads (r - w) (a + 1) c) && (lacks n p c && (a + 1 + size n c == s)) in
-    let parts = count-first (λ c. leads (w ∷ ws) heads r a c && (lacks (suc n) (suc p) c && (a + size (suc n) c == s))) (behind (leb r w))
-    (λ c. leads ws heads r a c && (lacks n p c && (a + size n c == s))) n
-    (λ c lt. grind (arith, nat_tests, leads-in, rest-in, size-with)) (λ c lt. grind (arith, nat_tests, leads-out, rest-out, size-left)) in
-    grind (arith, nat_tests, parts, filled ws p heads s (a + 1), leads-lacking ws p heads s (r - w) (a + 1), leads-lacking ws p heads s r a)
-
-pub leads-all : (ws : List ℕ) (heads s r a : ℕ)
-    → count (λ c. leads ws heads r a c && (a + size (length ws) c == s)) (down (2 ^ length ws)) ≡ minimal_count ws heads s r a
-leads-all ws heads s r a = grind (arith, nat_tests, leads-lacking ws (length ws) heads s r a, left_out-past (length ws) ws)
-
--- those with a place are those that the members do not lead to without it
-pub leads-parted : (ws : List ℕ) (p heads s r a : ℕ) → p < length ws → minimal_count (left_out p ws) heads s r a
-    + count (λ c. leads ws heads r a c && (has (length ws) p c && (a + size (length ws) c == s))) (down (2 ^ length ws)) ≡ minimal_count ws heads s r a
-leads-parted ws p heads s r a lt =
-    let n : ℕ = length ws in
-    let parts = count-parted (leads ws heads r a) (has n p) (lacks n p) (λ c. a + size n c == s) (down (2 ^ n)) (λ c. grind (arith, nat_tests, lt)) in
-    omega (arith, parts, leads-all ws heads s r a, leads-lacking ws p heads s r a)
 
 -- ---- which they are
 -- by what all weigh, and by the last member
@@ -172,7 +104,58 @@ leads-are ws heads r c falls pos lt =
     let parts = by-heads (length ws) (λ x. leb r (weight ws x)) heads c in
     grind (arith, nat_tests, none-or-some, last-in, last-behind, by-last ws heads r 0 c pos lt, parts, least-weights ws r c)
 
--- ---- the list of them, if no heads are asked for
+-- ---- they are the minimal sets of members with these weights, and as many
+same-sets : (ws : List ℕ) (heads r a c : ℕ) → 0 < r → c < 2 ^ length ws
+    → minimal_from ws heads r a (places_of (length ws) c) ≡ leads ws heads r a c
+unfolding leads
+same-sets [] heads r a c pos lt = grind (arith, nat_tests)
+same-sets (w ∷ ws) heads r a c pos lt = elim (cases_lt c (2 ^ length ws)) [
+  | inl low ↦
+      ap (minimal_from (w ∷ ws) heads r a) (later (length ws) c low) ∙ from-later w ws heads r a (places_of (length ws) c)
+      ∙ same-sets ws heads r a c pos low ∙ sym (leads-out w ws heads r a c low)
+  | inr high ↦
+      let n : ℕ = length ws in
+      let d : ℕ = c - 2 ^ n in
+      let low : d < 2 ^ n = grind (arith, double-pow n) in
+      let is : c ≡ 2 ^ n + d = omega arith in
+      ap (λ (x : ℕ). minimal_from (w ∷ ws) heads r a (places_of (suc n) x)) is ∙ ap (minimal_from (w ∷ ws) heads r a) (front n d low)
+      ∙ elim (cases_lt w r) [
+        | inl less ↦
+            let rest = same-sets ws heads (r - w) (a + 1) d (omega arith) low in
+            from-missed w ws heads r a (places_of n d) less ∙ grind (arith, nat_tests, leads-in w ws heads r a d, rest)
+        | inr more ↦ from-met w ws heads r a (places_of n d) pos more ∙ grind (arith, nat_tests, leads-in w ws heads r a d)
+      ]
+      ∙ sym (ap (leads (w ∷ ws) heads r a) is)
+]
+
+-- counts do not depend on the order
+count-up : (t : ℕ → Bool) (n : ℕ) → count t (range_with_len 0 n) ≡ count t (down n)
+unfolding down
+count-up t zero = refl
+count-up t (suc n) =
+    let e : suc n ≡ n + 1 = omega arith in
+    let more = sum_by-range-more (λ x. cond (t x) 1 0) n in
+    let all = length-filter t in
+    ap (λ (k : ℕ). count t (range_with_len 0 k)) e ∙ all (range_with_len 0 (n + 1)) ∙ more
+    ∙ ap (λ (k : ℕ). k + cond (t n) 1 0) (sym (all (range_with_len 0 n)) ∙ count-up t n) ∙ grind (arith, nat_tests)
+
+pub count-sets : (ws : List ℕ) (heads r s : ℕ) (t : ℕ → Bool) → 0 < r → count_minimal_sets ws heads r t s
+    ≡ count (λ c. leads ws heads r 0 c && (t c && (size (length ws) c == s))) (down (2 ^ length ws))
+count-sets ws heads r s t pos =
+    let n : ℕ = length ws in
+    let counted : ℕ → Bool = λ c. t c && (is_minimal ws heads r (places_of n c) && (size n c == s)) in
+    let same : (c : ℕ) → c < 2 ^ n → counted c ≡ (leads ws heads r 0 c && (t c && (size n c == s))) =
+    λ c lt. let led = plain n c ∙ same-sets ws heads r 0 c pos lt in grind (arith, nat_tests, led) in
+    count-up counted (2 ^ n) ∙ ap (λ (l : List ℕ). length l) (filter-same counted _ (down (2 ^ n))
+    (λ k d lt. same _ (down-below (2 ^ n) (2 ^ n) (omega arith) k d lt)))
+  where
+    plain : (n c : ℕ) → is_minimal ws heads r (places_of n c) ≡ minimal_from ws heads r 0 (places_of n c)
+    plain n c =
+        let ps : List ℕ = places_of n c in
+        let e : length ps ≡ 0 + length ps = omega arith in
+        λ i. leb r (weigh ws ps) && ((e i == heads) || (ltb heads (e i) && ltb (weigh ws (but_last ps)) r))
+
+-- ---- the list of them, where no heads are asked for
 nobody : (n : ℕ) → filter (λ c. size n c == 0) (down (2 ^ n)) ≡ 0 ∷ []
 unfolding down
 nobody zero = refl

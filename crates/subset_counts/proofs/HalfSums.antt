@@ -3,7 +3,7 @@ use Rattle.subset_counts.proofs.Imports.{ℕ, zero, suc, ◌+◌, ◌-◌, ◌<�
 use Rattle.subset_counts.proofs.Imports.{length, ap, refl, arith, sum_by, nat_tests, ◌≡◌, one_of_size, minimal_count, left_out, empty, over, ◌∙◌}
 use Rattle.subset_counts.proofs.Imports.{met, AreSubsets, IsLeft}
 use Rattle.std.proofs.{Common.sym, lemmas.Bool.cases_order}
-use Rattle.subset_counts.proofs.{MinimalLaws.minimal_count-counted, Shared.Choices.left_out-past}
+use Rattle.subset_counts.proofs.{MinimalLaws.minimal_count-counted, LeftOut.left_out-past}
 use Rattle.council_base.proofs.Shared.Lists.{sum-swap}
 use Rattle.subset_counts.proofs.SubsetLaws.{sum-one, sum-if, fits-halves, fits-turned, left_out-over}
 

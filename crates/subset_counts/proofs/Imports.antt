@@ -8,8 +8,8 @@ pub use Rattle.std.proofs.Common.{◌≡◌, ◌≤◌, ◌⊎◌}
 pub use Rattle.std.proofs.lemmas.{Bool.cases_eq, Bool.cases_lt, Bool.Decides.nat_tests, Grind.common_steps, Nat.shr_below}
 pub use Rattle.std.proofs.lemmas.List.Sums.{sum_by-cons, sum_by-le, sum_by-take-le, sum_by_more, sum_by_push}
 pub use Rattle.subset_counts.specs.{Inner.Fitting.AreEntered, Inner.Fitting.AreOfNeed, Inner.Fitting.Meet, declared.fitting.Fitting.Fitting}
-pub use Rattle.subset_counts.specs.{MinimalCounts.fill, MinimalCounts.one_of_size, MinimalCounts.taken, Inner.Tables.AreOfKeys, declared.row.Prefixes.Prefixes}
+pub use Rattle.subset_counts.specs.{Inner.Leading.fill, Inner.Leading.one_of_size, Inner.Leading.taken, Inner.Tables.AreOfKeys, declared.row.Prefixes.Prefixes}
 pub use Rattle.subset_counts.specs.{Inner.Groups.high_of, Inner.Groups.low_of, Inner.Halves.IsLeft, declared.subsets.Subset.Subset}
 pub use Rattle.subset_counts.specs.Inner.Rows.{AreOfPrefixes, AreTaken, GoesOn, come_to, prefixes, weigh}
 pub use Rattle.subset_counts.specs.Inner.Subsets.{AreSubsets, IsHalf, IsHalfOf, first_only, fits, has, joined, met, empty}
-unfoldable pub use Rattle.subset_counts.specs.{MinimalCounts.choose, MinimalCounts.minimal_count, MinimalCounts.left_out, Inner.Subsets.over}
+unfoldable pub use Rattle.subset_counts.specs.{Inner.Leading.choose, Inner.Leading.minimal_count, Inner.Leading.left_out, Inner.Subsets.over}

@@ -9,5 +9,6 @@ mod FittingSubsets
 mod TableSums
 mod GroupSums
 mod HalfSums
-pub mod Sets
+mod Sets
+mod LeftOut
 mod Imports

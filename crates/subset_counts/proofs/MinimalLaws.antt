@@ -2,7 +2,7 @@
 -- without a member.
 use Rattle.subset_counts.proofs.Imports.{◌≡◌, ℕ, zero, suc, ◌+◌, ◌-◌, ◌<◌, ◌≤◌, true, false, cond, leb, List, [], ◌∷◌, length, refl, arith}
 use Rattle.subset_counts.proofs.Imports.{cases_lt, nat_tests, choose, one_of_size, fill, minimal_count, left_out, over, fits}
-use Rattle.subset_counts.proofs.{SubsetLaws.fits-more, Shared.Choices.choose-none, Shared.Choices.left_out-past, Taking.choose-more}
+use Rattle.subset_counts.proofs.{SubsetLaws.fits-more, LeftOut.choose-none, LeftOut.left_out-past, Taking.choose-more}
 
 -- ---- what meets the quota is filled up in any way
 unfoldable pub chosen_from : ℕ → ℕ → ℕ → ℕ

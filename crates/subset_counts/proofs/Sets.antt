@@ -1,20 +1,20 @@
 -- How many sets of members are minimal, by their first member.
 use Rattle.subset_counts.proofs.Imports.{◌≡◌, ◌∙◌, ℕ, zero, suc, ◌+◌, ◌-◌, ◌^◌, ◌<◌, ◌≤◌, Bool, true, false, cond, leb, ltb, List, []}
-use Rattle.subset_counts.proofs.Imports.{◌∷◌, length, take, refl, ap, arith, sum_by, sum_by-cons, nat_tests, sum-zero, cases_lt, cases_eq}
+use Rattle.subset_counts.proofs.Imports.{◌∷◌, length, refl, ap, arith, sum_by, sum_by-cons, nat_tests, sum-zero, cases_lt, cases_eq}
 use Rattle.subset_counts.proofs.Imports.{choose, fill, minimal_count, left_out}
-use Rattle.std.proofs.Common.{sym, map, not, filter, inl, inr, ◌&&◌, ◌||◌, ◌==◌, ◌/◌, ◌%◌}
-use Rattle.std.proofs.lemmas.List.{length-map, Sums.length-filter}
-use Rattle.std.proofs.lemmas.Nat.Bits.{bit_at_cat_low, bit_at_cat_high, bit_at_above}
+use Rattle.std.proofs.Common.{sym, not, filter, inl, inr, ◌&&◌, ◌||◌, ◌==◌}
+use Rattle.std.proofs.lemmas.List.{Sums.length-filter}
 use Rattle.council_base.proofs.Shared.Lists.{sum-plus}
 use Rattle.council_base.proofs.Shared.Ranges.{sum_by-range-more}
 use native.Mathlib.Numerals.{unary_clauses}
 use Rattle.std.specs.List.{list_any, range_with_len}
 unfoldable use Rattle.council_base.specs.Coalitions.{has}
 use Rattle.council_base.specs.Coalitions.{places_of, size}
-use Rattle.subset_counts.specs.Sets.{weigh, but_last, is_minimal, count_minimal_sets, AreCountsOfSets}
-use Rattle.subset_counts.specs.MinimalCounts.{AreAllMinimalCounts}
+use Rattle.subset_counts.specs.Sets.{weigh, but_last, is_minimal, count_minimal_sets, AreMinimalCounts}
+use Rattle.subset_counts.specs.Inner.Leading.{LeadToCounts}
 use Rattle.subset_counts.specs.declared.minimal_counts.MinimalCounts.{MinimalCounts}
-use Rattle.subset_counts.proofs.{Shared.Choices.choose-none, Shared.Choices.left_out-past}
+use Rattle.subset_counts.proofs.{LeftOut.choose-none, LeftOut.left_out-past}
+use Rattle.subset_counts.proofs.Shared.Sets.{further, front, later, long-further, minimal_from, from-later, from-met, from-missed}
 
 -- ---- ranges
 sum-range : (f g : ℕ → ℕ) (a n : ℕ) → ((j : ℕ) → a ≤ j → j < a + n → f j ≡ g j)
@@ -34,43 +34,6 @@ sum-parts f m (suc n) =
 
 double-pow : (n : ℕ) → 2 ^ suc n ≡ 2 ^ n + 2 ^ n
 double-pow n = simp unary_clauses (omega arith)
-
-filter-shifted : (t : ℕ → Bool) (a n : ℕ) → filter t (range_with_len (a + 1) n) ≡ map (λ p. suc p) (filter (λ p. t (suc p)) (range_with_len a n))
-filter-shifted t a zero = refl
-filter-shifted t a (suc n) = let e : a + 1 ≡ suc a = omega arith in grind (arith, nat_tests, filter-shifted t (a + 1) n, e)
-
--- ---- a set with one member more in front
-abbrev further : List ℕ → List ℕ
-further ps = map (λ p. suc p) ps
-
-out-front : (n c : ℕ) → c < 2 ^ n → has (suc n) 0 c ≡ false
-unfolding has
-out-front n c lt = grind (arith, nat_tests, bit_at_above c n n lt (omega arith))
-
-in-front : (n c : ℕ) → c < 2 ^ n → has (suc n) 0 (2 ^ n + c) ≡ true
-unfolding has
-in-front n c lt = grind (arith, nat_tests, bit_at_cat_high 1 n c n lt (omega arith))
-
-out-rest : (n p c : ℕ) → has (suc n) (suc p) c ≡ has n p c
-unfolding has
-out-rest n p c = let place : suc n - 1 - suc p ≡ n - 1 - p = omega arith in ap (λ (k : ℕ). c / 2 ^ k % 2 == 1) place
-
-in-rest : (n p c : ℕ) → has (suc (suc n)) (suc p) (2 ^ suc n + c) ≡ has (suc n) p c
-unfolding has
-in-rest n p c = grind (arith, nat_tests, bit_at_cat_low 1 (suc n) c (suc n - 1 - p) (omega arith))
-
-later : (n c : ℕ) → c < 2 ^ n → places_of (suc n) c ≡ further (places_of n c)
-later n c lt =
-    let places : List ℕ = filter (λ p. has (suc n) p c) (range_with_len 1 n) in
-    (λ i. cond (out-front n c lt i) (0 ∷ places) places) ∙ filter-shifted (λ p. has (suc n) p c) 0 n
-    ∙ (λ i. further (filter (λ p. out-rest n p c i) (range_with_len 0 n)))
-
-front : (n c : ℕ) → c < 2 ^ n → places_of (suc n) (2 ^ n + c) ≡ 0 ∷ further (places_of n c)
-front zero c lt = λ i. cond (in-front 0 c lt i) (0 ∷ []) []
-front (suc n) c lt =
-    let t : ℕ → Bool = λ p. has (suc (suc n)) p (2 ^ suc n + c) in
-    (λ i. cond (in-front (suc n) c lt i) (0 ∷ filter t (range_with_len 1 (suc n))) (filter t (range_with_len 1 (suc n))))
-    ∙ ap (λ (l : List ℕ). 0 ∷ l) (filter-shifted t 0 (suc n) ∙ (λ i. further (filter (λ p. in-rest n p c i) (range_with_len 0 (suc n)))))
 
 -- ---- a number of each set, added
 -- f of the places of each set of n members, added
@@ -100,55 +63,6 @@ by-first n f =
       sum-range (λ c. f (places_of (suc n) c)) (λ c. f (further (places_of n c))) 0 h (λ c _ lt. ap f (later n c (omega (arith, lt)))),
       sum-range (λ c. f (places_of (suc n) (h + c))) (λ c. f (0 ∷ further (places_of n c))) 0 h (λ c _ lt. ap f (front n c (omega (arith, lt)))),
     )
-
--- ---- the weights and the last of a set
-weigh-later : (w : ℕ) (ws ps : List ℕ) → weigh (w ∷ ws) (further ps) ≡ weigh ws ps
-weigh-later w ws [] = refl
-weigh-later w ws (p ∷ ps) = simp sum_by-cons (omega (arith, weigh-later w ws ps))
-
-weigh-front : (w : ℕ) (ws ps : List ℕ) → weigh (w ∷ ws) (0 ∷ further ps) ≡ w + weigh ws ps
-weigh-front w ws ps = simp sum_by-cons (omega (arith, weigh-later w ws ps))
-
-take-further : (k : ℕ) (ps : List ℕ) → take k (further ps) ≡ further (take k ps)
-take-further zero ps = refl
-take-further (suc k) [] = refl
-take-further (suc k) (p ∷ ps) = ap (λ (l : List ℕ). suc p ∷ l) (take-further k ps)
-
-long-further : (ps : List ℕ) → length (further ps) ≡ length ps
-long-further ps = simp length-map
-
-last-later : (ps : List ℕ) → but_last (further ps) ≡ further (but_last ps)
-last-later ps = ap (λ (k : ℕ). take (k - 1) (further ps)) (long-further ps) ∙ take-further (length ps - 1) ps
-
-last-front : (p q : ℕ) (ps : List ℕ) → but_last (p ∷ q ∷ ps) ≡ p ∷ but_last (q ∷ ps)
-last-front p q ps = let e : suc (suc (length ps)) - 1 ≡ suc (suc (length ps) - 1) = omega arith in ap (λ (k : ℕ). take k (p ∷ q ∷ ps)) e
-
--- ---- a set that is minimal behind a prefix of so many members, that leaves so much of the quota
-abbrev minimal_from : List ℕ → ℕ → ℕ → ℕ → List ℕ → Bool
-minimal_from ws heads need a ps =
-    leb need (weigh ws ps) && ((a + length ps == heads) || (ltb heads (a + length ps) && ltb (weigh ws (but_last ps)) need))
-
-from-later : (w : ℕ) (ws : List ℕ) (heads need a : ℕ) (ps : List ℕ) → minimal_from (w ∷ ws) heads need a (further ps) ≡ minimal_from ws heads need a ps
-from-later w ws heads need a ps =
-    let short : weigh (w ∷ ws) (but_last (further ps)) ≡ weigh ws (but_last ps) = ap (weigh (w ∷ ws)) (last-later ps) ∙ weigh-later w ws (but_last ps) in
-    λ i. leb need (weigh-later w ws ps i)
-    && ((a + long-further ps i == heads) || (ltb heads (a + long-further ps i) && ltb (short i) need))
-
-weigh-short : (w : ℕ) (ws : List ℕ) (p : ℕ) (ps : List ℕ) → weigh (w ∷ ws) (but_last (0 ∷ further (p ∷ ps))) ≡ w + weigh ws (but_last (p ∷ ps))
-weigh-short w ws p ps =
-    ap (weigh (w ∷ ws)) (last-front 0 (suc p) (further ps) ∙ ap (λ (l : List ℕ). 0 ∷ l) (last-later (p ∷ ps))) ∙ weigh-front w ws (but_last (p ∷ ps))
-
--- the first member meets the need
-from-met : (w : ℕ) (ws : List ℕ) (heads need a : ℕ) (ps : List ℕ) → 0 < need → need ≤ w
-    → minimal_from (w ∷ ws) heads need a (0 ∷ further ps) ≡ (length ps == heads - (a + 1))
-from-met w ws heads need a [] some met = grind (arith, nat_tests, weigh-front w ws [])
-from-met w ws heads need a (p ∷ ps) some met = grind (arith, nat_tests, weigh-front w ws (p ∷ ps), weigh-short w ws p ps, long-further (p ∷ ps))
-
--- it leaves some of it
-from-missed : (w : ℕ) (ws : List ℕ) (heads need a : ℕ) (ps : List ℕ) → w < need
-    → minimal_from (w ∷ ws) heads need a (0 ∷ further ps) ≡ minimal_from ws heads (need - w) (a + 1) ps
-from-missed w ws heads need a [] missed = grind (arith, nat_tests, weigh-front w ws [])
-from-missed w ws heads need a (p ∷ ps) missed = grind (arith, nat_tests, weigh-front w ws (p ∷ ps), weigh-short w ws p ps, long-further (p ∷ ps))
 
 -- ---- sets without a place
 abbrev lacks : ℕ → List ℕ → Bool
@@ -306,10 +220,11 @@ module _ (ws : List ℕ) (heads quota s : ℕ) (some : 0 < quota) where
       λ i. sum_by (λ c. both c i) (range_with_len 0 (2 ^ n)) in
       omega (arith, length-filter (λ c. has n p c && counted c) (range_with_len 0 (2 ^ n)), parts, whole, without p, total)
 
-pub of-sets : (ws : List ℕ) (heads quota : ℕ) (t : MinimalCounts) → 0 < quota → AreAllMinimalCounts ws heads quota t → AreCountsOfSets ws heads quota t
-of-sets ws heads quota t some are = record {
-  all = λ s small. are.all.each s small ∙ sym (sets-all ws heads quota s some);
-  each = λ p s lt small. omega (arith, (are.each p lt).each s small, sets-with ws heads quota s some p lt);
+pub of_sets : (ws : List ℕ) (heads quota : ℕ) (t : MinimalCounts) → 0 < quota → LeadToCounts ws heads quota t → AreMinimalCounts ws heads quota t
+of_sets ws heads quota t some are = record {
+  all = record { long = are.all.long; each = λ s small. are.all.each s small ∙ sym (sets-all ws heads quota s some) };
+  each = λ p lt. record {
+    long = (are.each p lt).long;
+    each = λ s small. omega (arith, (are.each p lt).each s small, sets-with ws heads quota s some p lt);
+  };
 }
-
-pub ruleset laws = (of-sets)

@@ -1,2 +1,2 @@
 -- What other crates may cite.
-pub mod Choices
+pub mod Sets

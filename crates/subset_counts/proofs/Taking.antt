@@ -5,7 +5,7 @@ use Rattle.subset_counts.proofs.Imports.{refl, arith, ◌-◌, get_or-set_same, 
 use Rattle.subset_counts.proofs.Imports.{prefixes, mul-le-mul_right, sum_by-take-le, AreTaken, sum_by-cons, get_or-zeros, length-set}
 use Rattle.std.proofs.Common.{max}
 use Rattle.council_base.proofs.Shared.Lists.{bumped}
-use Rattle.subset_counts.proofs.Shared.Choices.{choose-none}
+use Rattle.subset_counts.proofs.LeftOut.{choose-none}
 
 pub choose-most : (m k : ℕ) → choose m k ≤ 2 ^ m
 unfolding choose

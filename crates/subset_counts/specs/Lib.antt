@@ -1,3 +1,2 @@
-pub mod MinimalCounts
 pub mod Sets
 pub mod Inner

@@ -4,7 +4,7 @@ use Rattle.std.specs.Prelude.{ℕ, ◌-◌, ◌^◌, ◌<◌, ◌≤◌, ◌==�
 use Rattle.std.specs.Prelude.{slice_index_or, sum_by}
 use Rattle.std.specs.List.{filter, range_with_len}
 use Rattle.council_base.specs.Coalitions.{has, places_of, size}
-use Rattle.council_base.specs.declared.limits.TheConstants.{MEMBERS}
+use Rattle.council_base.specs.declared.limits.TheConstants.{MEMBERS, SIZES}
 use Rattle.subset_counts.specs.declared.minimal_counts.MinimalCounts.{MinimalCounts}
 
 -- what the members of these places weigh together
@@ -28,9 +28,12 @@ count_minimal_sets ws heads quota test s =
     let n = length ws in
     length (filter (λ c. test c && (is_minimal ws heads quota (places_of n c) && (size n c == s))) (range_with_len 0 (2 ^ n)))
 
--- the counts are how many minimal sets there are of each size, and how many of these have each
--- member
-pub record AreCountsOfSets (ws : List ℕ) (heads quota : ℕ) (t : MinimalCounts) : Type 0 where
-  pub all : (s : ℕ) → s ≤ MEMBERS → slice_index t.all s ≡ count_minimal_sets ws heads quota (λ c. true) s
-  pub each : (p s : ℕ) → p < length ws → s ≤ MEMBERS
-      → slice_index (slice_index_or t.each p []) s ≡ count_minimal_sets ws heads quota (has (length ws) p) s
+-- these are how many minimal sets pass a test, by size
+pub record AreSetCounts (ws : List ℕ) (heads quota : ℕ) (test : ℕ → Bool) (sizes : List ℕ) : Type 0 where
+  pub long : length sizes ≡ SIZES
+  pub each : (s : ℕ) → s ≤ MEMBERS → slice_index sizes s ≡ count_minimal_sets ws heads quota test s
+
+-- the counts of all minimal sets, and of those with each member
+pub record AreMinimalCounts (ws : List ℕ) (heads quota : ℕ) (t : MinimalCounts) : Type 0 where
+  pub all : AreSetCounts ws heads quota (λ c. true) t.all
+  pub each : (p : ℕ) → p < length ws → AreSetCounts ws heads quota (has (length ws) p) (slice_index_or t.each p [])

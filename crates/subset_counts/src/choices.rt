@@ -1,7 +1,7 @@
 //! How many members are asked for, and in how many ways some of the members can be chosen.
 ghost use Rattle.std.specs.Prelude.{◌≡◌, ℕ, ◌+◌, ◌-◌, ◌≤◌, ◌<◌, if◌then◌else◌, nat_lt, IfOk, slice_index};
 ghost use Rattle.council_base.specs.declared.limits.TheConstants.{MEMBERS};
-ghost use Rattle.subset_counts.specs.MinimalCounts.{choose};
+ghost use Rattle.subset_counts.specs.Inner.Leading.{choose};
 ghost use Rattle.subset_counts.specs.Inner.Rows.{AreChoices};
 
 use council_base::{Memory, limits};

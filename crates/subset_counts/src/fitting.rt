@@ -1,7 +1,7 @@
 //! The subsets of a list that meet a need, by size.
 ghost use Rattle.std.specs.Prelude.{◌≡◌, ℕ, ◌+◌, ◌-◌, ◌<◌, ◌≤◌, ◌^◌, true, false, if◌then◌else◌, nat_le, length, slice_index};
 ghost use Rattle.council_base.specs.declared.limits.TheConstants.{MEMBERS};
-ghost use Rattle.subset_counts.specs.MinimalCounts.{one_of_size};
+ghost use Rattle.subset_counts.specs.Inner.Leading.{one_of_size};
 ghost use Rattle.subset_counts.specs.Inner.Subsets.{IsHalf};
 ghost use Rattle.subset_counts.specs.Inner.Fitting.{AreEntered, AreOfNeed, Meet};
 

@@ -1,7 +1,7 @@
 //! Minimal coalitions, counted by the subsets of two halves (Horowitz and Sahni 1974).
 ghost use Rattle.council_base.specs.declared.limits.TheConstants.{MEMBERS, SIZES, TOTAL};
 ghost use Rattle.subset_counts.specs.declared.subsets.Subset.{Subset};
-ghost use Rattle.subset_counts.specs.MinimalCounts.{AreAllMinimalCounts, minimal_count, left_out};
+ghost use Rattle.subset_counts.specs.Inner.Leading.{LeadToCounts, minimal_count, left_out};
 ghost use Rattle.subset_counts.specs.Inner.Halves.{AreHalves, ArePairs, IsLeft};
 ghost use Rattle.subset_counts.specs.Inner.Subsets.{AreSubsets, IsHalfOf, fits, over};
 ghost use Rattle.subset_counts.specs.Inner.Groups.{HaveRows};
@@ -178,7 +178,7 @@ impl Halves {
         requires halves { AreHalves weights.now self.now }
         requires some { 0 < self.now.quota }
         requires heads { heads ≤ MEMBERS }
-        ensures { AreAllMinimalCounts weights.now heads self.now.quota result }
+        ensures { LeadToCounts weights.now heads self.now.quota result }
     {
         let all = self.count_without(weights, heads, weights.len());
         let mut each = [all; limits::MEMBERS];
@@ -200,7 +200,7 @@ pub(crate) fn by_halves(
     requires light { sum weights.now ≤ TOTAL }
     requires some { 0 < quota }
     requires heads { heads ≤ MEMBERS }
-    ensures { IfOk result (AreAllMinimalCounts weights.now heads quota) }
+    ensures { IfOk result (LeadToCounts weights.now heads quota) }
 {
     let halves = Halves::new(alloc, weights, quota)?;
     Ok(halves.counts(weights, heads))

@@ -16,7 +16,6 @@ mod choices;
 mod fitting;
 mod groups;
 mod halves;
-pub mod laws;
 mod minimal_counts;
 mod row;
 mod rows;

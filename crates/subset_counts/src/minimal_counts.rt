@@ -1,7 +1,7 @@
 //! The minimal coalitions of members with some weights, by sums or by halves.
 ghost use Rattle.council_base.specs.declared.limits.TheConstants.{MEMBERS, TOTAL};
 ghost use Rattle.std.specs.Prelude.{◌≡◌, ◌≤◌, ◌<◌, IfOk, length, sum};
-ghost use Rattle.subset_counts.specs.MinimalCounts.{AreAllMinimalCounts};
+ghost use Rattle.subset_counts.specs.Sets.{AreMinimalCounts};
 
 use crate::halves::by_halves;
 use crate::sums::by_sums;
@@ -39,7 +39,7 @@ pub fn count_minimal(
     requires light { sum weights.now ≤ TOTAL }
     requires some { 0 < quota }
     requires heads { heads ≤ MEMBERS }
-    ensures { IfOk result (λ t. AreAllMinimalCounts weights.now heads quota t.value) }
+    ensures { IfOk result (λ t. AreMinimalCounts weights.now heads quota t.value) }
 {
     let counts = match by_sums(alloc, weights, quota, heads)? {
         Some(counts) => counts,

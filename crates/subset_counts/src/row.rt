@@ -2,7 +2,7 @@
 ghost use Rattle.std.specs.Prelude.{◌≡◌, ℕ, ◌+◌, ◌*◌, ◌<◌, ◌≤◌, ◌^◌, IfOk, length, slice_index, take, drop};
 ghost use Rattle.std.specs.List.{All};
 ghost use Rattle.council_base.specs.declared.limits.TheConstants.{MEMBERS};
-ghost use Rattle.subset_counts.specs.MinimalCounts.{fill, taken};
+ghost use Rattle.subset_counts.specs.Inner.Leading.{fill, taken};
 ghost use Rattle.subset_counts.specs.Inner.Rows.{AreMerged, AreTaken, prefixes, weigh};
 
 use crate::choices::Heads;

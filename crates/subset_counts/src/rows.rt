@@ -2,7 +2,7 @@
 ghost use Rattle.std.specs.Prelude.{◌≡◌, ℕ, ◌+◌, ◌-◌, ◌<◌, ◌≤◌, ◌^◌, IfOk, List, [], ◌∷◌, true, length, slice_index, sum, drop};
 ghost use Rattle.std.specs.List.{All};
 ghost use Rattle.council_base.specs.declared.limits.TheConstants.{MEMBERS, SIZES};
-ghost use Rattle.subset_counts.specs.MinimalCounts.{minimal_count};
+ghost use Rattle.subset_counts.specs.Inner.Leading.{minimal_count};
 ghost use Rattle.subset_counts.specs.Inner.Rows.{AreOfPrefixes, GoesOn, at_most, come_to};
 
 use crate::choices::Heads;

@@ -1,6 +1,6 @@
 //! Minimal coalitions, counted member by member.
 ghost use Rattle.council_base.specs.declared.limits.TheConstants.{MEMBERS, SIZES, TOTAL};
-ghost use Rattle.subset_counts.specs.MinimalCounts.{AreAllMinimalCounts, left_out};
+ghost use Rattle.subset_counts.specs.Inner.Leading.{LeadToCounts, left_out};
 ghost use Rattle.subset_counts.specs.Inner.Rows.{AreOfPrefixes, AreOfTheRest, come_to};
 ghost use Rattle.std.specs.Prelude.{◌≡◌, ℕ, ◌+◌, ◌-◌, ◌<◌, ◌≤◌, [], true, IfOk, IfSome, length, sum, slice_index, slice_index_or};
 
@@ -79,7 +79,7 @@ fn count(
 ) -> Result<Option<MinimalCounts>, Memory>
     requires few { length weights.now ≤ MEMBERS }
     requires total { total ≡ sum weights.now }
-    ensures { IfOk result (λ counts. IfSome counts (AreAllMinimalCounts weights.now heads.now.asked quota)) }
+    ensures { IfOk result (λ counts. IfSome counts (LeadToCounts weights.now heads.now.asked quota)) }
 {
     rows.begin(quota, weights.len())?;
     if !rows.finish(weights, total, heads)? {
@@ -104,7 +104,7 @@ pub(crate) fn by_sums(
     requires few { length weights.now ≤ MEMBERS }
     requires light { sum weights.now ≤ TOTAL }
     requires heads { heads ≤ MEMBERS }
-    ensures { IfOk result (λ counts. IfSome counts (AreAllMinimalCounts weights.now heads quota)) }
+    ensures { IfOk result (λ counts. IfSome counts (LeadToCounts weights.now heads quota)) }
 {
     let asked = Heads::new(alloc, heads)?;
     let (mut rows, mut others) = (Rows::new(alloc), Rows::new(alloc));

@@ -2,7 +2,7 @@
 use Rattle.std.specs.Prelude.{ℕ, ◌≤◌, ◌<◌, ◌≡◌, false, List, length, drop, slice_index, slice_index_or, sum_by}
 use Rattle.subset_counts.specs.declared.subsets.Subset.{Subset}
 use Rattle.subset_counts.specs.declared.fitting.Fitting.{Fitting}
-use Rattle.subset_counts.specs.MinimalCounts.{one_of_size}
+use Rattle.subset_counts.specs.Inner.Leading.{one_of_size}
 use Rattle.subset_counts.specs.Inner.Subsets.{fits}
 
 -- the sets of a list behind those that are outside have been counted

@@ -2,7 +2,7 @@
 use Rattle.std.specs.Prelude.{ℕ, ◌+◌, ◌-◌, ◌*◌, ◌≤◌, ◌^◌, ◌≡◌, List, [], ◌∷◌, length, sum, slice_index, slice_index_or, sum_by}
 use Rattle.std.specs.List.{All}
 use Rattle.council_base.specs.declared.limits.TheConstants.{MEMBERS, SIZES}
-use Rattle.subset_counts.specs.MinimalCounts.{choose, minimal_count, fill, taken}
+use Rattle.subset_counts.specs.Inner.Leading.{choose, minimal_count, fill, taken}
 use Rattle.subset_counts.specs.declared.row.Prefixes.{Prefixes}
 
 -- the sum of a number that goes with a need and a size, over the prefixes of a row

@@ -3,7 +3,7 @@ use Rattle.std.specs.Prelude.{ℕ, ◌+◌, ◌-◌, ◌*◌, ◌/◌, ◌%◌, 
 use Rattle.std.specs.Prelude.{sum_by}
 use Rattle.std.specs.List.{All, AllPairs}
 use Rattle.subset_counts.specs.declared.subsets.Subset.{Subset}
-use Rattle.subset_counts.specs.MinimalCounts.{one_of_size}
+use Rattle.subset_counts.specs.Inner.Leading.{one_of_size}
 
 -- the subset of no member
 abbrev pub empty : Subset

@@ -39,17 +39,17 @@ left_out zero (w ∷ ws) = ws
 left_out (suc p) (w ∷ ws) = w ∷ left_out p ws
 
 -- of each size as many coalitions as the members lead to from a quota
-pub record AreMinimalCounts (ws : List ℕ) (heads quota : ℕ) (sizes : List ℕ) : Type 0 where
+pub record LeadTo (ws : List ℕ) (heads quota : ℕ) (sizes : List ℕ) : Type 0 where
   pub long : length sizes ≡ SIZES
   pub each : (s : ℕ) → s ≤ MEMBERS → slice_index sizes s ≡ minimal_count ws heads s quota 0
 
 -- those that the members do not lead to without the member of place p
-pub record AreMinimalCountsWith (ws : List ℕ) (heads quota p : ℕ) (sizes : List ℕ) : Type 0 where
+pub record LeadToWith (ws : List ℕ) (heads quota p : ℕ) (sizes : List ℕ) : Type 0 where
   pub long : length sizes ≡ SIZES
   pub each : (s : ℕ) → s ≤ MEMBERS →
       slice_index sizes s + minimal_count (left_out p ws) heads s quota 0 ≡ minimal_count ws heads s quota 0
 
 -- all of them, and those with each place
-pub record AreAllMinimalCounts (ws : List ℕ) (heads quota : ℕ) (t : MinimalCounts) : Type 0 where
-  pub all : AreMinimalCounts ws heads quota t.all
-  pub each : (p : ℕ) → p < length ws → AreMinimalCountsWith ws heads quota p (slice_index_or t.each p [])
+pub record LeadToCounts (ws : List ℕ) (heads quota : ℕ) (t : MinimalCounts) : Type 0 where
+  pub all : LeadTo ws heads quota t.all
+  pub each : (p : ℕ) → p < length ws → LeadToWith ws heads quota p (slice_index_or t.each p [])
