@@ -2,7 +2,7 @@
 //! speaks of their words, which are tested. And a reader that keeps what it reads.
 //!
 //! ```text
-//! let mut reader = Kept::new(alloc, &mut file, true);
+//! let mut reader = Recorder::new(alloc, &mut file, true);
 //! let lines = explain(alloc, b"[51, 50, 49, 1]", GameFault::Bracket)?;
 //! ```
 #![tactic(auto)]
@@ -10,11 +10,11 @@
 mod bracket;
 mod explaining;
 mod explanation;
-mod kept;
 mod keys;
 mod members;
 mod no_toml;
 mod ranges;
+mod recorder;
 mod rules;
 mod slips;
 mod source;
@@ -22,4 +22,4 @@ mod values;
 
 pub use bracket::remark;
 pub use explaining::explain;
-pub use kept::Kept;
+pub use recorder::Recorder;
