@@ -10,7 +10,7 @@ ghost use Rattle.council_run.specs.Run.{IsOutcome};
 ghost use Rattle.council.specs.Inner.Wants.{limit_wanted, lines_wanted};
 
 use council_base::{Gate, Sink, Source, sanitize};
-use council_explain::{Kept, explain, remark_on_quotas, remark_on_thousands};
+use council_explain::{Recorder, explain, remark_on_quotas, remark_on_thousands};
 use council_game::GameFault;
 use council_progress::{Line, Progress, Wiping};
 use council_run::{Cause, LEAST_BITS, RunFault, number_by_sums, run, status, tally};
@@ -32,7 +32,7 @@ fn print_fault(rt: &impl Eprint, fault: RunFault) -> ExitCode {
     ExitCode::from(status(&fault))
 }
 
-/// Says more of a fault, where there is more to say; the bytes are those that were read.
+/// Says more of a fault, if there is more to say; the bytes are those that were read.
 fn explain_further(rt: &(impl Eprint + AllocGlobal), cause: Cause, bytes: &[u8]) {
     match cause {
         Cause::Game(fault) => {
@@ -77,7 +77,7 @@ fn print_remarks(rt: &(impl Eprint + AllocGlobal), bytes: &[u8]) {
 const LONGEST_PATH: usize = 4096;
 
 /// Says why the file could not be opened.
-fn not_opened(
+fn report_unopened(
     rt: &impl Eprint,
     arguments: &Arguments<'_>,
     path: &str,
@@ -160,7 +160,7 @@ fn run_on<R: AllocGlobal + Print + Eprint + Clock + Threads + Wait + Sync, I: So
     reader: &mut I,
 ) -> ExitCode {
     let alloc = rt.alloc();
-    let mut reader = Kept::new(alloc, reader, arguments.explain || terminal);
+    let mut reader = Recorder::new(alloc, reader, arguments.explain || terminal);
     let slices = slices_of(arguments);
     let progress = Progress::new(rt, terminal, slices);
     let mut writer = Wiping {
@@ -172,7 +172,7 @@ fn run_on<R: AllocGlobal + Print + Eprint + Clock + Threads + Wait + Sync, I: So
     report_outcome(rt, arguments, terminal, outcome, reader.bytes())
 }
 
-/// Runs on the file, or on standard input where none is named.
+/// Runs on the file, or on standard input if none is named.
 fn run_on_file<R: AllocGlobal + Files + Input + Print + Eprint + Clock + Threads + Wait + Sync>(
     rt: &R,
     arguments: &Arguments<'_>,
@@ -181,7 +181,7 @@ fn run_on_file<R: AllocGlobal + Files + Input + Print + Eprint + Clock + Threads
     match arguments.file {
         Some(path) => match fs::open(rt, path) {
             Ok(mut file) => run_on(rt, arguments, terminal, &mut file),
-            Err(error) => not_opened(rt, arguments, path, &error),
+            Err(error) => report_unopened(rt, arguments, path, &error),
         },
         None => run_on(rt, arguments, terminal, &mut rt.reader()),
     }

@@ -1,2 +1,2 @@
 -- What only private functions and calls of `Source` need.
-pub mod Kept
+pub mod Recorder

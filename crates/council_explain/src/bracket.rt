@@ -5,7 +5,7 @@ use council_file::bracket_rule;
 use council_game::{Memory, limits};
 use std::alloc::Global;
 
-/// How the front of a bracket text can end, and what is then wanted behind it. The first end that
+/// How the front of a bracket text can end, and what is then wanted after it. The first end that
 /// fits says it.
 const ENDS: &[(&str, &str)] = &[
     ("", "nothing may stand behind the bracket"),
@@ -19,9 +19,9 @@ const ENDS: &[(&str, &str)] = &[
     ("[1;1]", "a bracket is expected here"),
 ];
 
-/// What is wanted behind the front of a bracket text; none where a text with this front breaks the
+/// What is wanted after the front of a bracket text; none if a text with this front breaks the
 /// grammar.
-fn wanted_behind(alloc: Global, front: &str) -> Result<Option<&'static str>, Memory> {
+fn expect_after(alloc: Global, front: &str) -> Result<Option<&'static str>, Memory> {
     for (end, wanted) in ENDS {
         let text = format!(in alloc; "{front}{end}")?;
         if bracket_rule(alloc, text.as_bytes())?.is_some() {
@@ -38,7 +38,7 @@ fn longest_front(alloc: Global, text: &str) -> Result<usize, Memory> {
     for halvings in 0..17u32 {
         let longer = len.saturating_add(limits::FILE_BYTES >> halvings);
         if let Some(front) = text.get(..longer)
-            && wanted_behind(alloc, front)?.is_some()
+            && expect_after(alloc, front)?.is_some()
         {
             len = longer;
         }
@@ -55,7 +55,7 @@ impl Explanation<'_> {
         let wanted = if front.ends_with(is_digit) && rest.starts_with(is_digit) {
             "a number has at most 18 digits"
         } else {
-            wanted_behind(alloc, front)?.unwrap_or("")
+            expect_after(alloc, front)?.unwrap_or("")
         };
         self.explain_place(place);
         self.line(wanted);

@@ -1,6 +1,6 @@
 //! What a fault says of bytes.
 use crate::explanation::Explanation;
-use crate::source::bare;
+use crate::source::strip;
 use council_file::bracket_rule;
 use council_game::{GameFault, Memory, Rule};
 use std::alloc::Global;
@@ -16,7 +16,7 @@ const READ: &str = "a folder was named, or what can not be read: name a file tha
 /// What is said of a file that is too long.
 const TOO_LONG: &str = "the file of a game of 40 members is much shorter: is it the right file?";
 
-/// The tree of a text, and why it is empty where the text is no TOML.
+/// The tree of a text, and why it is empty if the text is no TOML.
 fn tree_of(alloc: Global, text: &str) -> Result<(Table, Option<Error>), Memory> {
     match toml::table_from_str(alloc, text) {
         Ok(table) => Ok((table, None)),
@@ -76,11 +76,11 @@ fn explain_fault(
 ///
 /// # Errors
 ///
-/// Memory where a growth was refused.
+/// Memory if an allocation was refused.
 pub fn explain(alloc: Global, bytes: &[u8], fault: GameFault) -> Result<String, Memory> {
     let bytes = bytes.strip_prefix(MARK).unwrap_or(bytes);
     let text = String::from_utf8_lossy(alloc, bytes)?;
-    let bare = bare(alloc, text.as_str())?;
+    let bare = strip(alloc, text.as_str())?;
     let (table, error) = tree_of(alloc, text.as_str())?;
     let rule = bracket_rule(alloc, bytes)?;
     let mut explanation = Explanation {

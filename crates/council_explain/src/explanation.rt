@@ -14,7 +14,7 @@ pub struct Explanation<'a> {
     pub text: &'a str,
     /// The text without blanks, comments and what stands in quotes.
     pub bare: &'a str,
-    /// The tree of the text; empty where it is no TOML.
+    /// The tree of the text; empty if it is no TOML.
     pub table: &'a Table,
     /// The lines, each begun with two blanks and ended with LF.
     pub lines: String,

@@ -2,7 +2,7 @@
 //! speaks of their words, which are tested. And a reader that keeps what it reads.
 //!
 //! ```text
-//! let mut reader = Kept::new(alloc, &mut file, true);
+//! let mut reader = Recorder::new(alloc, &mut file, true);
 //! let lines = explain(alloc, b"[51, 50, 49, 1]", GameFault::Bracket)?;
 //! ```
 #![tactic(auto)]
@@ -10,11 +10,11 @@
 mod bracket;
 mod explaining;
 mod explanation;
-mod kept;
 mod keys;
 mod members;
 mod no_toml;
 mod ranges;
+mod recorder;
 mod remarks;
 mod rules;
 mod slips;
@@ -22,5 +22,5 @@ mod source;
 mod values;
 
 pub use explaining::explain;
-pub use kept::Kept;
+pub use recorder::Recorder;
 pub use remarks::{remark_on_quotas, remark_on_thousands};

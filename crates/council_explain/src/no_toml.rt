@@ -9,7 +9,7 @@ use toml::de::Error;
 const SEPARATORS: &[(char, &str)] = &[('\t', "TABs"), (';', "semicolons"), (',', "commas")];
 
 impl Explanation<'_> {
-    /// Says that the text looks like a table, where a line of several columns stands before those
+    /// Says that the text looks like a table, if a line of several columns comes before those
     /// of a game file; whether it does.
     fn explain_table(&mut self) -> bool {
         for (index, line) in self.text.lines().enumerate() {

@@ -1,31 +1,32 @@
-//! What a run reads, kept for an explanation.
+//! A reader that records what a run reads, for an explanation.
 ghost use Rattle.std.specs.Prelude.{◌≡◌, Some, None, [], if◌then◌else◌, option_map};
-ghost use Rattle.council_explain.specs.Inner.Kept.{bytes_read, KeepsAll};
+ghost use Rattle.council_explain.specs.Inner.Recorder.{bytes_read, KeepsAll};
 
 use council_base::Source;
 use std::alloc::Global;
 use std::io;
 
-/// A reader that gives what another gives, and keeps it if it is asked to. A read of it is one read
-/// of the reader inside, with the same bytes and the same result.
+/// A reader that gives what another gives, and records it if it is asked to.
+///
+/// A read of it is one read of the reader inside, with the same bytes and the same result.
 #[derive(Drop)]
-pub struct Kept<'a, I> {
+pub struct Recorder<'a, I> {
     reader: &'a mut I,
-    /// What it gave; none where it keeps nothing, or room was refused.
+    /// What it gave; `None` if it records nothing, or an allocation was refused.
     bytes: Option<Vec<u8>>,
 }
 
-impl<'a, I: Source> Kept<'a, I> {
-    /// Makes a reader that keeps what it reads if `keeps` says so.
-    pub fn new(alloc: Global, reader: &'a mut I, keeps: bool) -> Kept<'a, I>
+impl<'a, I: Source> Recorder<'a, I> {
+    /// Returns a reader that has read nothing, and records what it reads if `keeps` is true.
+    pub fn new(alloc: Global, reader: &'a mut I, keeps: bool) -> Recorder<'a, I>
         ensures inside { result.reader.now ≡ reader.old }
         ensures kept { option_map (λ v. v.items) result.bytes ≡ (if keeps then Some [] else None) }
     {
         let bytes = if keeps { Some(Vec::new(alloc)) } else { None };
-        Kept { reader, bytes }
+        Recorder { reader, bytes }
     }
 
-    /// Returns the bytes that were read, or none if they were not kept.
+    /// Returns the bytes that were read, or `None` if they were not recorded.
     pub fn bytes(&self) -> Option<&[u8]>
         ensures { option_map (λ s. s.now) result ≡ option_map (λ v. v.items) self.now.bytes }
     {
@@ -36,7 +37,7 @@ impl<'a, I: Source> Kept<'a, I> {
     }
 }
 
-impl<'a, I: Source> Source for Kept<'a, I> {
+impl<'a, I: Source> Source for Recorder<'a, I> {
     ghost left = { λ kept. I.left kept.reader.now };
 
     ghost is_read = { λ old buffer result new filled.

@@ -84,7 +84,7 @@ fn bare_letter(within: Within, letter: char, is_open: bool) -> Option<char> {
 /// Its rows are the headers, and the keys outside of brackets with their values: the end of a line
 /// within quotes or brackets is a CR. In quotes on one line, `?` replaces each letter that no key
 /// without quotes has.
-pub fn bare(alloc: Global, text: &str) -> Result<String, Memory> {
+pub fn strip(alloc: Global, text: &str) -> Result<String, Memory> {
     let mut bare = String::new(alloc);
     let mut within = Within::Nothing;
     let mut depth = 0usize;
