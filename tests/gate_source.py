@@ -1,5 +1,5 @@
 #!/usr/bin/env python3
-"""A gate is passed at one place.
+"""A gate is passed at one place, and told of the worker that works.
 
     gate_source.py [CRATES]
 
@@ -8,6 +8,9 @@ each call of these names but those of one argument, which are no calls of a gate
 only where it is announced a slice; `Guarded::admit` announces it and gives the game; and `admit` is called by the one
 function that sends a slice, and by `Guarded::pass`, for callers.
 No contract can count these calls, but whatever goes through that function passes once for each slice that it sends.
+
+And it looks for the calls that hand the number of a worker on to that function: a contract knows of it only from there
+on.
 
 Prints `ok gate_source` or `FAILED gate_source: why`.
 """
@@ -21,7 +24,12 @@ WANTED = {
     ("mwc_gather/src/guarded.rt", "self.gate.announce(worker, slice);"),
     ("mwc_gather/src/guarded.rt", "self.admit(worker, slice)"),
     ("mwc_gather/src/send.rt", "let mut walk = Walk::new(guarded.admit(worker, slice), bits, slice);"),
+    ("mwc_gather/src/send.rt", "send_slice_in_rows::<WordByWord, _, _, _>(rt, guarded, bits, slice, worker, left, out, pair)"),
+    ("mwc_gather/src/worker.rt", "let sent = send_slice_in_rows::<RowByRow, _, _, _>("),
+    ("mwc_gather/src/worker.rt", "run_worker(rt, &job, worker, out, tasks, pair)"),
+    ("mwc_gather/src/worker_handle.rt", "{ run_worker(rt, &own, worker, out, list, pair) };"),
 }
+PASSES = re.compile(r"::(?:pass|announce|admit)\b|\.(?:pass|announce|admit)\((?!\w+\))|\brun_worker\(|\bsend_slice_in_rows::")
 
 
 def main(words):
@@ -35,8 +43,8 @@ def main(words):
         with open(path, encoding="utf-8") as it:
             for line in it:
                 code = line.split("//")[0]
-                found += [(name, code.strip())] * len(re.findall(r"::(?:pass|announce|admit)\b|\.(?:pass|announce|admit)\((?!\w+\))", code))
-    faults = [f"a gate is passed in {name}: {code}" for name, code in found if (name, code) not in WANTED]
+                found += [(name, code.strip())] * len(PASSES.findall(code))
+    faults = [f"a gate is passed, or a worker handed on, in {name}: {code}" for name, code in found if (name, code) not in WANTED]
     faults += [f"{name} has this {found.count((name, code))} times, and not once: {code}" for name, code in sorted(WANTED) if found.count((name, code)) != 1]
     for fault in faults:
         print(f"FAILED gate_source: {fault}")

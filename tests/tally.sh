@@ -111,6 +111,25 @@ for rules in 2 3 4; do
     same_as_run "26 random members and $rules rules" "$needed" "${votes[@]}"
 done
 
+# 34 members of nearly the same weight, and six of nearly none, five of whom the second rule needs:
+# a walk in the order of the first rule takes more than a minute, and in that of contribution tenths
+# of a second
+x=7
+total=0
+votes=()
+for ((member = 0; member < 40; member++)); do
+    x=$(((75 * x + 74) % 65537))
+    if [ "$member" -lt 34 ]; then
+        total=$((total + 1000 + x % 500))
+        votes+=("$((1000 + x % 500)), $((x % 3))")
+    else
+        votes+=("$((x % 4 + 1)), $((1000 + x % 50))")
+    fi
+done
+limit=$((seconds / 6))
+same_as_run "34 equals and six others" "$((total * 6 / 100)), 5100" "${votes[@]}"
+limit=$seconds
+
 # a house by weights and by how many they are, beside a senate; and one by two rules of weights,
 # beside a senate and a president
 mapfile -t votes < <(for it in 9 7 6 6 5 4 3 2 1; do echo "$it, 1, 0"; done && for it in 5 4 3 3 2 1; do echo "0, 0, $it"; done)

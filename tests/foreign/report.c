@@ -4,6 +4,7 @@
  *     report [--tally] [--list] [--sizes] [--notation] [--most N] [--room N] <GAME
  *
  * begins with a buffer of so much room, and calls again where the text is longer. What stands behind a buffer must stay.
+ * It ends with the program's status, by the name that the header has for it.
  */
 #include "council.h"
 #include <stdio.h>
@@ -77,5 +78,18 @@ int main(int count, char **words)
 		fputs("\n", stderr);
 	}
 	free(text);
-	return (int)status;
+	switch (status) {
+	case COUNCIL_REPORT:
+		return 0;
+	case COUNCIL_OPTIONS:
+		return 2;
+	case COUNCIL_GAME:
+		return 3;
+	case COUNCIL_TOO_MANY:
+		return 4;
+	case COUNCIL_MEMORY:
+		return 5;
+	default:
+		return 94;
+	}
 }
