@@ -17,7 +17,7 @@ pub struct Recorder<'a, I> {
 }
 
 impl<'a, I: Source> Recorder<'a, I> {
-    /// Returns a reader that has read nothing, and records what it reads if `keeps` is true.
+    /// Returns a reader that records what it reads if `keeps` is true.
     pub fn new(alloc: Global, reader: &'a mut I, keeps: bool) -> Recorder<'a, I>
         ensures inside { result.reader.now ≡ reader.old }
         ensures kept { option_map (λ v. v.items) result.bytes ≡ (if keeps then Some [] else None) }
