@@ -1,6 +1,6 @@
-//! Counts the coalitions that members with some weights lead to, by size and by member, without
-//! listing any: those that meet a quota and lose it without their last member, and those that fill
-//! up a number of heads.
+//! Counts the minimal sets of members with some weights, by size and by member, without listing
+//! any: those that meet a quota and miss it without their last member. If a number of heads is
+//! asked for, they have more members than that, or just as many and meet the quota.
 //!
 //! ```text
 //! let counts = count_minimal(alloc, &[50, 49, 1], 51, 0)?;
