@@ -126,6 +126,26 @@ for game in "$temp"/fault*; do
 done
 game=$temp/fault-3.toml
 sweep "a fault that is explained" "$game" --explain
+
+# ---- on a terminal no option is named, since none helps
+name="refused memory on a terminal"
+if needs python3 "$name"; then
+    game=$temp/five.toml
+    printf 'council: out of memory\r\n' >"$temp/wanted"
+    first=$(allocations_of_words "$game")
+    why=
+    for number in $((first + 1)) $((first + 2)); do
+        # (what refuse.c says goes past the terminal)
+        timeout "$seconds" python3 "$top/tests/terminal.py" bash -c 'exec 9>"$0" && exec "$@"' "$temp/said" \
+            env REFUSE_FROM="$number" REFUSE_TO=9 LD_PRELOAD="$temp/refuse.so" "$program" "$game" >"$temp/out" 2>"$temp/err"
+        status=$?
+        if [ "$status" -ne 5 ] || [ -s "$temp/out" ] || [ ! -s "$temp/said" ] || ! cmp -s "$temp/err" "$temp/wanted"; then
+            why="allocation $number: status $status, $(head -n 2 "$temp/err" | tr '\r\n' '  ')"
+        fi
+    done
+    if [ -z "$why" ]; then ok "$name"; else failed "$name" "$why"; fi
+fi
+
 game=
 sweep "--help" --help
 sweep "a fault of the command line" --workers 0
