@@ -26,7 +26,7 @@ for game in board.txt five.toml two.toml ec-1986.toml; do
 done
 
 # ---- on a terminal: how far a run has come, and that a game is read from standard input
-if needs python3 "a long run on a terminal" "a barren run on a terminal" "a late fault on a terminal" "a late report on a terminal" "a game from a terminal"; then
+if needs python3 "a long run on a terminal" "a barren run on a terminal" "a late coalition on a terminal" "a late fault on a terminal" "a late report on a terminal" "a game from a terminal"; then
     # a game of 3,838,380 coalitions, listed in some tenths of a second; the program is stopped
     # meanwhile, until more than the second has passed after which a run is reported
     {
@@ -82,7 +82,33 @@ assert numbers and all(it % 2**20 == 0 for it in numbers), numbers
 assert all(there - here == 2**20 for here, there in zip(numbers, numbers[1:])), numbers
 END
     then ok "a barren run on a terminal"; else failed "a barren run on a terminal" "$(tail -n 1 "$temp/told")"; fi
-    # the same game where one coalition fewer is asked for: the line is wiped before the fault
+    # 6 of 12 and 12 of 22 members must agree, and nothing is found for some seconds: the line that
+    # tells of prefixes is wiped before the first one that does not, which is shorter
+    {
+        echo 'quotas = [18000, 12000, 6000]'
+        for ((member = 1; member <= 35; member++)); do
+            if [ "$member" -le 12 ]; then
+                weights="1000, 0, 1000"
+            elif [ "$member" -lt 35 ]; then
+                weights="1000, 1000, 0"
+            else
+                weights="0, 1, 0"
+            fi
+            printf '[[member]]\nname = "%s"\nweights = [%s]\n' "$member" "$weights"
+        done
+    } >"$temp/found.toml"
+    if timeout "$seconds" python3 - "$program" "$temp/found.toml" >"$temp/told" 2>&1 <<'END'
+import re, sys
+from terminal import Run
+run = Run([sys.argv[1], "--workers", "1", "--bits", "0", "--most", "4000000", sys.argv[2]])
+while not re.search(rb"council: [1-9]", run.told) and run.read():
+    pass
+run.kill()
+assert not re.search(rb"prefixes examined\rcouncil: [1-9]", run.told), run.told[-160:]
+END
+    then ok "a late coalition on a terminal"; else failed "a late coalition on a terminal" "$(tail -n 1 "$temp/told")"; fi
+    # the game of 3,838,380 coalitions where one fewer is asked for: the line is wiped before the
+    # fault
     if timeout "$seconds" python3 - "$program" "$temp/long.toml" >"$temp/told" 2>&1 <<'END'
 import sys
 from terminal import run_slowly

@@ -67,6 +67,10 @@ impl<'a, R: Eprint + Clock + Wait> Progress<'a, R> {
     /// Wipes the line, if it was written.
     pub fn wipe(&self) {
         let mut done = self.done.lock(self.rt);
+        self.wipe_shown(&mut done);
+    }
+
+    fn wipe_shown(&self, done: &mut Done) {
         if done.is_shown {
             done.is_shown = false;
             let _ = eprint!(self.rt; "\r\x1b[K");
@@ -114,6 +118,10 @@ impl<'a, R: Eprint + Clock + Wait> Gate for Progress<'a, R> {
 
     fn inform(&self, prefixes: u64, found: u64) {
         let mut done = self.done.lock(self.rt);
+        if done.found == 0 && found > 0 && done.prefixes > 0 {
+            // the line without the prefixes is shorter
+            self.wipe_shown(&mut done);
+        }
         done.found = done.found.wrapping_add(found);
         done.prefixes = done.prefixes.wrapping_add(prefixes);
         self.show(&mut done);
