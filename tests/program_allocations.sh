@@ -4,8 +4,9 @@
 # started, with status 5, that one line on standard error and nothing on standard output; or, where
 # the refused allocation belongs to the reading of its command line, it does exactly what it does
 # with ample memory. At a fault of the command line it may also tell less of the fault, on standard
-# error and with status 2, and with --explain it may lack lines after the first. The library that
-# refuses is allocations/refuse.c.
+# error and with status 2, and with --explain it may lack lines after the first. And a small game
+# works while each allocation of more than 64 KiB is refused. The library that refuses is
+# allocations/refuse.c.
 . "$(dirname "$0")/common.sh"
 
 compile_refuse
@@ -126,6 +127,17 @@ for game in "$temp"/fault*; do
 done
 game=$temp/fault-3.toml
 sweep "a fault that is explained" "$game" --explain
+
+# ---- a small game asks for little room at once, whatever the limits are
+game=$top/examples/un-security-council.toml
+for words in "--list --sizes --most 4000000" "--tally --sizes"; do
+    name="no allocation of more than 64 KiB, $words"
+    read -ra flags <<<"$words --workers 16 --bits 10"
+    run "${flags[@]}" "$game" </dev/null
+    cp "$temp/out" "$temp/wanted"
+    hostile REFUSE_OVER=65536 "${flags[@]}" "$game"
+    if [ -s "$temp/said" ]; then failed "$name" "$(cat "$temp/said")"; else printed "$name" "$temp/wanted"; fi
+done
 
 # ---- on a terminal no option is named, since none helps
 name="refused memory on a terminal"
