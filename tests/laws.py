@@ -4,8 +4,9 @@
     laws.py           compares the page with the sources
     laws.py --page    prints the page: tests/laws.py --page >docs/LAWS.md
 
-A law is a public function of a crate's src/laws.rt. The page has its doc comment and its clauses, then the relations that
-the clauses name, each at the first law that names it, and at the end the path of each word. tests/documents.sh runs it.
+A law is a public function of a crate's src/laws.rt. The page begins with words that contracts are made of. It has the
+doc comment of each law and its clauses, then the relations that the clauses name, each at the first law that names it;
+then a loop over a walk with its proof, and the path of each word. tests/documents.sh runs it.
 """
 import os
 import re
@@ -18,6 +19,28 @@ HEAD = """# Laws
 What the definitions say of each other, crate by crate. [LIBRARY.md](LIBRARY.md#if-you-prove-more)
 shows how to use a law in a proof, [DEFINITIONS.md](DEFINITIONS.md) says what the words mean. This
 page is computed from the sources: `python3 tests/laws.py --page` prints it.
+"""
+
+# the words that callers need first
+WORDS = {
+    "council_game.specs.Game": ["IsGame", "votes_of"],
+    "council_game.specs.Members": ["members", "contains", "size_of", "IsSubsetOf"],
+    "council_base.specs.Coalitions": ["has"],
+    "council_game.specs.Votes": ["wins", "minimal", "minimal_coalitions"],
+    "council_game.specs.Renaming": ["IsRenaming", "AreSymmetric"],
+    "game_calls.specs.Winning": ["IsVetoer", "IsInAll"],
+    "mwc_walk.specs.Slices": ["slice"],
+    "mwc_walk.specs.WalkView": ["given"],
+    "mwc_walk.specs.Listed": ["IsListed"],
+    "power_index.specs.Indices": ["deegan_packel", "public_good"],
+    "power_index.specs.MemberIndices": ["indices_of_member"],
+}
+LOOP = """## A loop over a walk
+
+`lightest` of `crates/examples/src/best.rt` keeps the best of a walk. Its invariant says that what
+was given and what is to come make the whole list, and that the best is the least of those given.
+The loop ends because each step leaves less to come. There is an answer for each way through the
+body.
 """
 
 
@@ -47,9 +70,37 @@ def definition_of(word, module):
     return re.sub(rf"^{found.group(2)}", "", found.group(0), flags=re.M) if found else ""
 
 
+def meaning_of(word, module):
+    """What a definition says of a word: the comment above it, and its first line."""
+    text = read(f"crates/{module.replace('.', '/')}.antt")
+    found = re.search(rf"((?:^ *-- .*\n)*)^ *(?:abbrev |unfoldable )*pub (?:use .*|(?:record )?){word}\b.*\n", text, re.M)
+    assert found, (word, module)
+    comment = re.sub(r"\s+", " ", re.sub(r"^ *-- ?", "", found.group(1), flags=re.M)).strip()
+    return re.split(r"(?<!\.)\. ", comment)[0]
+
+
+def words():
+    """The words that callers need first."""
+    yield "## Words for contracts\n"
+    for module, its in WORDS.items():
+        yield f"`ghost use Rattle.{module}.{{{', '.join(its)}}};`\n"
+        for word in its:
+            yield textwrap.fill(f"- `{word}`: {meaning_of(word, module)}", 98, subsequent_indent="  ", break_on_hyphens=False)
+        yield ""
+
+
+def loop():
+    """A loop over a walk, with its proof."""
+    yield LOOP
+    code = re.search(r"^pub fn lightest.*?^}\n", read("crates/examples/src/best.rt"), re.M | re.S)
+    yield f"```rust\n{code.group(0)}```\n"
+    for name in ("Invariants", "Answers"):
+        yield f"```antt\n{read(f'crates/examples/proofs/best/lightest/{name}.antt')}```\n"
+
+
 def page(crates):
     """The page, of these crates."""
-    parts, known = [HEAD], set()
+    parts, known = [HEAD, *words()], set()
     for crate in crates:
         text = read(f"crates/{crate}/src/laws.rt")
         parts.append(f"## {crate}::laws\n")
@@ -60,6 +111,7 @@ def page(crates):
             relations = "\n".join(filter(None, (definition_of(*it) for it in named)))
             if relations:
                 parts.append(f"```antt\n{relations}```\n")
+    parts += loop()
     parts.append("## Words\n\nThe words of these laws, each with its path for `ghost use`.\n")
     for module in sorted({it[1] for it in known}):
         line = f"- `{module}`: " + ", ".join(f"`{it[0]}`" for it in sorted(known) if it[1] == module)
