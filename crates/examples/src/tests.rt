@@ -76,7 +76,7 @@ fn assert_index(rt: &impl Abort, index: Index, top: u128, bottom: u128, decimals
 }
 
 /// The game of a file.
-fn parsed(rt: &impl Abort, alloc: Global, file: &[u8]) -> Game {
+fn parse(rt: &impl Abort, alloc: Global, file: &[u8]) -> Game {
     parse_game(alloc, file).expect(rt, "a game")
 }
 
@@ -84,7 +84,7 @@ fn parsed(rt: &impl Abort, alloc: Global, file: &[u8]) -> Game {
 fn five(rt: &impl Abort, alloc: Global) -> Game
     ensures { length result.names ≡ 5 }
 {
-    let game = parsed(rt, alloc, FIVE);
+    let game = parse(rt, alloc, FIVE);
     assert!(rt; game.members() == 5);
     game
 }
@@ -103,7 +103,7 @@ fn indices_of_bytes(rt: HostRuntime) {
 
 #[test]
 fn the_first_is_not_the_lightest(rt: HostRuntime) {
-    let game = parsed(&rt, rt.alloc(), b"[51; 40, 30, 11, 11]");
+    let game = parse(&rt, rt.alloc(), b"[51; 40, 30, 11, 11]");
     assert_same(
         &rt,
         lightest(&game),
@@ -233,8 +233,8 @@ fn a_dummy_and_a_share(rt: HostRuntime) {
 fn games_that_rank_alike(rt: HostRuntime) {
     let alloc = rt.alloc();
     let five = five(&rt, alloc);
-    let alike = parsed(&rt, alloc, b"[7; 9, 4, 1, 1, 1]");
-    let other = parsed(&rt, alloc, b"[7; 4, 9, 1, 1, 1]");
+    let alike = parse(&rt, alloc, b"[7; 9, 4, 1, 1, 1]");
+    let other = parse(&rt, alloc, b"[7; 4, 9, 1, 1, 1]");
     assert!(rt; alike.members() == 5);
     assert!(rt; other.members() == 5);
     assert!(rt; are_ranked_alike(&five, &alike));
@@ -297,7 +297,7 @@ fn words_of_a_slice(rt: HostRuntime) {
 
 #[test]
 fn a_report_in_memory(rt: HostRuntime) {
-    let game = parsed(&rt, rt.alloc(), b"[2; 1, 1]");
+    let game = parse(&rt, rt.alloc(), b"[2; 1, 1]");
     let shown = ReportLines {
         list: false,
         sizes: false,

@@ -41,7 +41,7 @@ fn put_rules(rt: &impl Abort, game: &Game, text: &mut Vec<u8>) {
 }
 
 /// A game by its title, its names and the notation of each rule.
-fn shown_game(rt: &impl Abort, alloc: Global, game: &Game) -> Vec<u8> {
+fn describe_game(rt: &impl Abort, alloc: Global, game: &Game) -> Vec<u8> {
     let mut text = Vec::new(alloc);
     if let Some(title) = game.title() {
         text.extend_from_slice(title.as_bytes()).expect(rt, "room");
@@ -53,16 +53,16 @@ fn shown_game(rt: &impl Abort, alloc: Global, game: &Game) -> Vec<u8> {
 }
 
 /// A game as above, or the text of its fault.
-fn shown(rt: &impl Abort, alloc: Global, answer: Result<Game, GameFault>) -> String {
+fn describe(rt: &impl Abort, alloc: Global, answer: Result<Game, GameFault>) -> String {
     match answer {
-        Ok(game) => String::from_utf8(shown_game(rt, alloc, &game)).expect(rt, "a text"),
+        Ok(game) => String::from_utf8(describe_game(rt, alloc, &game)).expect(rt, "a text"),
         Err(fault) => format!(in alloc; "{fault}").expect(rt, "a text"),
     }
 }
 
 /// The text answers so.
 fn check(rt: &impl Abort, alloc: Global, text: &str, wanted: &str) {
-    let found = shown(rt, alloc, parse_game(alloc, text.as_bytes()));
+    let found = describe(rt, alloc, parse_game(alloc, text.as_bytes()));
     assert_same(rt, found.as_str(), wanted, text);
 }
 
@@ -142,7 +142,7 @@ fn check_read(
         error,
         reads: 0,
     };
-    let said = shown(rt, alloc, read_game(alloc, &mut reader));
+    let said = describe(rt, alloc, read_game(alloc, &mut reader));
     let found = (said.as_str(), reader.reads <= most);
     assert_same(rt, found, (wanted, true), (left.len(), at_once));
 }

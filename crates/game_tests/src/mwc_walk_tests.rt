@@ -83,7 +83,7 @@ fn by_contribution(rt: &impl Abort, alloc: Global, game: Game) -> Game {
 }
 
 /// The worked game: of the members one has 35 votes, one has 20 and three have 15, and 51 win.
-fn worked(rt: &impl Abort, alloc: Global) -> Game {
+fn worked_game(rt: &impl Abort, alloc: Global) -> Game {
     game(rt, alloc, 51, &[35, 20, 15, 15, 15])
 }
 
@@ -140,7 +140,7 @@ fn count(walk: &mut Walk<'_>) -> u64 {
 
 #[test]
 fn slices_of_a_worked_game(rt: HostRuntime) {
-    let game = worked(&rt, rt.alloc());
+    let game = worked_game(&rt, rt.alloc());
     assert!(rt; game.members() == 5);
     assert_same(&rt, slice_count(2), 4, "slices at two bits");
     let rows: [(u16, u32, &[u64]); 5] = [
@@ -158,7 +158,7 @@ fn slices_of_a_worked_game(rt: HostRuntime) {
 
 #[test]
 fn all_of_a_worked_game(rt: HostRuntime) {
-    let game = worked(&rt, rt.alloc());
+    let game = worked_game(&rt, rt.alloc());
     for most in [0, 1, 4, 5, 6, 4_000_000] {
         match list_all(rt.alloc(), &game, most).expect(&rt, "memory") {
             Some(all) => are_masks(&rt, &all, &FIVE, "all"),

@@ -57,7 +57,7 @@ fn counts_of_forty(rt: &impl Abort, alloc: Global, quota: u64, masks: &[u64]) ->
 /// An index as it is printed: top, bottom and decimals.
 type Printed = (u128, u128, [u8; 8]);
 
-fn printed(index: Fraction) -> Printed
+fn print_index(index: Fraction) -> Printed
     requires { IsIndex (pair_of index) }
 {
     (index.top, index.bottom, index.decimals())
@@ -72,8 +72,8 @@ fn check_indices(rt: &impl Abort, counts: &Counts, member: usize, wanted: [Print
     requires { member < counts.now.members }
 {
     let found = [
-        printed(deegan_packel(counts, member)),
-        printed(public_good(counts, member)),
+        print_index(deegan_packel(counts, member)),
+        print_index(public_good(counts, member)),
     ];
     assert_same(
         rt,

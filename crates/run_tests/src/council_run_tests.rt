@@ -108,7 +108,7 @@ fn plain() -> Options {
 }
 
 /// Worked games, each with its options and its report.
-fn worked() -> [(&'static [u8], Options, &'static [u8]); 8] {
+fn worked_games() -> [(&'static [u8], Options, &'static [u8]); 8] {
     [
         (BOARD, plain(), BOARD_REPORT),
         (
@@ -254,7 +254,7 @@ fn writes_the_worked_reports(rt: HostRuntime) {
         158,
         "the length of the board's report",
     );
-    for (file, options, report) in worked() {
+    for (file, options, report) in worked_games() {
         writes(&rt, rt.alloc(), file, &options, report);
     }
 }
@@ -417,7 +417,7 @@ impl Gate for Passes {
 }
 
 /// Runs on the game of five coalitions behind a gate: its report is written.
-fn gated<R: Abort + Threads + Wait + Sync, G: Gate + Sync>(
+fn run_behind<R: Abort + Threads + Wait + Sync, G: Gate + Sync>(
     rt: &R,
     alloc: Global,
     workers: u8,
@@ -439,7 +439,7 @@ fn gated<R: Abort + Threads + Wait + Sync, G: Gate + Sync>(
 fn the_same_bytes_for_any_workers_and_bits(rt: HostRuntime) {
     for workers in 1..17 {
         for bits in 0..11 {
-            gated(&rt, rt.alloc(), workers, bits, &NoGate);
+            run_behind(&rt, rt.alloc(), workers, bits, &NoGate);
         }
     }
 }
@@ -455,7 +455,7 @@ fn each_slice_passes_once(rt: HostRuntime) {
                 AtomicU64::new(0),
             ],
         };
-        gated(&rt, rt.alloc(), workers, 2, &passes);
+        run_behind(&rt, rt.alloc(), workers, 2, &passes);
         for slice in 0..4usize {
             assert_same(&rt, passes.of[slice].load(Ordering::SeqCst), 1, workers);
         }
@@ -504,7 +504,7 @@ fn two_workers_meet(rt: HostRuntime) {
         here: [AtomicU64::new(0), AtomicU64::new(0)],
         missed: AtomicU64::new(0),
     };
-    gated(&rt, rt.alloc(), 2, 1, &meeting);
+    run_behind(&rt, rt.alloc(), 2, 1, &meeting);
     let found = (
         meeting.here[0].load(Ordering::SeqCst),
         meeting.here[1].load(Ordering::SeqCst),

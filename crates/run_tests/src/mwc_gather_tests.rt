@@ -70,7 +70,7 @@ fn are_masks(rt: &impl Abort, list: &[Coalition], masks: &[u64], label: &str) {
 }
 
 /// What is gathered behind a gate.
-fn gathered<R: Threads + Wait + Abort + Sync, G: Gate + Sync>(
+fn gather_behind<R: Threads + Wait + Abort + Sync, G: Gate + Sync>(
     rt: &R,
     alloc: Global,
     game: &Game,
@@ -96,7 +96,7 @@ fn lists<R: Threads + Wait + Abort + Sync, G: Gate + Sync>(
     workers: u8,
     masks: &[u64],
 ) {
-    let gathered = gathered(rt, alloc, game, gate, bits, workers, 5).expect(rt, "parts");
+    let gathered = gather_behind(rt, alloc, game, gate, bits, workers, 5).expect(rt, "parts");
     let list = gathered.in_order(alloc).expect(rt, "a list");
     are_masks(rt, &list, masks, "the list");
 }
@@ -110,7 +110,7 @@ fn count<R: Threads + Wait + Abort + Sync>(
     workers: u8,
     most: u32,
 ) -> usize {
-    match gathered(rt, alloc, game, &NoGate, bits, workers, most) {
+    match gather_behind(rt, alloc, game, &NoGate, bits, workers, most) {
         Ok(gathered) => gathered.in_order(alloc).expect(rt, "a list").len(),
         Err(fault) => {
             assert_same(rt, fault, GatherFault::TooMany, "a fault");
@@ -122,7 +122,7 @@ fn count<R: Threads + Wait + Abort + Sync>(
 #[test]
 fn parts_of_one_worker(rt: HostRuntime) {
     let game = five(&rt, rt.alloc());
-    let gathered = gathered(&rt, rt.alloc(), &game, &NoGate, 2, 1, 5).expect(&rt, "parts");
+    let gathered = gather_behind(&rt, rt.alloc(), &game, &NoGate, 2, 1, 5).expect(&rt, "parts");
     assert!(rt; gathered.parts.len() == 1);
     let part = &gathered.parts[0];
     assert!(rt; part.slices.as_slice() == [0, 1, 2, 3].as_slice());
@@ -135,7 +135,7 @@ fn parts_of_one_worker(rt: HostRuntime) {
 #[test]
 fn pieces_of_one_worker(rt: HostRuntime) {
     let game = five(&rt, rt.alloc());
-    let gathered = gathered(&rt, rt.alloc(), &game, &NoGate, 2, 1, 5).expect(&rt, "parts");
+    let gathered = gather_behind(&rt, rt.alloc(), &game, &NoGate, 2, 1, 5).expect(&rt, "parts");
     let pieces = gathered.pieces(rt.alloc()).expect(&rt, "pieces");
     assert!(rt; pieces.len() == 4);
     are_masks(&rt, pieces[0], &FIVE[..1], "piece 0");
@@ -264,7 +264,7 @@ fn workers_have_ended_after_a_refusal(rt: HostRuntime) {
             came: AtomicU64::new(0),
             went: AtomicU64::new(0),
         };
-        let refused = gathered(&rt, rt.alloc(), &game, &slow, 2, workers, 1).err();
+        let refused = gather_behind(&rt, rt.alloc(), &game, &slow, 2, workers, 1).err();
         let went = slow.went.load(Ordering::SeqCst);
         let came = slow.came.load(Ordering::SeqCst);
         assert_same(&rt, refused, Some(GatherFault::TooMany), workers);
@@ -354,7 +354,7 @@ fn held_parts<R: Threads + Wait + Abort + Sync>(
         passes: Passes::none(),
         missed: AtomicU64::new(0),
     };
-    let gathered = gathered(rt, alloc, game, &gate, 2, 2, 5).expect(rt, "parts");
+    let gathered = gather_behind(rt, alloc, game, &gate, 2, 2, 5).expect(rt, "parts");
     assert_same(rt, gate.missed.load(Ordering::SeqCst), 0, held);
     assert_same(rt, gate.passes.counts(), [1, 1, 1, 1], held);
     gathered

@@ -63,7 +63,7 @@ impl Heads {
     /// Returns in how many ways some of `left` members fill a coalition of this size up.
     ///
     /// It is 1 if the coalition has more members than are asked for.
-    pub(crate) fn filled(&self, size: usize, left: usize) -> u64
+    pub(crate) fn ways_to_fill(&self, size: usize, left: usize) -> u64
         requires { left ≤ MEMBERS }
         ensures { result ≡ (if nat_lt self.now.asked size then 1
             else choose left (self.now.asked - size)) }

@@ -56,7 +56,7 @@ fn take_in(
 {
     let size = prefix.size + 1;
     if prefix.need <= weight {
-        let times = heads.filled(size, left);
+        let times = heads.ways_to_fill(size, left);
         done[size.max(heads.asked)] += prefix.ways * times;
     } else {
         others.push(Prefixes {

@@ -18,7 +18,7 @@ fn tells_game<R: Abort + Print>(
         return;
     }
     print_line(rt, "worked");
-    assert_same(rt, shown(rt, alloc, answer).as_str(), wanted, "game");
+    assert_same(rt, describe(rt, alloc, answer).as_str(), wanted, "game");
 }
 
 #[test]

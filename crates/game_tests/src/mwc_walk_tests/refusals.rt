@@ -18,7 +18,7 @@ fn tells<R: Abort + Print>(rt: &R, answer: Result<Vec<Coalition>, Memory>) {
 
 #[test]
 fn lists_a_slice(rt: HostRuntime) {
-    let game = worked(&rt, rt.alloc());
+    let game = worked_game(&rt, rt.alloc());
     assert!(rt; game.members() == 5);
     print_line(&rt, "call");
     tells(&rt, list_slice(rt.alloc(), &game, 0, 0, u32::MAX));
@@ -26,7 +26,7 @@ fn lists_a_slice(rt: HostRuntime) {
 
 #[test]
 fn lists_all(rt: HostRuntime) {
-    let game = worked(&rt, rt.alloc());
+    let game = worked_game(&rt, rt.alloc());
     print_line(&rt, "call");
     let answer = list_all(rt.alloc(), &game, 9);
     tells(&rt, answer.map(|all| all.expect(&rt, "at most nine")));
@@ -42,7 +42,7 @@ fn walks<R: Abort + Print>(rt: &R, walk: &mut Walk<'_>, coalitions: u64, visits:
 
 #[test]
 fn walks_without_memory(rt: HostRuntime) {
-    let game = worked(&rt, rt.alloc());
+    let game = worked_game(&rt, rt.alloc());
     assert!(rt; game.members() == 5);
     print_line(&rt, "call");
     walks(&rt, &mut Walk::new(&game, 2, 1), 3, 7);

@@ -72,7 +72,7 @@ fn seeks_within_so_many_visits(rt: HostRuntime) {
         assert_same(&rt, walk.seek(16), sought, "sought by 16 visits");
         assert_same(&rt, walk.visits(), visits, "visits");
     }
-    let one = worked(&rt, rt.alloc());
+    let one = worked_game(&rt, rt.alloc());
     let mut walk = Walk::new(&one, 0, 0);
     for mask in FIVE {
         let found = Seek::Found(Coalition::of_mask(mask));

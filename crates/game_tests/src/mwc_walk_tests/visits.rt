@@ -26,7 +26,7 @@ fn gives(rt: &impl Abort, walk: &mut Walk<'_>, coalitions: &[(u64, u64)], visits
 /// one for the first and the last, and two for the second and the last.
 #[test]
 fn a_walk_makes_few_visits(rt: HostRuntime) {
-    let five = worked(&rt, rt.alloc());
+    let five = worked_game(&rt, rt.alloc());
     assert!(rt; five.members() == 5);
     gives(&rt, &mut Walk::new(&five, 2, 0), &[(24, 2)], 2);
     gives(

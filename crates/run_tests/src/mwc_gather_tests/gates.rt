@@ -78,7 +78,7 @@ fn gates_see_the_slices_of_the_parts(rt: HostRuntime) {
     let game = game(&rt, rt.alloc(), 7, &[1; 12]);
     for workers in 1..17u8 {
         let seen = Seen::new(workers);
-        let gathered = gathered(&rt, rt.alloc(), &game, &seen, 6, workers, 792).expect(
+        let gathered = gather_behind(&rt, rt.alloc(), &game, &seen, 6, workers, 792).expect(
             &rt, "parts",
         );
         assert!(rt; gathered.parts.len() == usize::from(workers));
@@ -112,7 +112,9 @@ fn gates_see_the_slices_of_the_parts(rt: HostRuntime) {
 fn informs_add_up(rt: HostRuntime) {
     let game = game(&rt, rt.alloc(), 11, &[1; 22]);
     let seen = Seen::new(1);
-    let gathered = gathered(&rt, rt.alloc(), &game, &seen, 0, 1, 1_000_000).expect(&rt, "parts");
+    let gathered = gather_behind(&rt, rt.alloc(), &game, &seen, 0, 1, 1_000_000).expect(
+        &rt, "parts",
+    );
     assert_same(&rt, gathered.parts.len(), 1, "parts");
     assert_same(&rt, seen.found(), 705_432, "found");
     let prefixes = seen.prefixes.load(Ordering::SeqCst);
@@ -137,7 +139,7 @@ fn a_cut_slice_passes_once(rt: HostRuntime) {
         (4, 4, [1, 1, 1, 1]),
     ] {
         let seen = Seen::new(workers);
-        let refused = gathered(&rt, rt.alloc(), &game, &seen, 2, workers, most).err();
+        let refused = gather_behind(&rt, rt.alloc(), &game, &seen, 2, workers, most).err();
         assert_same(&rt, refused, Some(GatherFault::TooMany), (workers, most));
         for slice in 0..4u16 {
             assert_same(

@@ -9,7 +9,7 @@ fn gathers(rt: HostRuntime) {
     let game = five(&rt, rt.alloc());
     let passes = Passes::none();
     print_line(&rt, "call");
-    let answer = gathered(&rt, rt.alloc(), &game, &passes, 2, 3, 5);
+    let answer = gather_behind(&rt, rt.alloc(), &game, &passes, 2, 3, 5);
     match answer {
         Ok(gathered) => {
             print_line(&rt, "worked");
@@ -35,7 +35,7 @@ fn gathers(rt: HostRuntime) {
 fn gathers_too_many(rt: HostRuntime) {
     let game = five(&rt, rt.alloc());
     print_line(&rt, "call");
-    match gathered(&rt, rt.alloc(), &game, &NoGate, 2, 3, 4) {
+    match gather_behind(&rt, rt.alloc(), &game, &NoGate, 2, 3, 4) {
         Err(GatherFault::TooMany) => print_line(&rt, "worked"),
         Err(GatherFault::Memory) => print_line(&rt, "out of memory"),
         Err(GatherFault::Start) => print_line(&rt, "not started"),
@@ -46,7 +46,7 @@ fn gathers_too_many(rt: HostRuntime) {
 #[test]
 fn puts_parts_in_order(rt: HostRuntime) {
     let game = five(&rt, rt.alloc());
-    let gathered = gathered(&rt, rt.alloc(), &game, &NoGate, 2, 3, 5).expect(&rt, "parts");
+    let gathered = gather_behind(&rt, rt.alloc(), &game, &NoGate, 2, 3, 5).expect(&rt, "parts");
     print_line(&rt, "call");
     let answer = gathered.in_order(rt.alloc());
     print_memory(&rt, answer.is_ok());
@@ -72,7 +72,7 @@ fn lens_of(alloc: Global, gathered: &Gathered) -> Result<Vec<usize>, AllocError>
 #[test]
 fn finds_the_pieces(rt: HostRuntime) {
     let game = five(&rt, rt.alloc());
-    let gathered = gathered(&rt, rt.alloc(), &game, &NoGate, 2, 3, 5).expect(&rt, "parts");
+    let gathered = gather_behind(&rt, rt.alloc(), &game, &NoGate, 2, 3, 5).expect(&rt, "parts");
     print_line(&rt, "call");
     let answer = lens_of(rt.alloc(), &gathered);
     print_memory(&rt, answer.is_ok());

@@ -99,7 +99,7 @@ fn fills_rings_of_many_capacities(rt: HostRuntime) {
 const WORDS: u32 = 100_000;
 
 /// The word of this number.
-fn numbered(number: u32) -> Word {
+fn word_of(number: u32) -> Word {
     Word::One(Coalition::of_mask(u64::from(number)))
 }
 
@@ -148,7 +148,7 @@ fn put_all(to: RingIn) -> Result<Closed, Unfinished>
 {
     let mut to = to;
     for number in 0..WORDS {
-        if !put_waiting(&mut to, numbered(number)) {
+        if !put_waiting(&mut to, word_of(number)) {
             return to.close();
         }
     }
@@ -160,7 +160,7 @@ fn take_first(from: &mut RingOut, count: u32) -> u32
     ensures { from.new.ring ≡ from.old.ring }
 {
     for number in 0..count {
-        if take_waiting(from) != Some(numbered(number)) {
+        if take_waiting(from) != Some(word_of(number)) {
             return number;
         }
     }
@@ -178,7 +178,7 @@ fn moves_words_between_threads(rt: HostRuntime) {
         assert_same(&rt, take_first(&mut from, before), before, ("room", room));
         let mut rest = from.end(filler.join(&rt).expect(&rt, "a closed end"));
         for number in before..WORDS {
-            assert_same(&rt, rest.next(), Some(numbered(number)), ("room", room));
+            assert_same(&rt, rest.next(), Some(word_of(number)), ("room", room));
         }
         assert_same(&rt, rest.next(), None, ("room", room));
     }
@@ -199,7 +199,7 @@ fn put_all_rows(to: RingIn, most: u32) -> Result<Closed, Unfinished>
         }
         let count = (WORDS - number).min(most) as usize;
         for at in 0..count {
-            row[at] = numbered(number + at as u32);
+            row[at] = word_of(number + at as u32);
         }
         let put = to.put_some(&row[..count]);
         number += put as u32;
@@ -224,7 +224,7 @@ fn take_first_rows(from: &mut RingOut, count: u32, most: u32) -> u32
         let room = (count - number).min(most) as usize;
         let taken = from.take_some(&mut row[..room]);
         for word in &row[..taken] {
-            if *word != numbered(number) {
+            if *word != word_of(number) {
                 return number;
             }
             number += 1;
@@ -265,7 +265,7 @@ fn moves_rows_between_threads(rt: HostRuntime) {
         );
         let mut rest = from.end(filler.join(&rt).expect(&rt, "a closed end"));
         for number in before..WORDS {
-            assert_same(&rt, rest.next(), Some(numbered(number)), ("room", room));
+            assert_same(&rt, rest.next(), Some(word_of(number)), ("room", room));
         }
         assert_same(&rt, rest.next(), None, ("room", room));
     }
