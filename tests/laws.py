@@ -56,11 +56,19 @@ def laws_of(text):
         yield name, [re.sub(r"\s+", " ", it) for it in paragraphs], re.sub(r"^    ", "", clauses, flags=re.M)
 
 
+def origin(word, module):
+    """The module that defines a word, which others may pass on."""
+    for crate, inner, names in re.findall(r"^(?:unfoldable )?pub use Rattle\.(\w+)\.specs\.([\w.]+)\.\{(.*)\}", read(f"crates/{module.replace('.', '/')}.antt"), re.M):
+        if word in names.split(", "):
+            return origin(word, f"{crate}.specs.{inner}")
+    return module
+
+
 def words_of(text):
-    """The words that a source imports from the definitions of our crates, each with its module."""
+    """The words that a source imports from the definitions of our crates, each with the module that defines it."""
     for crate, module, names in re.findall(r"^ghost use Rattle\.(\w+)\.specs\.([\w.]+)\.\{(.*)\};", text, re.M):
         if crate != "std" and not module.startswith("declared."):
-            yield from ((name, f"{crate}.specs.{module}") for name in names.split(", "))
+            yield from ((name, origin(name, f"{crate}.specs.{module}")) for name in names.split(", "))
 
 
 def definition_of(word, module):
@@ -112,9 +120,10 @@ def page(crates):
             if relations:
                 parts.append(f"```antt\n{relations}```\n")
     parts += loop()
-    parts.append("## Words\n\nThe words of these laws, each with its path for `ghost use`.\n")
-    for module in sorted({it[1] for it in known}):
-        line = f"- `{module}`: " + ", ".join(f"`{it[0]}`" for it in sorted(known) if it[1] == module)
+    parts.append("## Further words\n\nThe other words of these laws, each with its path for `ghost use`.\n")
+    further = sorted(it for it in known if it[0] not in WORDS.get(it[1], []))
+    for module in sorted({it[1] for it in further}):
+        line = f"- `{module}`: " + ", ".join(f"`{it[0]}`" for it in further if it[1] == module)
         parts.append(textwrap.fill(line, 98, subsequent_indent="  ", break_on_hyphens=False))
     return "\n".join(parts) + "\n"
 

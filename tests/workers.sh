@@ -25,6 +25,24 @@ for game in board.txt five.toml two.toml ec-1986.toml; do
     if [ -z "$why" ]; then ok "$name"; else failed "$name" "$why"; fi
 done
 
+# slow_game QUOTAS MEMBERS: a game that takes long. The last quota is of the first twelve members,
+# the second one of the others, and the first of all. The last member has little weight, and only
+# under the second rule, so no price shows it.
+slow_game() {
+    local member weights
+    echo "quotas = [$1]"
+    for ((member = 1; member <= $2; member++)); do
+        if [ "$member" -le 12 ]; then
+            weights="1000, 0, 1000"
+        elif [ "$member" -lt "$2" ]; then
+            weights="1000, 1000, 0"
+        else
+            weights="0, 1, 0"
+        fi
+        printf '[[member]]\nname = "%s"\nweights = [%s]\n' "$member" "$weights"
+    done
+}
+
 # ---- on a terminal: how far a run has come, and that a game is read from standard input
 if needs python3 "a long run on a terminal" "a barren run on a terminal" "a late coalition on a terminal" "a late fault on a terminal" "a late report on a terminal" "a game from a terminal"; then
     # a game of 3,838,380 coalitions, listed in some tenths of a second; the program is stopped
@@ -52,22 +70,9 @@ assert lines[-1] == (b"3,838,380", b"1020"), lines[-1]
 END
     then ok "a long run on a terminal"; else failed "a long run on a terminal" "$(tail -n 1 "$temp/told")"; fi
     # a game that takes hours: 21 of 39 members must agree, 6 of the first twelve and 15 of the
-    # others, so a coalition with a seventh of the twelve is never minimal. The last member has so
-    # little weight under one rule only that no price shows it. The run is ended once it was told of
-    # twice, before it has found a coalition
-    {
-        echo 'quotas = [21000, 15000, 6000]'
-        for ((member = 1; member <= 40; member++)); do
-            if [ "$member" -le 12 ]; then
-                weights="1000, 0, 1000"
-            elif [ "$member" -lt 40 ]; then
-                weights="1000, 1000, 0"
-            else
-                weights="0, 1, 0"
-            fi
-            printf '[[member]]\nname = "%s"\nweights = [%s]\n' "$member" "$weights"
-        done
-    } >"$temp/barren.toml"
+    # others, so a coalition with a seventh of the twelve is never minimal. The run is ended once it
+    # was told of twice, before it has found a coalition
+    slow_game '21000, 15000, 6000' 40 >"$temp/barren.toml"
     if timeout "$seconds" python3 - "$program" "$temp/barren.toml" >"$temp/told" 2>&1 <<'END'
 import re, sys
 from terminal import Run
@@ -84,19 +89,7 @@ END
     then ok "a barren run on a terminal"; else failed "a barren run on a terminal" "$(tail -n 1 "$temp/told")"; fi
     # 6 of 12 and 12 of 22 members must agree, and nothing is found for some seconds: the line that
     # tells of prefixes is wiped before the first one that does not, which is shorter
-    {
-        echo 'quotas = [18000, 12000, 6000]'
-        for ((member = 1; member <= 35; member++)); do
-            if [ "$member" -le 12 ]; then
-                weights="1000, 0, 1000"
-            elif [ "$member" -lt 35 ]; then
-                weights="1000, 1000, 0"
-            else
-                weights="0, 1, 0"
-            fi
-            printf '[[member]]\nname = "%s"\nweights = [%s]\n' "$member" "$weights"
-        done
-    } >"$temp/found.toml"
+    slow_game '18000, 12000, 6000' 35 >"$temp/found.toml"
     if timeout "$seconds" python3 - "$program" "$temp/found.toml" >"$temp/told" 2>&1 <<'END'
 import re, sys
 from terminal import Run
