@@ -68,7 +68,7 @@ fn print_remarks(rt: &(impl Eprint + AllocGlobal), bytes: &[u8]) {
     if let Some(remark) = remark_on_thousands(bytes) {
         let _ = eprintln!(rt; "council: {remark}");
     }
-    if let Some(remark) = remark_on_quotas(rt.alloc(), bytes) {
+    if let Ok(Some(remark)) = remark_on_quotas(rt.alloc(), bytes) {
         let _ = eprintln!(rt; "council: {remark}");
     }
 }

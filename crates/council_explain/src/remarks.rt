@@ -1,6 +1,9 @@
 //! What may not be meant in a game that was read.
+ghost use Rattle.council_explain.specs.Quotas.{HoldLowQuotas, has_low_quotas};
+ghost use Rattle.std.specs.Prelude.{◌≡◌, ◌↔◌, IfOk, IsSome};
+
 use council_file::{is_bracket, parse_game};
-use council_game::Game;
+use council_game::{Game, GameFault, Memory};
 use std::alloc::Global;
 
 /// What is said of a quota of at most half of the total.
@@ -26,28 +29,37 @@ pub fn remark_on_thousands(bytes: &[u8]) -> Option<&'static str> {
     None
 }
 
-/// Tells whether the quota of each rule is at most half of the total of its weights.
-fn has_low_quotas(game: &Game) -> bool {
-    for r in 0..game.rules() {
-        if game.rule_quota(r) > game.rule_total(r) / 2 {
-            return false;
-        }
-    }
-    true
+/// Returns whether the quota of each rule is at most half of the total of its weights.
+fn has_low_quotas(game: &Game) -> bool
+    ensures { result ≡ has_low_quotas game.now }
+{
+    (0..game.rules()).all(|r| game.rule_quota(r) <= game.rule_total(r) / 2)
 }
 
 /// Remarks on quotas of at most half of their totals.
 ///
 /// If those of all rules are, the game may be improper: two coalitions without a common member
-/// could both win (Felsenthal and Machover 1998).
+/// could both win (Felsenthal and Machover 1998). The bytes are those of the file. It is none if
+/// they hold no game.
 ///
-/// The bytes are those of the file. Says nothing if they have no game, or memory is refused.
-pub fn remark_on_quotas(alloc: Global, bytes: &[u8]) -> Option<&'static str> {
-    // memory: without it there is no remark, and the report is written already
-    let game = parse_game(alloc, bytes).ok()?;
-    has_low_quotas(&game).then_some(if game.rules() == 1 {
+/// # Errors
+///
+/// `Memory` if an allocation was refused.
+pub fn remark_on_quotas(alloc: Global, bytes: &[u8]) -> Result<Option<&'static str>, Memory>
+    ensures { IfOk result (λ remark. IsSome remark ↔ HoldLowQuotas bytes.now) }
+{
+    let game = match parse_game(alloc, bytes) {
+        Ok(game) => game,
+        // memory: a growth was refused
+        Err(GameFault::Memory) => return Err(Memory),
+        Err(_) => return Ok(None),
+    };
+    if !has_low_quotas(&game) {
+        return Ok(None);
+    }
+    Ok(Some(if game.rules() == 1 {
         LOW_QUOTA
     } else {
         LOW_QUOTAS
-    })
+    }))
 }
