@@ -14,7 +14,8 @@ use std::alloc::Global;
 
 /// Returns whether no minimal winning coalition contains a member.
 ///
-/// Such a member is a dummy. It is none if the game has more than 4,000,000 of them.
+/// Such a member is a dummy. It is none if the game has more than 4,000,000 minimal winning
+/// coalitions.
 ///
 /// # Errors
 ///

@@ -97,7 +97,7 @@ impl<'a> Walk<'a> {
 
     /// Seeks the next coalition as `next` does, by at most `visits` visits.
     ///
-    /// There is at least 1 visit.
+    /// `visits` is 1 or more.
     ///
     /// After these it answers `NotYet`, with nothing else changed, and goes on when you call it
     /// again. It never answers `NotYet` under one rule, where the next coalition is near, or if the

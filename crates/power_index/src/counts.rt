@@ -270,9 +270,7 @@ impl Counts {
         each[self.ranks[member]][size]
     }
 
-    /// Returns the number of coalitions, at most 2^32 - 1.
-    ///
-    /// If there are more, it is that.
+    /// Returns the number of coalitions, or 2^32 - 1 if there are more.
     pub fn total(&self) -> u32
         ensures { result ≡ min (table_total self.now) (2 ^ 32 - 1) }
     {

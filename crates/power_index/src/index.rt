@@ -33,9 +33,7 @@ impl Model for Index {
 }
 
 impl Index {
-    /// Returns the index that is a fraction.
-    ///
-    /// `deegan_packel` and `public_good` give such fractions.
+    /// Makes an index of a fraction that `deegan_packel` or `public_good` gives.
     pub fn of(fraction: Fraction) -> Index
         requires { IsIndex (pair_of fraction) }
         ensures { result ≡ pair_of fraction }
