@@ -1,11 +1,12 @@
 #!/usr/bin/env python3
-"""Compares the pictures of docs/ARCHITECTURE.md with crates.txt and with the sources.
+"""Compares what documents say of the house with crates.txt and with the sources.
 
     tests/architecture.py
 
 In the picture of who calls whom, each crate uses the crates and the kit's libraries below it, by crates.txt and by the
 `use` lines of its sources, and everything that the program stands on is there. In the picture of the layers, each crate
-is just above the highest of those that it uses. tests/documents.sh runs it.
+is just above the highest of those that it uses. README and PROOF name the number of the mutants that the prover must
+refuse. tests/documents.sh runs it.
 """
 import glob
 import os
@@ -65,3 +66,7 @@ for line in layers.split("\n"):
 wanted = {it: [layer(it)] for it in uses}
 wrong = sorted(it for it in {*wanted, *found} if wanted.get(it) != found.get(it))
 report(not wrong, "docs/ARCHITECTURE.md: the layers are those of crates.txt", f"{wrong}: {[wanted.get(it) for it in wrong]} instead of {[found.get(it) for it in wrong]}")
+count = len(glob.glob(f"{TOP}/crates/*/must-fail/*.edit"))
+for page in ("README.md", "docs/PROOF.md"):
+    told = [int(it) for it in re.findall(r"\b(\d+)\s+mutants", read(page))]
+    report(told == [count], f"{page}: the number of mutants", f"{told} instead of {count}")

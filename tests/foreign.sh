@@ -168,6 +168,20 @@ for room in 0 1 10 $((whole - 1)) "$whole" $((whole + 1)); do
     done
 done
 
+# ---- a report of some 100 KB, and large buffers that are too small for it
+equal_members 14 7 >"$temp/fourteen.txt"
+run --list <"$temp/fourteen.txt"
+for room in 65535 65536 70000 $(($(wc -c <"$temp/out") - 1)); do
+    for caller in ${callers[@]+"${callers[@]}"}; do
+        call "$caller" --list --room "$room" <"$temp/fourteen.txt"
+        if [ "$its" -eq 0 ] && cmp -s "$temp/out" "$temp/its"; then
+            ok "from $caller: a large buffer of $room bytes"
+        else
+            failed "from $caller: a large buffer of $room bytes" "status $its: $(head -n 1 "$temp/its.err")"
+        fi
+    done
+done
+
 # ---- several threads at once, each with little stack
 name="from threads of C"
 if command -v cc >/dev/null; then

@@ -58,15 +58,15 @@ if needs python3 "a long run on a terminal" "a barren run on a terminal" "a late
 import re, sys
 from terminal import run_slowly
 # (no option for lines keeps the observer away)
-run, status = run_slowly([sys.argv[1], "--bits", "10", "--most", "4000000", "--sizes", "--notation", "--explain", sys.argv[2]], 2)
+run, status = run_slowly([sys.argv[1], "--workers", "16", "--bits", "10", "--most", "4000000", "--sizes", "--notation", "--explain", sys.argv[2]], 2)
 assert status == 0, status
 lines = re.findall(rb"\rcouncil: ([0-9,]+) coalitions found, ([0-9]+) of 1024 slices done", run.told)
 assert len(lines) >= 2, run.told
 for column in (0, 1):
     numbers = [int(it[column].replace(b",", b"")) for it in lines]
     assert numbers == sorted(numbers), numbers
-# of each of the four workers all slices but the last are done when it has no further one
-assert lines[-1] == (b"3,838,380", b"1020"), lines[-1]
+# of each of the 16 workers all slices but the last are done when it has no further one
+assert lines[-1] == (b"3,838,380", b"1008"), lines[-1]
 END
     then ok "a long run on a terminal"; else failed "a long run on a terminal" "$(tail -n 1 "$temp/told")"; fi
     # a game that takes hours: 21 of 39 members must agree, 6 of the first twelve and 15 of the

@@ -41,6 +41,10 @@ same("the Security Council: both indices", each, ({Fraction(1, 9)}, {Fraction(2,
 old, new = [next(it for it in stored(name).members if it.name == "Luxembourg") for name in ("eec-1958", "ec-1973")]
 case("published: Luxembourg in 1958 and 1973", old.coalitions == 0 and new.coalitions > 0 and Fraction(new.weights[0], 58) < Fraction(old.weights[0], 17))
 
+# ---- the board of Nassau County in 1964: three of its six members are dummies (Banzhaf 1965)
+with_votes, dummies = [str(Fraction(1, 3))] * 3, ["0"] * 3
+same("published: Nassau County in 1964", list(indices(report("[58; 31, 31, 28, 21, 2, 2]"))), [with_votes + dummies] * 2)
+
 # ---- "or 24 of 27 states": what it adds to the Treaty of Lisbon, as docs/GUIDE.md says
 union = stored("eu-27-lisbon")
 weights, quota, total = [it.weights[0] for it in union.members], union.quotas[0], union.totals[0]

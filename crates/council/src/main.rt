@@ -9,8 +9,8 @@ ghost use Rattle.council_report.specs.Report.{report};
 ghost use Rattle.council_run.specs.Run.{IsOutcome};
 ghost use Rattle.council.specs.Inner.Wants.{limit_wanted, lines_wanted};
 
-use council_base::{Gate, Sink, Source, sanitize};
-use council_explain::{Recorder, explain, remark_on_quotas, remark_on_thousands};
+use council_base::{Gate, Recorder, Sink, Source, sanitize};
+use council_explain::{explain, remark_on_quotas, remark_on_thousands};
 use council_game::GameFault;
 use council_progress::{Line, Progress, Wiping};
 use council_run::{Cause, LEAST_BITS, RunFault, number_by_sums, run, status, tally};

@@ -1,5 +1,8 @@
 //! The observer of the workers of a run or a tally.
 
+/// How many prefixes, or coalitions, of a slice there are between two calls of `Gate::inform`.
+pub const REPORT_EVERY: u64 = 1 << 20;
+
 /// An observer of the workers, which each of them passes before it walks a slice.
 ///
 /// The worker's own thread makes these calls, so calls of different workers may overlap.
@@ -10,8 +13,8 @@ pub trait Gate {
     /// Notes progress inside a slice.
     ///
     /// Since the last call `prefixes` more prefixes were examined, and `found` more coalitions were
-    /// found. A worker calls this after each 1,048,576 prefixes or coalitions of a slice, and at
-    /// the end of the slice for the rest, so all calls of a finished run add up to all that it
+    /// found. A worker calls this after each `REPORT_EVERY` prefixes or coalitions of a slice, and
+    /// at the end of the slice for the rest, so all calls of a finished run add up to all that it
     /// found.
     fn inform(&self, _prefixes: u64, _found: u64) {}
 }

@@ -1,6 +1,6 @@
 //! The base of all crates: coalitions, counts by size, lists by place, `Memory`, the limits, the
-//! options of a run, the observer of its workers, readers and writers seen call by call, and text
-//! that is safe to show.
+//! options of a run, the observer of its workers, readers and writers seen call by call, a reader
+//! that keeps what it reads, and text that is safe to show.
 #![tactic(auto)]
 
 mod coalition;
@@ -9,6 +9,7 @@ pub mod limits;
 mod lists;
 mod memory;
 mod options;
+mod recorder;
 mod report_lines;
 mod sanitized;
 mod sink;
@@ -16,10 +17,11 @@ mod size_counts;
 mod source;
 
 pub use coalition::Coalition;
-pub use gate::{Gate, NoGate};
+pub use gate::{Gate, NoGate, REPORT_EVERY};
 pub use lists::list_from_fn;
 pub use memory::Memory;
 pub use options::Options;
+pub use recorder::Recorder;
 pub use report_lines::ReportLines;
 pub use sanitized::{Sanitized, sanitize};
 pub use sink::Sink;

@@ -1,2 +1,1 @@
 pub mod Quotas
-pub mod Inner

@@ -1,9 +1,9 @@
 //! What may not be meant in a game that was read.
-ghost use Rattle.council_explain.specs.Quotas.{HoldLowQuotas, has_low_quotas};
-ghost use Rattle.std.specs.Prelude.{◌≡◌, ◌↔◌, IfOk, IsSome};
+ghost use Rattle.council_explain.specs.Quotas.{HoldLowQuotas};
+ghost use Rattle.std.specs.Prelude.{◌↔◌, IfOk, IsSome};
 
 use council_file::{is_bracket, parse_game};
-use council_game::{Game, GameFault, Memory};
+use council_game::{GameFault, Memory};
 use std::alloc::Global;
 
 /// What is said of a quota of at most half of the total.
@@ -29,13 +29,6 @@ pub fn remark_on_thousands(bytes: &[u8]) -> Option<&'static str> {
     None
 }
 
-/// Returns whether the quota of each rule is at most half of the total of its weights.
-fn has_low_quotas(game: &Game) -> bool
-    ensures { result ≡ has_low_quotas game.now }
-{
-    (0..game.rules()).all(|r| game.rule_quota(r) <= game.rule_total(r) / 2)
-}
-
 /// Remarks on quotas of at most half of their totals.
 ///
 /// If those of all rules are, the game may be improper: two coalitions without a common member
@@ -54,7 +47,7 @@ pub fn remark_on_quotas(alloc: Global, bytes: &[u8]) -> Result<Option<&'static s
         Err(GameFault::Memory) => return Err(Memory),
         Err(_) => return Ok(None),
     };
-    if !has_low_quotas(&game) {
+    if !game.has_low_quotas() {
         return Ok(None);
     }
     Ok(Some(if game.rules() == 1 {

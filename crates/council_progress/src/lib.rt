@@ -8,6 +8,8 @@
 #![tactic(auto)]
 
 mod progress;
+#[cfg(test)]
+mod tests;
 mod thousands;
 mod wiping;
 

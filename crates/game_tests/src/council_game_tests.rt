@@ -88,17 +88,25 @@ fn lists_minimal_winning_coalitions(rt: HostRuntime) {
     }
 }
 
+/// The game of two rules has the minimal winning coalitions of these rank masks.
+fn check_two<R: Abort + Print>(
+    rt: &R,
+    alloc: Global,
+    quotas: [u64; 2],
+    votes: [&[u64]; 2],
+    wanted: &[u64],
+) {
+    let game = answer_of_two(rt, alloc, quotas, votes).expect(rt, "a game");
+    check(rt, alloc, &game, wanted);
+}
+
 #[test]
 fn lists_those_of_several_rules(rt: HostRuntime) {
-    let four = [3, 2, 2, 1].as_slice();
-    for (quotas, votes, wanted) in [
-        ([5, 3], [four, &[1, 1, 1, 1]], [14, 13, 11, 7].as_slice()),
-        ([3, 1], [&[2, 2, 1], &[0, 0, 1]], &[5, 3]),
-        ([1, 1], [&[1, 0], &[0, 1]], &[3]),
-    ] {
-        let game = answer_of_two(&rt, rt.alloc(), quotas, votes).expect(&rt, "a game");
-        check(&rt, rt.alloc(), &game, wanted);
-    }
+    let alloc = rt.alloc();
+    let votes = [[3, 2, 2, 1].as_slice(), &[1, 1, 1, 1]];
+    check_two(&rt, alloc, [5, 3], votes, &[14, 13, 11, 7]);
+    check_two(&rt, alloc, [3, 1], [&[2, 2, 1], &[0, 0, 1]], &[5, 3]);
+    check_two(&rt, alloc, [1, 1], [&[1, 0], &[0, 1]], &[3]);
 }
 
 /// The readers of the game of two rules.

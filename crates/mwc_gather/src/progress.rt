@@ -3,11 +3,9 @@ ghost use Rattle.std.specs.Prelude.{◌≡◌, ◌<◌, ◌∷◌, [], MatchOpti
 
 use crate::guarded::Guarded;
 use crate::observer::SliceObserver;
+use council_base::REPORT_EVERY;
 use council_game::Coalition;
 use mwc_walk::{Seek, Walk};
-
-/// How many prefixes are examined between two reports.
-const PREFIXES_PER_REPORT: u64 = 1 << 20;
 
 /// What was reported of a walk, and what was not.
 #[derive(Drop)]
@@ -43,11 +41,11 @@ impl Progress {
         ensures { 0 < result }
     {
         let visits = walk.visits().saturating_sub(self.visits);
-        if visits < PREFIXES_PER_REPORT {
-            return PREFIXES_PER_REPORT - visits;
+        if visits < REPORT_EVERY {
+            return REPORT_EVERY - visits;
         }
         self.report(guarded, walk);
-        PREFIXES_PER_REPORT
+        REPORT_EVERY
     }
 
     /// Returns the next coalition of the slice, and reports on the way.

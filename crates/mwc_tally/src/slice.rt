@@ -1,25 +1,16 @@
 //! The counts of one slice.
-ghost use Rattle.std.specs.Prelude.{◌≡◌, ◌≤◌, ◌<◌, ◌^◌, length};
+ghost use Rattle.std.specs.Prelude.{◌≤◌, ◌<◌, ◌^◌, length};
 ghost use Rattle.council_base.specs.declared.limits.TheConstants.{BITS};
-ghost use Rattle.mwc_tally.specs.declared.slice.TheConstants.{STEPS_PER_REPORT};
 ghost use Rattle.council_game.specs.Game.{votes_of};
 ghost use Rattle.mwc_walk.specs.Slices.{slice};
 ghost use Rattle.power_index.specs.Tables.{AreTallies};
 ghost use Rattle.mwc_tally.specs.Inner.SliceCounts.{slice_of};
 
 use crate::sliced_game::SlicedGame;
-use council_base::{Gate, NoGate};
+use council_base::{Gate, NoGate, REPORT_EVERY};
 use council_game::Game;
 use mwc_walk::{Seek, Walk};
 use power_index::Counts;
-
-/// How many prefixes or coalitions of a slice there are between two reports.
-const STEPS_PER_REPORT: u64 = 1 << 20;
-
-/// For the prover: the number of the constant, which clauses name.
-fn is_this_number()
-    ensures { STEPS_PER_REPORT ≡ 2 ^ 20 }
-{}
 
 /// Counts slice `j` of a game at `bits` bits, by a walk over it.
 ///
@@ -33,7 +24,7 @@ pub fn tally_slice(game: &Game, bits: u8, j: u16) -> Counts
     count_slice(SlicedGame { game, bits }, j, &NoGate)
 }
 
-/// Counts a slice, and informs a gate after each `STEPS_PER_REPORT` prefixes or coalitions.
+/// Counts a slice, and informs a gate after each `REPORT_EVERY` prefixes or coalitions.
 pub(crate) fn count_slice<G: Gate>(slices: SlicedGame<'_>, j: u16, gate: &G) -> Counts
     requires { j < 2 ^ slices.bits }
     ensures { AreTallies slices.entry.game.now (slice_of slices.entry j) result }
@@ -42,12 +33,12 @@ pub(crate) fn count_slice<G: Gate>(slices: SlicedGame<'_>, j: u16, gate: &G) -> 
     let mut counts = Counts::none(slices.game);
     let (mut reported, mut found) = (walk.visits(), 0);
     loop {
-        if walk.visits() - reported >= STEPS_PER_REPORT || found == STEPS_PER_REPORT {
+        if walk.visits() - reported >= REPORT_EVERY || found == REPORT_EVERY {
             gate.inform(walk.visits() - reported, found);
             reported = walk.visits();
             found = 0;
         }
-        match walk.seek(STEPS_PER_REPORT - (walk.visits() - reported)) {
+        match walk.seek(REPORT_EVERY - (walk.visits() - reported)) {
             Seek::Found(coalition) => {
                 counts.count(coalition);
                 found += 1;

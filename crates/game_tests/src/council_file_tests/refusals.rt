@@ -12,9 +12,8 @@ fn tells_game<R: Abort + Print>(
     answer: Result<Game, GameFault>,
     wanted: &str,
 ) {
-    if let Err(fault) = &answer {
+    if matches!(&answer, Err(GameFault::Memory)) {
         print_line(rt, "out of memory");
-        assert_same(rt, *fault, GameFault::Memory, "fault");
         return;
     }
     print_line(rt, "worked");

@@ -1,8 +1,8 @@
 //! A reader that records what a run reads, for an explanation.
 ghost use Rattle.std.specs.Prelude.{◌≡◌, Some, None, [], if◌then◌else◌, option_map};
-ghost use Rattle.council_explain.specs.Inner.Recorder.{bytes_read, KeepsAll};
+ghost use Rattle.council_base.specs.Inner.Recorder.{bytes_read, KeepsAll};
 
-use council_base::Source;
+use crate::Source;
 use std::alloc::Global;
 use std::io;
 
