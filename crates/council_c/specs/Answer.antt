@@ -1,5 +1,5 @@
 -- What a call answers.
-use Rattle.std.specs.Prelude.{◌≡◌, ℕ, List, ◌++◌, length, take, drop, ◌⊎◌, true, Ok, Option}
+use Rattle.std.specs.Prelude.{◌≡◌, ℕ, List, ◌++◌, length, take, drop, ◌⊎◌, true, false, Ok, Option}
 use Rattle.council_game.specs.declared.fault.GameFault.TheVariants as game
 use Rattle.council_game.specs.Game.{GameView}
 use Rattle.council_report.specs.Report.{report}
@@ -21,9 +21,10 @@ abbrev pub FillsBy : (GameView → List ℕ) → Option ℕ → List ℕ → Lis
 FillsBy text limit bytes before after len =
     (g : GameView) × Holds bytes (Ok g) × IsWithin limit g × (len ≡ length (text g)) × Shows (text g) before after
 
--- a report of the game that the bytes hold
+-- the options are right, and it is a report of the game that the bytes hold
 abbrev pub Reports : CouncilOptions → List ℕ → List ℕ → List ℕ → ℕ → Type 0
-Reports o bytes before after len = FillsBy (report (lines_of_call o)) (limit_of o) bytes before after len
+Reports o bytes before after len =
+    (are_wrong o ≡ false) × FillsBy (report (lines_of_call o)) (limit_of o) bytes before after len
 
 -- a run on these bytes stops so, before anything was written; a read or a write that fails is no
 -- cause
@@ -31,10 +32,11 @@ abbrev pub StopsOn : (GameView → List ℕ) → Option ℕ → List ℕ → Cau
 StopsOn text limit bytes (cause.Game game.Read) = ⊥
 StopsOn text limit bytes why = Stops text limit (Holds bytes) (λ _ _. ⊥) (Unit {0}) why 0
 
--- Why there is none: the options are wrong, or a run on these bytes stops so.
+-- Why there is none: the options are wrong, or they are right and a run on these bytes stops so.
 abbrev pub StopsCall : CouncilOptions → List ℕ → Fault → Type 0
 StopsCall o bytes fault.Options = are_wrong o ≡ true
-StopsCall o bytes (fault.Run why) = StopsOn (report (lines_of_call o)) (limit_of o) bytes why
+StopsCall o bytes (fault.Run why) =
+    (are_wrong o ≡ false) × StopsOn (report (lines_of_call o)) (limit_of o) bytes why
 
 -- the buffer shows some text, and `len` is its length
 abbrev pub Tells : List ℕ → List ℕ → ℕ → Type 0

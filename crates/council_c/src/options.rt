@@ -30,8 +30,8 @@ impl CouncilOptions {
     /// Returns the options of a run in one thread, or `None` if no call takes them.
     pub(crate) fn options(&self) -> Option<Options>
         ensures { MatchOption result (are_wrong self.now ≡ true)
-            (λ o. (o.most ≡ most_of self.now) × (lines_of o ≡ lines_of_call self.now)
-            × (self.now.tally ≡ true → o.list ≡ false)) }
+            (λ o. (are_wrong self.now ≡ false) × (o.most ≡ most_of self.now)
+            × (lines_of o ≡ lines_of_call self.now) × (self.now.tally ≡ true → o.list ≡ false)) }
     {
         if self.most > limits::COALITIONS || self.tally && (self.list || self.most > 0) {
             return None;

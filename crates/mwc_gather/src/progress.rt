@@ -1,5 +1,6 @@
 //! Reports of how far the walk over a slice has come.
-ghost use Rattle.std.specs.Prelude.{◌≡◌, ◌<◌, ◌∷◌, [], MatchOption};
+ghost use Rattle.std.specs.Prelude.{◌≡◌, ◌<◌, ◌+◌, ◌-◌, ◌∷◌, [], MatchOption};
+ghost use Rattle.council_base.specs.declared.gate.TheConstants.{REPORT_EVERY};
 
 use crate::guarded::Guarded;
 use crate::observer::SliceObserver;
@@ -26,7 +27,9 @@ impl Progress {
     }
 
     /// Reports what was not reported yet.
-    pub fn report<G: SliceObserver>(&mut self, guarded: &Guarded<'_, G>, walk: &Walk<'_>) {
+    pub fn report<G: SliceObserver>(&mut self, guarded: &Guarded<'_, G>, walk: &Walk<'_>)
+        ensures { self.new.visits ≡ walk.now.visits }
+    {
         guarded.report(walk.visits().saturating_sub(self.visits), self.found);
         self.visits = walk.visits();
         self.found = 0;
@@ -38,7 +41,8 @@ impl Progress {
         guarded: &Guarded<'_, G>,
         walk: &Walk<'_>,
     ) -> u64
-        ensures { 0 < result }
+        ensures some { 0 < result }
+        ensures due { (walk.now.visits - self.new.visits) + result ≡ REPORT_EVERY }
     {
         let visits = walk.visits().saturating_sub(self.visits);
         if visits < REPORT_EVERY {
