@@ -12,7 +12,6 @@ pub others_kept : (g : GameView) → IsGame g → (n m place a b : ℕ) → n �
     → ((p : ℕ) → p < n → p ≢ place → has n p b ≡ has n p a) → (i : ℕ) → i < length g.names → i ≢ m → contains g i b ≡ contains g i a
 others_kept g game n m place a b count at lm kept i li other =
     let are = ranks-are g game in
-    let rank : ℕ = get_or g.ranks i 0 in
     let apart : get_or g.ranks i 0 ≢ place = λ e.
     other (sym (are.member_back i li) ∙ ap (member_at g.ranks) (e ∙ at) ∙ are.member_back m lm) in grind (arith)
 

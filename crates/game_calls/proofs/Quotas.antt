@@ -1,7 +1,8 @@
 -- The first rule of a game at another quota.
-use Rattle.std.proofs.Common.{◌≡◌, ◌∙◌, ℕ, ◌<◌, ◌≤◌, false, ◌||◌, ltb, List, [], ◌∷◌, length, get_or, sum, refl, ap, arith}
+use Rattle.std.proofs.lemmas.Bool.Decides.{nat_tests}
+use Rattle.std.proofs.Common.{◌≡◌, ℕ, ◌<◌, ◌≤◌, false, ◌||◌, ltb, List, [], ◌∷◌, length, get_or, sum, refl, ap, arith}
 use Rattle.std.proofs.Common.{Err, le-ltb}
-use Rattle.std.proofs.lemmas.{Bool.or_parts, Grind.common_steps, List.Elements.recursion_from_All, List.Elements.All-cons, List.Elements.All-nil}
+use Rattle.std.proofs.lemmas.{Bool.or_parts, Grind.common_steps, List.Elements.recursion_from_All}
 use Rattle.std.specs.List.{list_any}
 use Rattle.council_game.specs.{Fault.Answers, declared.fault.GameFault.GameFault, declared.fault.GameFault.TheVariants.Memory}
 use Rattle.council_game.specs.Votes.{RuleView, rule_at}
@@ -27,16 +28,7 @@ another_quota g game q some met =
     let count : length (rule_at g.rules 0).weights ≡ length g.names = grind (arith, first-full) in
     let light = nowhere_below (is_heavy rs) (length g.names)
     (λ i lt. first-light g.rules q i game.has_rule (position-none (is_heavy g.rules) (length g.names) p.weights i lt)) in
-    record {
-      made = makes g.title g.names rs p.title p.members p.names p.repeats light (good-quota q ws some met);
-      each_member = length-rank_places ws ∙ count;
-      ranked = of-ranking ws;
-      by_weight = λ one. refl;
-      has_rule = omega arith;
-      few_rules = omega arith;
-      full = All-cons (λ (r : RuleView). length r.weights ≡ length g.names) (record { quota = q; weights = ws }) [] count
-          (All-nil (λ (r : RuleView). length r.weights ≡ length g.names));
-    }
+    grind (arith, nat_tests, makes, good-quota, length-rank_places, of-ranking)
 
 -- the only fault that is answered is out of memory
 pub only-memory : (g : GameView) (q : ℕ) (fault : GameFault) → IsGame g → 1 ≤ q → q ≤ total (rule_at g.rules 0)

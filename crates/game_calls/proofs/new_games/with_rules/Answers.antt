@@ -1,3 +1,5 @@
+use Rattle.std.proofs.lemmas.Bool.Decides.{nat_tests}
+use Rattle.std.proofs.Common.{arith}
 use Rattle.std.proofs.Common.{◌≡◌, List, Result, Ok, Err, IfOk}
 use Rattle.council_game.specs.{Fault.Answers, Game.GameView, Game.made_game, Votes.RuleView}
 use Rattle.council_game.specs.declared.fault.GameFault.{GameFault}
@@ -11,5 +13,4 @@ if-made g rules (Ok made) h law = law g.title g.names rules made h
 if-made g rules (Err fault) h law = tt
 
 pub returns-clause-game : goal.returns-clause-game
-returns-clause-game c =
-    if-made c.args.game.now _ _ (rw (c.in_ok-title.ensures, c.in_ok-names.ensures) at c.with_rules.ensures) c.made_games_have_their_parts.ensures
+returns-clause-game c = grind (arith, nat_tests, if-made)
