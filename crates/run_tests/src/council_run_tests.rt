@@ -344,32 +344,32 @@ impl Read for Cut {
     }
 }
 
+/// A run on a reader that fails at this byte of the board answers so, and writes nothing if it
+/// fails.
+fn cut_at<R: Abort + Threads + Wait + Sync>(
+    rt: &R,
+    alloc: Global,
+    end: usize,
+    wanted: Result<u64, RunFault>,
+) {
+    let mut reader = Cut { given: 0, end };
+    let mut written = Vec::new(alloc);
+    let answer = run(rt, alloc, &mut reader, &plain(), &NoGate, &mut written);
+    assert_same(rt, answer, wanted, end);
+    assert_same(rt, written.is_empty(), answer.is_err(), end);
+}
+
 #[test]
 fn a_failing_reader_is_the_fault_of_the_game(rt: HostRuntime) {
-    let length = BOARD.len();
-    let fault = Err(RunFault {
+    let alloc = rt.alloc();
+    let fault = RunFault {
         cause: Cause::Game(GameFault::Read),
         written: 0,
-    });
-    for (end, wanted) in [
-        (0, fault),
-        (50, fault),
-        (length, fault),
-        (length + 1, Ok(158)),
-    ] {
-        let mut reader = Cut { given: 0, end };
-        let mut written = Vec::new(rt.alloc());
-        let answer = run(
-            &rt,
-            rt.alloc(),
-            &mut reader,
-            &plain(),
-            &NoGate,
-            &mut written,
-        );
-        assert_same(&rt, answer, wanted, end);
-        assert_same(&rt, written.is_empty(), answer.is_err(), end);
+    };
+    for end in [0, 50, BOARD.len()] {
+        cut_at(&rt, alloc, end, Err(fault));
     }
+    cut_at(&rt, alloc, BOARD.len() + 1, Ok(158));
 }
 
 /// Forty members of one vote each, of whom twenty win.
