@@ -96,8 +96,7 @@ weights-more g r ps p = grind (arith, nat_tests, sum_by-cons, weights-append, we
 
 -- a rule of the game
 pub rule-is : (g : GameView) → IsGame g → (r : ℕ) → r < length g.rules → IsRule (length g.names) (rule_at (votes_of g).rules r)
-rule-is g game r lt =
-    let votes = votes-are g game in grind (arith, common_steps, nat_tests)
+rule-is g game r lt = grind (arith, nat_tests, votes-are, common_steps)
 
 pub weights-all : (g : GameView) → IsGame g → (r c : ℕ) → r < length g.rules
     → weight_of_places g r (places_before (length g.names) c (length g.names)) ≡ weight (rule_at (votes_of g).rules r).weights c

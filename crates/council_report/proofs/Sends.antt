@@ -1,5 +1,5 @@
 -- One call to a writer, and then the others.
-use Rattle.council_report.proofs.Imports.{◌≡◌, ◌<◌, ◌≤◌, ◌+◌, ◌-◌, ◌++◌, ℕ, List, [], length, take, drop, Result, Ok, Err, ap, ◌∙◌, sym, subst}
+use Rattle.council_report.proofs.Imports.{◌≡◌, ◌<◌, ◌+◌, ◌-◌, ℕ, List, length, take, drop, Result, Ok, Err, sym, subst}
 use Rattle.council_report.proofs.Imports.{arith, take_all}
 use Rattle.std.proofs.Common.{length-drop}
 use Rattle.std.proofs.lemmas.List.{drop-drop}

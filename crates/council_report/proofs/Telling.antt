@@ -1,6 +1,6 @@
 -- Texts written one after another, and where one stops.
 use Rattle.council_report.proofs.Imports.{arith, append_assoc, length-append, subst, append-nil, Progress, Calls, Ends, StopsIn, HasStopped}
-use Rattle.council_report.proofs.Imports.{◌≡◌, ◌++◌, ℕ, List, [], Result, Ok, Err, sym, ap, ◌∙◌, progress_of, Advances, Block, length, ◌+◌}
+use Rattle.council_report.proofs.Imports.{◌≡◌, ◌++◌, ℕ, List, [], Err, sym, ap, ◌∙◌, progress_of, Advances, Block, length}
 
 module _ {W : Type 0} (S : Calls W) where
   pub tells-then : (a b c : Progress W) (x y : List ℕ) → Advances S a b x → Advances S b c y → Advances S a c (x ++ y)

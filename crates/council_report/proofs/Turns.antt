@@ -1,7 +1,7 @@
 -- A row of texts written one after another: one more, and where it stops.
-use Rattle.council_report.proofs.Imports.{◌≡◌, ◌<◌, ◌≤◌, ◌+◌, ◌^◌, ◌++◌, ℕ, List, length, get_or, take, drop, Option, sym, ap, ◌∙◌, subst}
+use Rattle.council_report.proofs.Imports.{◌≡◌, ◌<◌, ◌≤◌, ◌+◌, ◌^◌, ◌++◌, ℕ, List, length, get_or, take, drop, sym, ap, ◌∙◌, subst}
 use Rattle.council_report.proofs.Imports.{range_with_len, flat_map-append, common_steps, take_all, take-append-drop, StopsIn, [], ◌∷◌}
-use Rattle.council_report.proofs.Imports.{get_or-range_with_len, length-range_with_len, nat_tests, Progress, Advances, Calls, count_of, arith, flat_map, length-append}
+use Rattle.council_report.proofs.Imports.{get_or-range_with_len, length-range_with_len, nat_tests, Progress, Advances, Calls, count_of, arith, flat_map}
 use Rattle.council_report.proofs.Imports.{append-nil}
 use Rattle.std.proofs.lemmas.List.{take_more, Folds.length-flat_map-take}
 use Rattle.council_report.proofs.Telling.{tells-then, stopped-first, stopped-next}

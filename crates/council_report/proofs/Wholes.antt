@@ -1,5 +1,6 @@
 -- What a writer holds after the calls that a text takes.
-use Rattle.council_report.proofs.Imports.{◌≡◌, ◌≤◌, ◌+◌, ◌-◌, ◌++◌, ℕ, List, [], length, take, drop, Option, Some, None, Result, Ok, Err, refl, ap}
+use Rattle.std.proofs.lemmas.Bool.Decides.{nat_tests}
+use Rattle.council_report.proofs.Imports.{◌≡◌, ◌≤◌, ◌+◌, ◌-◌, ◌++◌, ℕ, List, [], length, take, drop, Option, Some, None, Result, Ok, Err, ap}
 use Rattle.council_report.proofs.Imports.{◌∙◌, sym, subst, arith, append_assoc, append-nil, length-append, Appends, take-append-add, take-append-drop, Block, Calls, Ends, progress_of}
 use Rattle.std.proofs.Common.{length-drop, length-take-le}
 use Rattle.std.specs.{Io.WritesAtMost, Io.KnownBytes.Keeps, Io.KnownBytes.WriteAppends, declared.io.Error.Error}
@@ -27,9 +28,7 @@ HoldsEnd before after text count (Err some) = (count ≤ some) × (some ≤ coun
 
 -- no more bytes were taken
 holds-none : (before after : Option (List ℕ)) (text : List ℕ) (count : ℕ) → Appends before after [] → HoldsEnd before after text count (Err count)
-holds-none before after text count same =
-    let none : count - count ≡ 0 = omega arith in
-    (omega arith, omega arith, subst (λ (n : ℕ). Appends before after (take n text)) (sym none) same)
+holds-none before after text count same = grind (arith, nat_tests, take)
 
 -- n bytes of a block were taken, and then what follows
 holds-more : (a b c : Option (List ℕ)) (block rest : List ℕ) (count n : ℕ) (end : Result ℕ ℕ) → n ≤ length block → Appends a b (take n block)
@@ -38,8 +37,7 @@ holds-more a b c block rest count n end few first next =
     let whole : take n block ++ (drop n block ++ rest) ≡ block ++ rest =
     sym (append_assoc (take n block) (drop n block) rest) ∙ ap (λ (t : List ℕ). t ++ rest) (take-append-drop n block) in
     let long : length block ≡ n + length (drop n block) = omega (arith, length-drop n block, few) in
-    let sizes : length (block ++ rest) ≡ n + length (drop n block ++ rest) =
-    omega (arith, long, length-append block rest, length-append (drop n block) rest) in
+    let sizes : length (block ++ rest) ≡ n + length (drop n block ++ rest) = grind (arith, nat_tests, length-append, drop) in
     elim end as (λ (e : Result ℕ ℕ). HoldsEnd b c (drop n block ++ rest) (count + n) e → HoldsEnd a c (block ++ rest) count e) [
       | Ok all ↦ λ h. (
         omega (arith, h.0, sizes),
@@ -91,6 +89,4 @@ module _ {W : Type 0} (held : W → Option (List ℕ)) (is_write : W → List �
 -- a text that begins with what a fresh block holds
 pub from-block : {W : Type 0} (S : Calls W) (first last : W) (block : Block) (heading lines : List ℕ) (end : Result ℕ ℕ) → block.written ≡ 0
     → block.bytes.items ≡ heading → Ends S (progress_of first block) lines end last → S first [] (heading ++ lines) 0 end last
-from-block S first last block heading lines end none is ends =
-    subst (λ (t : List ℕ). S first [] (t ++ lines) 0 end last) is
-    (subst (λ (n : ℕ). S first [] (block.bytes.items ++ lines) n end last) none ends)
+from-block S first last block heading lines end none is ends = grind (arith, nat_tests)

@@ -1,5 +1,5 @@
 -- The calls by which a writer gets a text.
-use Rattle.std.specs.Prelude.{◌≡◌, ◌<◌, ◌≤◌, ◌+◌, ◌⊎◌, ℕ, List, [], ◌++◌, length, drop, Result, Ok, Err}
+use Rattle.std.specs.Prelude.{◌≡◌, ◌<◌, ◌+◌, ◌⊎◌, ℕ, List, [], ◌++◌, length, drop, Result, Ok, Err}
 use Rattle.std.specs.declared.io.Error.{Error}
 
 -- The calls to a writer that still gets the rest of a block, and then the rest of a text; it has

@@ -1,5 +1,6 @@
 -- How many choices there are of the first kinds.
-use Rattle.mwc_closed_count.proofs.KindImports.{◌≡◌, ◌∙◌, ℕ, zero, suc, ◌+◌, ◌*◌, ◌<◌, ◌≤◌, List, [], ◌∷◌, ◌++◌, length, get_or, map, filter, ap, sym, refl}
+use Rattle.std.proofs.lemmas.Bool.Decides.{nat_tests}
+use Rattle.mwc_closed_count.proofs.KindImports.{◌≡◌, ◌∙◌, ℕ, zero, suc, ◌+◌, ◌*◌, ◌<◌, ◌≤◌, List, [], ◌∷◌, ◌++◌, length, get_or, map, filter, ap, refl}
 use Rattle.mwc_closed_count.proofs.KindImports.{arith, range_with_len, ◌-◌, Votes, alike, choices, kinds, members_of_kind}
 use Rattle.std.proofs.lemmas.Nat.{mul-le}
 use Rattle.mwc_closed_count.specs.declared.kinds.Kind.{Kind}
@@ -17,8 +18,7 @@ rise v j (suc d) =
 pub too-many : (v : Votes) (j k c : ℕ) → j ≤ k → c ≡ choices v j → 1048576 < c → choices v k ≤ 1048576 → ⊥
 too-many v j k c le is more few =
     let d : ℕ = k - j in
-    let e : j + d ≡ k = omega arith in
-    omega (arith, ap (choices v) e, rise v j d, is, more, few)
+    let e : j + d ≡ k = omega arith in grind (arith, nat_tests, choices, rise)
 
 members-are : (v : Votes) (j p m : ℕ) → p ≡ get_or (kinds v) j 0 → m ≡ length (filter (alike v.rules p) (range_with_len 0 v.members))
     → m ≡ members_of_kind v j
@@ -31,11 +31,9 @@ choices-none v = refl
 
 pub choices-next : (v : Votes) (j p m c : ℕ) → p ≡ get_or (kinds v) j 0 → m ≡ length (filter (alike v.rules p) (range_with_len 0 v.members))
     → c ≡ choices v j → c * (m + 1) ≡ choices v (j + 1)
-choices-next v j p m c first count is =
-    (λ i. is i * (members-are v j p m first count i + 1)) ∙ sym (choices-more v j)
+choices-next v j p m c first count is = grind (arith, nat_tests, members-are, choices-more)
 
 pub kind-next : (v : Votes) (j p m s : ℕ) (list next : List Kind) → p ≡ get_or (kinds v) j 0
     → m ≡ length (filter (alike v.rules p) (range_with_len 0 v.members)) → s ≡ choices v j → list ≡ map (kind_at v) (range_with_len 0 j)
     → next ≡ list ++ record { place = p; members = m; stride = s } ∷ [] → next ≡ map (kind_at v) (range_with_len 0 (j + 1))
-kind-next v j p m s list next first count stride are more =
-    pushed (kind_at v) j are (λ i. record { place = first i; members = members-are v j p m first count i; stride = stride i }) more
+kind-next v j p m s list next first count stride are more = grind (arith, nat_tests, pushed, members-are)

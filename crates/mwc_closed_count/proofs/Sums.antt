@@ -18,8 +18,7 @@ size-none numbers sizes s n none = grind (arith, nat_tests, more numbers sizes s
 pub size-some : (numbers sums : List ℕ) (sizes : List (Option ℕ)) (s n k : ℕ) → get_or sizes n None ≡ Some k → k < length sums
     → get_or sums s 0 ≡ of_size numbers sizes s n
     → get_or (set sums k (get_or sums k 0 + get_or numbers n 0)) s 0 ≡ of_size numbers sizes s (n + 1)
-size-some numbers sums sizes s n k some lt is =
-    grind (arith, nat_tests, more numbers sizes s n, bumped sums k s (get_or numbers n 0) lt)
+size-some numbers sums sizes s n k some lt is = grind (arith, nat_tests, more, bumped, get_or)
 
 pub sum-next : (numbers : List ℕ) (n : ℕ) → n < length numbers → sum (take (n + 1) numbers) ≡ sum (take n numbers) + get_or numbers n 0
 sum-next numbers n lt = grind (arith, common_steps)

@@ -1,4 +1,5 @@
 -- From the join of a worker to its part.
+use Rattle.std.proofs.lemmas.Bool.Decides.{nat_tests}
 use Rattle.mwc_gather.proofs.Imports.{◌≡◌, ℕ, ◌<◌, false, List, ◌++◌, length, Some, None, ap, subst, sym, ◌∙◌, arith, false≢true, Word, ◌⊎◌}
 use Rattle.mwc_gather.proofs.Imports.{Slicing, coalition_count, IsBuilderOf, IsPart, Part, GatherFault, WorkerHandle, IsOf, IsPartOfWorker, CanEndWith}
 use Rattle.mwc_gather.proofs.Imports.{flat_map, inl, inr, HasAllWords, ends_from, IsWholeSending, IsCutSending, fault_in_builder, HasEnds}
@@ -25,11 +26,7 @@ pub has_ended : {builder : PartBuilder} (d : WorkerHandle) (r : Result ClosedVie
     → HasWorked (handle_slicing d) d.worker.promise.most d.worker.promise.out.value d.worker.promise.tasks.value r → r.0 ≡ Ok closed
     → r.1.taken ++ left ≡ d.tasks.accepted → d.words.taken ++ rest ≡ closed.accepted → IsBuilderOf (d.words.taken ++ rest) builder
     → (builder.out_of_memory ≡ false → d.builder.out_of_memory ≡ false) → (builder.cut ≡ false → d.builder.cut ≡ false) → HasEnded d builder
-has_ended {builder} d r closed left rest w e t q keeps out_of_memory cut =
-    let worked = worked_ok (handle_slicing d) d.worker.promise.most d.worker.promise.out.value d.worker.promise.tasks.value r closed w e in
-    let settled = settles (handle_slicing d) d.worker.promise.most r.1.taken left d.given.items d.dismissed (d.words.taken ++ rest) d.below (t ∙ d.tasks_are)
-    (rw (← q) at worked) in
-    record { whole = record { words = d.words.taken ++ rest; settled = settled; keeps = keeps }; out_of_memory = out_of_memory; cut = cut }
+has_ended {builder} d r closed left rest w e t q keeps out_of_memory cut = grind (arith, nat_tests, worked_ok, settles)
 
 module _ {d : WorkerHandle} {builder : PartBuilder} (h : HasEnded d builder) where
   pub whole_ends : fault_in_builder builder ≡ None → HasEnds d.given.items builder.ends.items (length builder.got.items)

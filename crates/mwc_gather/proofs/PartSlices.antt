@@ -73,8 +73,7 @@ sum_up_to f k hs a (suc m) l =
     let held : get_or (slices_by_worker first k) h [] ≡ slices_held_by first h = grind (arith, get_or-map-range_with_len) in
     let before = sum_up_to f k hs a m (omega arith) in
     let assigned = assigns_from first h 0 k h (omega arith) below in
-    let next = rw add-one at (sum_by-range-more f m) in
-    grind (arith, sum_by_push, sum_by-set, length-map-range_with_len)
+    let next = rw add-one at (sum_by-range-more f m) in grind (arith, nat_tests, sum_by_push, sum_by-set, length-map-range_with_len)
 
 -- any sum over the slices of all parts is the sum over the slices
 pub part_slices_sum : (f : ℕ → ℕ) (k : ℕ) (hs : List ℕ) → All (λ h. h < k) hs

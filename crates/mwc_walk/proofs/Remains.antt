@@ -22,9 +22,8 @@ left-is v k j b le =
 bound-below : {v : Votes} {k j p x : ℕ} (fresh : Bool) → IsPlace v k j p x
     → (if fresh then x + 1 else x) * 2 ^ (v.members - p) ≤ 2 ^ v.members
 bound-below {v} {k} {j} {p} {x} fresh place =
-    let whole : 2 ^ v.members ≡ 2 ^ p * 2 ^ (v.members - p) = (let to = place.to in grind (arith, pow-add)) in
-    let most = cond_both fresh (x + 1) x (λ i. i ≤ 2 ^ p) (λ _. omega arith) (λ _. omega arith) in
-    rw whole (mul-le _ (2 ^ (v.members - p)) (2 ^ p) (2 ^ (v.members - p)) most (omega arith))
+    let whole : 2 ^ v.members ≡ 2 ^ p * 2 ^ (v.members - p) = (grind (arith, pow-add)) in
+    let most = cond_both fresh (x + 1) x (λ i. i ≤ 2 ^ p) (λ _. omega arith) (λ _. omega arith) in grind (arith, nat_tests, mul-le)
 
 -- what is still to come is the slice, less as many of its first as were given
 pub rest-is : {v : Votes} {a : Cursor} → CursorIs v a
@@ -85,7 +84,7 @@ pub visits-most : {v : Votes} {a : Cursor} → CursorIs v a → (a.rules ≡ 1 �
     → a.visits ≤ a.bits + (v.members - a.bits) * (length (slice v a.bits a.number) - length (rest_of_slice v a))
 visits-most {v} {a} is rests one =
     let short = rest-short is in
-    let visits = is.visits in grind (arith, mul-add)
+    grind (arith, mul-add)
 
 -- what the calls of a walk rest on
 pub ruleset walking = (given-same, given-next, given-end, visits-most)

@@ -1,5 +1,6 @@
 -- What a rule's places weigh at a prefix x of p places, and the lanes of the walk, which stand for
 -- the rules there.
+use Rattle.std.proofs.lemmas.Bool.Decides.{nat_tests}
 use Rattle.mwc_walk.proofs.Imports.{weight-le, reaches, wins_at, Lane, length-drop, Bool, true, List, [], ◌∷◌, refl, ℕ, ◌+◌, ◌-◌, ◌*◌, ◌/◌}
 use Rattle.mwc_walk.proofs.Imports.{drop_all, RuleView, leb, sum_by-take-drop, has-none, lane_at, subst, ◌≡◌, weight, wins, rule_at, ◌%◌}
 use Rattle.mwc_walk.proofs.Imports.{ap, get_or, sum, arith, zero, suc, length, sym, ◌∙◌, AllByRecursion, list_all, le-leb, common_steps}
@@ -12,11 +13,7 @@ use Rattle.council_game.proofs.Shared.Weights.{weight-at, weight-more, weight-pr
 -- what holds of the elements of a list at their places, with one of them set anew
 pub set-keeps : {A : Type 0} (P : ℕ → A → Type 0) (xs : List A) (k p : ℕ) (x d : A) → k < length xs → P k x
     → (p ≢ k → P p (get_or xs p d)) → P p (get_or (set xs k x) p d)
-set-keeps P xs k p x d below here rest =
-    elim (cases_eq p k) [
-      | inl same ↦ rw (same, get_or-set_at xs k k x d refl below) here
-      | inr other ↦ rw (get_or-set_other xs k p x d other) (rest other)
-    ]
+set-keeps P xs k p x d below here rest = grind (arith, nat_tests, cases_eq, get_or-set_at, get_or-set_other)
 
 module _ {X : Type 0} (P : X → Type 0) (p q : X → Bool) where
   pub list_all-more : ((x : X) → P x → p x ≡ true → q x ≡ true) → (xs : List X) → AllByRecursion P xs → list_all p xs ≡ true

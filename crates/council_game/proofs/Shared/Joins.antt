@@ -1,4 +1,5 @@
 -- Numbers in a row, one number more.
+use Rattle.std.proofs.lemmas.Bool.Decides.{nat_tests}
 use Rattle.std.proofs.Common.{◌≡◌, ℕ, zero, suc, ◌+◌, ◌<◌, ◌≤◌, List, [], ◌∷◌, ◌++◌, length, take, get_or, decimal, sym, ap, ◌∙◌, arith}
 use Rattle.std.proofs.Common.{append_assoc, length-append, flat_map, append-nil}
 use Rattle.std.proofs.lemmas.{Grind.flat_map-append, List.take_more, List.Folds.length-flat_map-take}
@@ -48,8 +49,7 @@ more-within s (v ∷ vs) zero below some = absurd (omega arith)
 more-within s (v ∷ vs) (suc r) below some =
     let rest = length-flat_map-take (λ w. s ++ decimal w) vs r 0 (omega arith) in
     let first = length-append (decimal v) (behind s (take r vs)) in
-    let all = length-append (decimal v) (behind s vs) in
-    omega (arith, rest, first, all, length-append s (decimal (get_or vs r 0)))
+    let all = length-append (decimal v) (behind s vs) in grind (arith, nat_tests, length-append)
 
 pub next-within : (s vs : List ℕ) (r : ℕ)
     → r < length vs → length (joined_numbers s (take r vs)) + length (decimal (get_or vs r 0)) ≤ length (joined_numbers s vs)

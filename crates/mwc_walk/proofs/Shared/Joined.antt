@@ -1,5 +1,6 @@
 -- The slices joined are the whole list.
-use Rattle.mwc_walk.proofs.Imports.{◌≡◌, ℕ, zero, suc, ◌+◌, ◌-◌, ◌*◌, ◌/◌, ◌^◌, ◌≤◌, Bool, eqb, sym, ap, List, ◌++◌, ◌∙◌, arith, filter}
+use Rattle.std.proofs.lemmas.Bool.Decides.{nat_tests}
+use Rattle.mwc_walk.proofs.Imports.{◌≡◌, ℕ, zero, suc, ◌+◌, ◌-◌, ◌*◌, ◌/◌, ◌^◌, ◌≤◌, Bool, eqb, sym, ap, ◌∙◌, arith, filter}
 use Rattle.mwc_walk.proofs.Imports.{eq-eqb, pow-add, mul-le, Votes, minimal, down, minimal_coalitions, slice}
 use Rattle.std.proofs.Common.{flat_map}
 use Rattle.std.specs.List.{range_with_len}
@@ -22,8 +23,7 @@ joined-from p h whole s (suc count) all =
     (λ c low high. rw number (past-block count h c (omega (arith, low))))) in
     let block = rw (← size) at (filter-block q p (count * 2 ^ h) (2 ^ h)
     (λ c low high. eq-eqb _ _ (block-prefix count h c low high ∙ sym number)) (λ c low. rw number (before-block count h c low))) in
-    ap (λ (xs : List ℕ). filter q (filter p (down (whole * 2 ^ h))) ++ xs) rest
-    ∙ ap (λ (xs : List ℕ). xs ++ filter p (down (count * 2 ^ h))) skip ∙ sym block
+    grind (arith, nat_tests, filter, down)
 
 -- ---- the law
 pub slices-joined : (v : Votes) → SlicesMakeTheWhole v

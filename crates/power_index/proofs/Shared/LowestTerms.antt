@@ -29,13 +29,11 @@ unfolding common_divisor_up_to
 found-greatest a b zero d pos le da db = absurd (omega arith)
 found-greatest a b (suc n) d pos le da db =
     let last : d ≡ suc n → divides_both a b (suc n) ≡ true = λ e. to-test a b (suc n) (subst (λ k. k ∣ a) e da) (subst (λ k. k ∣ b) e db) in
-    let before : d ≤ n → d ≤ common_divisor_up_to a b n = λ low. found-greatest a b n d pos low da db in
-    grind (arith, nat_tests)
+    let before : d ≤ n → d ≤ common_divisor_up_to a b n = λ low. found-greatest a b n d pos low da db in grind (arith, nat_tests)
 
 pub gcd-is : (a b g : ℕ) → 0 < b → IsGcd a b g → greatest_common_divisor a b ≡ g
 gcd-is a b g pos h =
-    let both = found-divides a b b in
-    grind (arith, found-greatest, le_of_dvd, gcd-pos, le_from_IsGcd)
+    let both = found-divides a b b in grind (arith, nat_tests, found-greatest, le_of_dvd, gcd-pos, le_from_IsGcd)
 
 -- two numbers have a greatest common divisor
 some-gcd : (n a b : ℕ) → b ≤ n → (g : ℕ) × IsGcd a b g

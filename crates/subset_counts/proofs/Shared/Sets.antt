@@ -74,10 +74,7 @@ minimal_from ws heads need a ps =
     leb need (weigh ws ps) && ((a + length ps == heads) || (ltb heads (a + length ps) && ltb (weigh ws (but_last ps)) need))
 
 pub from-later : (w : ℕ) (ws : List ℕ) (heads need a : ℕ) (ps : List ℕ) → minimal_from (w ∷ ws) heads need a (further ps) ≡ minimal_from ws heads need a ps
-from-later w ws heads need a ps =
-    let short : weigh (w ∷ ws) (but_last (further ps)) ≡ weigh ws (but_last ps) = ap (weigh (w ∷ ws)) (last-later ps) ∙ weigh-later w ws (but_last ps) in
-    λ i. leb need (weigh-later w ws ps i)
-    && ((a + long-further ps i == heads) || (ltb heads (a + long-further ps i) && ltb (short i) need))
+from-later w ws heads need a ps = grind (arith, nat_tests, last-later, weigh-later, long-further)
 
 weigh-short : (w : ℕ) (ws : List ℕ) (p : ℕ) (ps : List ℕ) → weigh (w ∷ ws) (but_last (0 ∷ further (p ∷ ps))) ≡ w + weigh ws (but_last (p ∷ ps))
 weigh-short w ws p ps =

@@ -1,4 +1,4 @@
-use Rattle.std.proofs.{Common.arith, Common.◌≤◌, Common.◌<◌, Common.length, lemmas.Grind.common_steps, lemmas.Result.err_from_is_err_and}
+use Rattle.std.proofs.{Common.arith, lemmas.Grind.common_steps, lemmas.Result.err_from_is_err_and}
 use Rattle.council_file.specs.Reads.{too_long}
 use Rattle.council_file.proofs.Calls.{reading-more, reading-ended, reading-stops}
 use Rattle.council_file.proofs.reading.read_bytes.Goals as goal

@@ -1,4 +1,4 @@
-use Rattle.council_report.proofs.Imports.{ℕ, ◌+◌, ◌≤◌, ap, arith, common_steps, length, subst, List}
+use Rattle.council_report.proofs.Imports.{ℕ, ap, arith, common_steps, length, subst, List}
 use Rattle.std.proofs.Common.{add-zero, length-drop}
 use Rattle.council_report.specs.Sending.{Sending}
 use Rattle.council_report.proofs.Sends.{bytes-from, takes-more, takes-no-more}

@@ -1,6 +1,6 @@
-use Rattle.council_report.proofs.Imports.{◌<◌, ◌^◌, length, List, arith, common_steps, subst, ℕ}
+use Rattle.std.proofs.lemmas.Bool.Decides.{nat_tests}
+use Rattle.council_report.proofs.Imports.{◌<◌, ◌^◌, length, arith, common_steps}
 use Rattle.power_index.proofs.Shared.Pieces.{pieces-all}
-use Rattle.council_report.specs.{Inner.Writing.WritesText, Sending.Sending}
 use Rattle.council_report.proofs.FromCounts.{listed-text}
 use Rattle.council_report.proofs.report.put_shown_coalitions.Goals as goal
 
@@ -12,6 +12,4 @@ pub put_pieces-requires-clause-counted : goal.put_pieces-requires-clause-counted
 put_pieces-requires-clause-counted g c = grind (arith, common_steps, listed-text)
 
 pub returns-then-shown : goal.returns-then-shown
-returns-then-shown g c = subst (λ (t : List ℕ). WritesText (Sending g.W.Sink.is_write g.W.Sink.is_flush) t c.args.writer.now c.args.block.now
-    c.put_pieces.new.writer c.put_pieces.new.block c.put_pieces.result)
-    (listed-text c.args.shown c.args.game.now (λ p. p.now) c.args.pieces.now c.if-shown.true) c.put_pieces.ensures
+returns-then-shown g c = grind (arith, nat_tests, listed-text)

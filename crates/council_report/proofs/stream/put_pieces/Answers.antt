@@ -1,3 +1,4 @@
+use Rattle.std.proofs.lemmas.Bool.Decides.{nat_tests}
 use Rattle.council_report.proofs.Imports.{flat_map, err_from_is_err_and, common_steps, arith, coalition_line}
 use Rattle.council_report.proofs.Turns.{IsNext, turn-counts, turn-stopped, turn-told}
 use Rattle.council_report.specs.Sending.{Sending}
@@ -18,14 +19,4 @@ returns-in_err-put_coalitions g c =
     c.in_err-put_coalitions.ensures.puts)
 
 pub loop-piece-preserved : goal.loop-piece-preserved
-loop-piece-preserved g c =
-    let S = Sending g.W.Sink.is_write g.W.Sink.is_flush in
-    let next : IsNext c.args.pieces.now c.loop-piece.piece-index c.piece-item.result = grind (arith, common_steps) in
-    record {
-      lasts = record {
-        tells = turn-told S (λ p. flat_map (coalition_line c.args.game.now) p.now) next c.loop-piece.invariant.lasts.tells
-            c.in_ok-put_coalitions.ensures.puts.tells;
-        ready = c.in_ok-put_coalitions.ensures.puts.ready;
-      };
-      line = c.in_ok-put_coalitions.ensures.line;
-    }
+loop-piece-preserved g c = grind (arith, nat_tests, common_steps, turn-told, flat_map, coalition_line)

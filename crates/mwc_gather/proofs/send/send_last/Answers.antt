@@ -1,9 +1,10 @@
-use Rattle.mwc_gather.proofs.{FirstWords.some_of_more, FirstWords.some_later, Imports.[], Imports.◌∷◌, Imports.refl}
+use Rattle.std.proofs.lemmas.Bool.Decides.{nat_tests}
+use Rattle.std.proofs.Common.{arith}
+use Rattle.mwc_gather.proofs.{FirstWords.some_of_more, FirstWords.some_later, Imports.refl}
 use Rattle.mwc_gather.proofs.send.send_last.Goals as goal
 
 pub returns-then-not-add-clause-refused : goal.returns-then-not-add-clause-refused
-returns-then-not-add-clause-refused g c = λ _. let no = c.if-not-add.ensures.refused refl in
-    (some_of_more _ _ _ (c.args.word ∷ []) no.0, no.1)
+returns-then-not-add-clause-refused g c = grind (arith, nat_tests, some_of_more)
 
 pub returns-clause-refused : goal.returns-clause-refused
 returns-clause-refused g c = λ h. let no = c.send.ensures.refused h in

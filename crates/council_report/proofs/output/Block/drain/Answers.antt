@@ -1,4 +1,4 @@
-use Rattle.council_report.proofs.Imports.{◌≡◌, ◌+◌, ℕ, List, [], arith, length, subst}
+use Rattle.council_report.proofs.Imports.{◌≡◌, ◌+◌, ℕ, [], arith, length, subst}
 use Rattle.council_report.specs.Sending.{Sending, begins}
 use Rattle.council_report.proofs.output.Block.drain.Goals as goal
 
