@@ -147,6 +147,15 @@ for words in "--most 4000001" "--tally --list" "--tally --most 5"; do
     done
 done
 
+# fits NAME: whether the last call got the report that the program printed.
+fits() {
+    if [ "$its" -eq 0 ] && cmp -s "$temp/out" "$temp/its"; then
+        ok "$1"
+    else
+        failed "$1" "status $its: $(head -n 1 "$temp/its.err")"
+    fi
+}
+
 # ---- buffers that are too small: each caller begins with one, and calls again (report.c sees what
 # it got, and what follows it)
 run --list <"$top/examples/board.toml"
@@ -154,11 +163,7 @@ whole=$(wc -c <"$temp/out")
 for room in 0 1 10 $((whole - 1)) "$whole" $((whole + 1)); do
     for caller in ${callers[@]+"${callers[@]}"}; do
         call "$caller" --list --room "$room" <"$top/examples/board.toml"
-        if [ "$its" -eq 0 ] && cmp -s "$temp/out" "$temp/its"; then
-            ok "from $caller: a buffer of $room bytes"
-        else
-            failed "from $caller: a buffer of $room bytes" "status $its: $(head -n 1 "$temp/its.err")"
-        fi
+        fits "from $caller: a buffer of $room bytes"
         call "$caller" --room "$room" <"$temp/bracket.txt"
         if [ "$its" -eq 3 ] && [ "$(cat "$temp/its.err")" = "council: bad bracket text" ]; then
             ok "from $caller: a fault in a buffer of $room bytes"
@@ -174,11 +179,7 @@ run --list <"$temp/fourteen.txt"
 for room in 65535 65536 70000 $(($(wc -c <"$temp/out") - 1)); do
     for caller in ${callers[@]+"${callers[@]}"}; do
         call "$caller" --list --room "$room" <"$temp/fourteen.txt"
-        if [ "$its" -eq 0 ] && cmp -s "$temp/out" "$temp/its"; then
-            ok "from $caller: a large buffer of $room bytes"
-        else
-            failed "from $caller: a large buffer of $room bytes" "status $its: $(head -n 1 "$temp/its.err")"
-        fi
+        fits "from $caller: a large buffer of $room bytes"
     done
 done
 
