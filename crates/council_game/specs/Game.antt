@@ -8,7 +8,7 @@ use Rattle.council_base.specs.declared.limits.TheConstants.{MEMBERS, RULES, WEIG
 use Rattle.council_game.specs.declared.fault.GameFault.{GameFault}
 use Rattle.council_game.specs.declared.fault.GameFault.TheVariants.{Title, Members, Name, SameName, Weight, QuotaRange}
 use Rattle.council_game.specs.Fault.{◌>>=◌, refuse, refuse_at}
-use Rattle.council_game.specs.Votes.{RuleView, Votes, rule_at}
+use Rattle.council_game.specs.Votes.{RuleView, Votes}
 use Rattle.council_game.specs.Ranks.{AreOfRanking, places, rank_places, rule_by_rank}
 
 pub record GameView : Type 0 where
@@ -42,11 +42,12 @@ has_bad_quota r = nat_lt r.quota 1 || nat_lt (sum r.weights) r.quota
 abbrev pub total : RuleView → ℕ
 total r = sum r.weights
 
--- each rule of a game asks for at most half of the total of its weights
+-- a rule asks for at most half of the total of its weights
+abbrev pub has_low_quota : RuleView → Bool
+has_low_quota r = nat_le r.quota (total r / 2)
+
 abbrev pub has_low_quotas : GameView → Bool
-has_low_quotas g =
-    list_all (λ r. nat_le (rule_at g.rules r).quota (total (rule_at g.rules r) / 2))
-    (range_with_len 0 (length g.rules))
+has_low_quotas g = list_all has_low_quota g.rules
 
 abbrev pub first_weights : List RuleView → List ℕ
 first_weights [] = []

@@ -1,28 +1,22 @@
 -- The choice of a coalition.
 use Rattle.mwc_closed_count.proofs.KindImports.{◌≡◌, ◌∙◌, ℕ, ◌+◌, ◌-◌, ◌*◌, ◌/◌, ◌%◌, ◌^◌, ◌<◌, ◌≤◌, ◌==◌, ◌&&◌, Bool, true, false}
 use Rattle.mwc_closed_count.proofs.KindImports.{cond, ltb, leb, List, length, get_or, filter, sum_by, sym, ap, refl, arith, inl, inr}
-use Rattle.mwc_closed_count.proofs.KindImports.{list_all, range_with_len, nat_tests, cases_Bool, cases_lt, length-range_with_len, places-at, eqb-true}
-use Rattle.mwc_closed_count.proofs.KindImports.{RuleView, Votes, IsVotes, rule_at, size, places_of, has, without, weight, wins, minimal, alike, all_choices}
+use Rattle.mwc_closed_count.proofs.KindImports.{range_with_len, nat_tests, cases_Bool, cases_lt, length-range_with_len, places-at, eqb-true}
+use Rattle.mwc_closed_count.proofs.KindImports.{Votes, IsVotes, rule_at, size, places_of, has, without, weight, wins, minimal, alike, all_choices}
 use Rattle.mwc_closed_count.proofs.KindImports.{kinds, members_of_kind, choices, kind_of, strides, taken, choice_weight, choice_size, choice_wins}
 use Rattle.mwc_closed_count.proofs.KindImports.{choice_is_minimal, get_or-map-range_with_len, length-map-range_with_len}
 use Rattle.std.proofs.Common.{mod-lt}
 use Rattle.std.specs.Cmp.{both_ways as same_test}
 use Rattle.std.proofs.lemmas.Bool.{and_from, and_parts}
-use Rattle.std.proofs.lemmas.List.{get_or_default, Elements.filter_passes, Recursion.is_sum_by}
-use Rattle.std.proofs.lemmas.List.Sums.{AllPass-from_list_all, list_all-from_AllPass, length-filter, sum_by-le-sum_by}
+use Rattle.std.proofs.lemmas.List.{Elements.filter_passes, Recursion.is_sum_by}
+use Rattle.std.proofs.lemmas.List.Sums.{length-filter, sum_by-le-sum_by}
 use Rattle.council_game.proofs.Shared.{Meanings.needs-each-member, Weights.weight-without, WinningByPlaces.rule-is}
+use Rattle.council_game.proofs.Shared.Lists.{all-rules}
 use Rattle.power_index.proofs.Shared.Sums.{length-filter-le, sum-by_size, sum-filter, sum-range}
 use Rattle.mwc_closed_count.proofs.Counted.{filter-same}
 use Rattle.mwc_closed_count.proofs.Digits.{digit-is, made, made-below}
 use Rattle.mwc_closed_count.proofs.KindLaws.{alike-weight, all-at, all-of, kept, kind-alike, kind-below, kind-of}
 use Rattle.mwc_closed_count.proofs.Taken.{needs}
-
--- a test of rules, by their numbers
-all-indexed : (f : RuleView → Bool) (t : ℕ → Bool) (rs : List RuleView) → ((i : ℕ) → i < length rs → t i ≡ f (rule_at rs i))
-    → list_all t (range_with_len 0 (length rs)) ≡ list_all f rs
-all-indexed f t rs same =
-    same_test _ _ (λ all. list_all-from_AllPass f rs (λ i d lt. ap f (get_or_default rs i d _ lt) ∙ sym (same i lt) ∙ all-at t (length rs) i lt all))
-    (λ all. all-of t (length rs) (λ i lt. same i lt ∙ AllPass-from_list_all f rs all i _ lt))
 
 -- what passes the one passes the other
 fewer : (q r : ℕ → Bool) (xs : List ℕ) → ((x : ℕ) → q x ≡ true → r x ≡ true) → length (filter q xs) ≤ length (filter r xs)
@@ -125,7 +119,7 @@ module _ (v : Votes) where
   wins-is : IsVotes v → (c : ℕ) → choice_wins v (weight (strides v) c) ≡ wins v.rules c
   unfolding choice_wins wins
   wins-is game c =
-      all-indexed (λ r. leb r.quota (weight r.weights c)) (λ i. leb (rule_at v.rules i).quota (choice_weight v i (weight (strides v) c))) v.rules
+      all-rules (λ r. leb r.quota (weight r.weights c)) (λ i. leb (rule_at v.rules i).quota (choice_weight v i (weight (strides v) c))) v.rules
       (λ i lt. ap (leb (rule_at v.rules i).quota) (weight-is game c i lt))
 
   less-is : (c p : ℕ) → p < v.members → has v.members p c ≡ true

@@ -1,5 +1,5 @@
 -- Tests: which members pass one, what of a list does, and how many coalitions.
-use Rattle.mwc_closed_count.proofs.Imports.{list_all, list_any, range_with_len, nat_tests, length-range_with_len, All-filter, AllPass-from_list_all}
+use Rattle.mwc_closed_count.proofs.Imports.{list_any, range_with_len, nat_tests, length-range_with_len, All-filter}
 use Rattle.mwc_closed_count.proofs.Imports.{◌∙◌, ◌&&◌, not, ◌⊎◌, ℕ, ◌<◌, Bool, true, false, All, List, filter, ap, arith, length-map, places-at}
 use Rattle.mwc_closed_count.proofs.Imports.{[], ◌∷◌, map, refl, All-head, All-tail, suc, ◌+◌, ◌^◌, ◌++◌, length, get_or, ◌≡◌}
 use Rattle.mwc_closed_count.proofs.Imports.{filter-append, filter-both, down, down-below}
@@ -15,9 +15,6 @@ pub any-of : (t : ℕ → Bool) (n : ℕ) → list_any t (range_with_len 0 n) �
 any-of t n some =
     let (k, x, lt, at, passes) = Any-from_list_any t (range_with_len 0 n) some in
     grind (arith, length-range_with_len 0 n, places-at n k x)
-
-pub all-at : (t : ℕ → Bool) (n i : ℕ) → i < n → list_all t (range_with_len 0 n) ≡ true → t i ≡ true
-all-at t n i lt all = grind (arith, length-range_with_len 0 n, places-at n i 0 lt, AllPass-from_list_all t (range_with_len 0 n) all i 0)
 
 -- either one who passes the first test fails the second, or none does
 pub missing : (veto f : ℕ → Bool) (n : ℕ) → ((i : ℕ) × (i < n) × (veto i ≡ true) × (f i ≡ false)) ⊎ ((i : ℕ) → i < n → veto i ≡ true → f i ≡ true)

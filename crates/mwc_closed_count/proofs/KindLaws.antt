@@ -1,22 +1,20 @@
 -- The kinds of a game's places.
 use Rattle.mwc_closed_count.proofs.KindImports.{◌≡◌, ◌∙◌, ℕ, zero, suc, ◌<◌, ◌≤◌, ◌==◌, Bool, true, false, not, List, [], ◌∷◌, length, get_or}
-use Rattle.mwc_closed_count.proofs.KindImports.{map, filter, sym, ap, refl, arith, inl, inr, list_all, range_with_len, rule_at}
+use Rattle.mwc_closed_count.proofs.KindImports.{map, filter, sym, ap, refl, arith, inl, inr, range_with_len, rule_at}
 use Rattle.mwc_closed_count.proofs.KindImports.{nat_tests, cases_Bool, cases_lt, length-range_with_len, places-at, RuleView, Votes, alike, is_known}
 use Rattle.mwc_closed_count.proofs.KindImports.{kinds, kind_of, members_of_kind, eqb-true}
 use Rattle.std.proofs.Common.{eq-eqb, AllPairs}
 use Rattle.std.proofs.lemmas.Bool.{both_ways, not-true}
 use Rattle.std.proofs.lemmas.List.{Elements.All-filter, Elements.filter_passes, Kept.AllPairs-filter}
-use Rattle.std.proofs.lemmas.List.Sums.{list_all-from_AllPass, fails_before_first, passes_at_first, position_or_len_is}
+use Rattle.std.proofs.lemmas.List.Sums.{fails_before_first, passes_at_first, position_or_len_is}
 use Rattle.power_index.proofs.Shared.Sums.{length-filter-le}
 use Rattle.mwc_closed_count.specs.declared.kinds.Kind.{Kind}
 use Rattle.mwc_closed_count.specs.Inner.Choices.{kind_at}
-pub use Rattle.mwc_closed_count.proofs.Counting.{all-at, any-at, any-of}
+pub use Rattle.council_game.proofs.Shared.Lists.{all-at, all-of}
+pub use Rattle.mwc_closed_count.proofs.Counting.{any-at, any-of}
 use Rattle.mwc_closed_count.proofs.{Digits.choices-some, Listed.listed-at, Listed.listed-long}
 
 -- ---- tests of the numbers of a range
-pub all-of : (t : ℕ → Bool) (n : ℕ) → ((i : ℕ) → i < n → t i ≡ true) → list_all t (range_with_len 0 n) ≡ true
-all-of t n each = grind (arith, list_all-from_AllPass, length-range_with_len 0 n, places-at)
-
 pub kept : (f : ℕ → Bool) (xs : List ℕ) (i : ℕ) → i < length xs → f (get_or xs i 0) ≡ true
     → (k : ℕ) × (k < length (filter f xs)) × (get_or (filter f xs) k 0 ≡ get_or xs i 0)
 kept f [] i lt passes = absurd (omega arith)

@@ -2,9 +2,9 @@
 mod pieces;
 mod refusals;
 
-ghost use Rattle.std.specs.Prelude.{◌≡◌, length};
+ghost use Rattle.std.specs.Prelude.{◌≡◌, ◌<◌, ◌≤◌, length};
 
-use crate::helpers::{assert_same, game};
+use crate::helpers::{assert_same, game, game_of_rules};
 use council_base::{Gate, NoGate};
 use council_game::Game;
 use mwc_tally::{tally, tally_slice};
@@ -12,7 +12,7 @@ use mwc_walk::Walk;
 use power_index::Counts;
 use std::alloc::Global;
 use std::process::Abort;
-use std::sync::atomic::{AtomicU64, Ordering};
+use std::sync::atomic::{AtomicBool, AtomicU64, Ordering};
 use std::{hint, thread};
 
 /// The game [51; 35, 20, 15, 15, 15].
@@ -216,18 +216,46 @@ fn a_held_worker_holds_no_slice(rt: HostRuntime) {
     }
 }
 
-/// What a gate was informed of: all together, how often before 1,048,576 were reached, and how
-/// often long after.
+/// What a gate was informed of: all together, how often before 1,048,576 were reached, how often
+/// long after, and how often before a slice was passed.
 #[derive(Drop)]
 struct Informed {
     prefixes: AtomicU64,
     found: AtomicU64,
     early: AtomicU64,
     late: AtomicU64,
+    unpassed: AtomicU64,
+    passed: AtomicBool,
+}
+
+impl Informed {
+    fn new() -> Informed {
+        Informed {
+            prefixes: AtomicU64::new(0),
+            found: AtomicU64::new(0),
+            early: AtomicU64::new(0),
+            late: AtomicU64::new(0),
+            unpassed: AtomicU64::new(0),
+            passed: AtomicBool::new(false),
+        }
+    }
+
+    /// The coalitions, the prefixes, and how often it was informed early, late and unpassed.
+    fn sums(&self) -> (u64, u64, u64, u64, u64) {
+        (
+            self.found.load(Ordering::SeqCst),
+            self.prefixes.load(Ordering::SeqCst),
+            self.early.load(Ordering::SeqCst),
+            self.late.load(Ordering::SeqCst),
+            self.unpassed.load(Ordering::SeqCst),
+        )
+    }
 }
 
 impl Gate for Informed {
-    fn pass(&self, _worker: u8, _slice: u16) {}
+    fn pass(&self, _worker: u8, _slice: u16) {
+        self.passed.store(true, Ordering::SeqCst);
+    }
 
     fn inform(&self, prefixes: u64, found: u64) {
         self.prefixes.fetch_add(prefixes, Ordering::SeqCst);
@@ -237,25 +265,25 @@ impl Gate for Informed {
             .fetch_add(u64::from(most < 1_048_576), Ordering::SeqCst);
         self.late
             .fetch_add(u64::from(most > 1_048_700), Ordering::SeqCst);
+        let passed = self.passed.load(Ordering::SeqCst);
+        self.unpassed
+            .fetch_add(u64::from(!passed), Ordering::SeqCst);
     }
 }
 
-/// How many prefixes the walks over both slices examine.
-fn prefixes_of(game: &Game) -> u64
-    requires { length game.now.names ≡ 40 }
+/// How many prefixes the walk over a slice of two examines after its fixed place.
+fn prefixes_of(game: &Game, slice: u16) -> u64
+    requires game { 1 ≤ length game.now.names }
+    requires slice { slice < 2 }
 {
-    let mut prefixes = 0u64;
-    for slice in 0..2 {
-        let mut walk = Walk::new(game, 1, slice);
-        let fixed = walk.visits();
-        for _ in 0..4_000_000u32 {
-            if walk.next().is_none() {
-                break;
-            }
+    let mut walk = Walk::new(game, 1, slice);
+    let fixed = walk.visits();
+    for _ in 0..4_000_000u32 {
+        if walk.next().is_none() {
+            break;
         }
-        prefixes = prefixes.saturating_add(walk.visits().saturating_sub(fixed));
     }
-    prefixes
+    walk.visits().saturating_sub(fixed)
 }
 
 /// The gate is informed after each 1,048,576 prefixes, and once before, at the end of each of two
@@ -263,24 +291,31 @@ fn prefixes_of(game: &Game) -> u64
 #[test]
 fn informs_add_up(rt: HostRuntime) {
     let game = forty(&rt, rt.alloc(), 6);
-    let informed = Informed {
-        prefixes: AtomicU64::new(0),
-        found: AtomicU64::new(0),
-        early: AtomicU64::new(0),
-        late: AtomicU64::new(0),
-    };
+    let informed = Informed::new();
     let counts = tally(&rt, rt.alloc(), &game, 1, 1, &informed).expect(&rt, "counts");
     assert_same(&rt, counts.wide_total(), 3_838_380, "coalitions");
-    let found = (
-        informed.found.load(Ordering::SeqCst),
-        informed.prefixes.load(Ordering::SeqCst),
-        informed.early.load(Ordering::SeqCst),
-        informed.late.load(Ordering::SeqCst),
-    );
+    let prefixes = prefixes_of(&game, 0).saturating_add(prefixes_of(&game, 1));
     assert_same(
         &rt,
-        found,
-        (3_838_380, prefixes_of(&game), 2, 0),
+        informed.sums(),
+        (3_838_380, prefixes, 2, 0, 0),
         "informed",
     );
+}
+
+/// The first of six members is in no coalition: three of the others must agree, and these suffice.
+/// The gate is informed of the prefixes of its slice too, and of no slice before it was passed.
+#[test]
+fn a_slice_of_no_coalition_is_informed_of(rt: HostRuntime) {
+    let rules: [(u64, &[u64]); 2] = [(3, &[1; 6]), (3, &[0, 1, 1, 1, 1, 1])];
+    let game = game_of_rules(&rt, rt.alloc(), &rules);
+    assert!(rt; game.members() == 6);
+    let informed = Informed::new();
+    let counts = tally(&rt, rt.alloc(), &game, 1, 1, &informed).expect(&rt, "counts");
+    assert!(rt; counts.members() == 6);
+    assert_same(&rt, counts.wide_of_member(0), 0, "coalitions of the first");
+    let barren = prefixes_of(&game, 0);
+    assert!(rt; barren > 1);
+    let prefixes = barren.saturating_add(prefixes_of(&game, 1));
+    assert_same(&rt, informed.sums(), (10, prefixes, 2, 0, 0), "informed");
 }
