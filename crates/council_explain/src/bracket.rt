@@ -29,8 +29,8 @@ fn expect_after(alloc: Global, front: &str) -> Result<Option<&'static str>, Memo
     Ok(None)
 }
 
-/// How many bytes of a text a bracket text can begin with: up to its first digit it can, and further
-/// by steps of 2^16 halved down to 1, since if a longer front fits, each shorter one does.
+/// How many bytes of a text a bracket text can begin with: at least those up to its first digit,
+/// and more by steps of 2^16 halved down to 1, since if a longer front fits, each shorter one does.
 fn longest_front(alloc: Global, text: &str) -> Result<usize, Memory> {
     let mut len = text
         .find(is_digit)
