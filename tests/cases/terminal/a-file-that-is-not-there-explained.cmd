@@ -1,1 +1,1 @@
-python3 "$TOP/tests/terminal.py" council --explain missing
+python3 "$TOP/tests/terminal.py" council missing --explain
