@@ -103,7 +103,7 @@ def main(program, *chosen):
         print(*lines, sep="\n")
     if not found:
         print("FAILED tests/cases: there is no such case")
-    return int(not found or any(len(it) > 1 for it in found))
+    return int(not found or any(it[0].startswith("FAILED") for it in found))
 
 
 if __name__ == "__main__":

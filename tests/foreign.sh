@@ -93,6 +93,10 @@ for game in board.toml board.txt eec-1958.toml eu-1995.toml ca-amendment.toml un
     same "$game, all lines" "$top/examples/$game" --list --sizes --notation
     same "$game, counted" "$top/examples/$game" --tally --sizes --notation
 done
+# each option by its own
+for word in --list --sizes --notation --tally; do
+    same "board.toml, $word" "$top/examples/board.toml" $word
+done
 same "more coalitions than are kept, counted by a walk" "$top/examples/eu-27-lisbon.toml" --tally
 game_file 3 1 1 1 1 1 >"$temp/ten.toml"
 same "exactly the most" "$temp/ten.toml" --most 10

@@ -6,7 +6,7 @@
 # with ample memory. At a fault of the command line it may also tell less of the fault, on standard
 # error and with status 2, and with --explain it may lack lines after the first. And a small game
 # works while each allocation of more than 64 KiB is refused. The library that refuses is
-# allocations/refuse.c.
+# allocations/refuse.c. Threads are refused too.
 . "$(dirname "$0")/common.sh"
 
 compile_refuse
@@ -156,6 +156,24 @@ if needs python3 "$name"; then
         fi
     done
     if [ -z "$why" ]; then ok "$name"; else failed "$name" "$why"; fi
+fi
+
+# ---- no thread starts: no option is named then, neither with --explain nor on a terminal
+name="no thread starts"
+if ! echo 'int pthread_create(void) { return 11; }' | cc -x c -shared -fPIC -o "$temp/alone.so" - 2>"$temp/cc"; then
+    failed "$name" "$(head -n 1 "$temp/cc")"
+else
+    for word in --workers=1 --explain; do
+        timeout "$seconds" env LD_PRELOAD="$temp/alone.so" "$program" "$word" "$temp/five.toml" >"$temp/out" 2>"$temp/err" </dev/null
+        status=$?
+        refused "$name, $word" 5 "a worker could not be started"
+    done
+    if needs python3 "$name, on a terminal"; then
+        timeout "$seconds" python3 "$top/tests/terminal.py" env LD_PRELOAD="$temp/alone.so" "$program" "$temp/five.toml" >"$temp/out" 2>"$temp/told"
+        status=$?
+        tr -d '\r' <"$temp/told" >"$temp/err"
+        refused "$name, on a terminal" 5 "a worker could not be started"
+    fi
 fi
 
 game=

@@ -89,10 +89,15 @@ END
 import re, sys
 from terminal import Run
 line = rb"\rcouncil: 0 coalitions found, 0 of 1 slices done, ([0-9,]+) prefixes examined"
-run = Run([sys.argv[1], "--workers", "1", "--bits", "0", sys.argv[2]])
-run.read_until(lambda told: len(set(re.findall(line, told))) >= 2)
-run.kill()
-assert run.first > 1, f"told of after {run.first} seconds"
+# before the second second, unless the machine is busy
+for _ in range(9):
+    run = Run([sys.argv[1], "--workers", "1", "--bits", "0", sys.argv[2]])
+    run.read_until(lambda told: len(set(re.findall(line, told))) >= 2)
+    run.kill()
+    assert run.first > 1, f"told of after {run.first} seconds"
+    if run.first < 2:
+        break
+assert run.first < 2, f"told of after {run.first} seconds"
 # each 1,048,576 of the one thread are reported
 numbers = sorted({int(it.replace(b",", b"")) for it in re.findall(line + rb"(?=\r)", run.told)})
 assert numbers and all(it % 2**20 == 0 for it in numbers), numbers
@@ -148,12 +153,15 @@ assert all(there - here in (0, 1) for here, there in zip(numbers, numbers[1:])),
 assert line == b"".join(b"\rcouncil: %s coalitions found, %s of 1024 slices done" % it for it in told), line[:80]
 END
     then ok "a late report on a terminal"; else failed "a late report on a terminal" "$(tail -n 1 "$temp/told")"; fi
-    if timeout "$seconds" python3 - "$program" >"$temp/told" 2>&1 <<'END'
+    if timeout "$seconds" python3 - "$program" "$top/examples/board.toml" >"$temp/told" 2>&1 <<'END'
 import sys
 from terminal import type_in
 status, out, err = type_in([sys.argv[1]], b"[51; 50, 49, 1]\n\x04")
 assert status == 0 and out.startswith(b"members\t3\n"), out
 assert err == b"council: a game is read from standard input, up to its end\n", err
+# that is not said if a file is named
+status, out, err = type_in([sys.argv[1], sys.argv[2]], b"")
+assert status == 0 and out.startswith(b"members\t3\n") and err == b"", (status, err)
 END
     then ok "a game from a terminal"; else failed "a game from a terminal" "$(tail -n 1 "$temp/told")"; fi
 fi

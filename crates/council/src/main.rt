@@ -76,10 +76,11 @@ fn print_remarks(rt: &(impl Eprint + AllocGlobal), bytes: &[u8]) {
 /// The longest path that is shown, in characters.
 const LONGEST_PATH: usize = 4096;
 
-/// Says why the file could not be opened.
+/// Says that the file could not be opened, and why, or on a terminal which option says why.
 fn report_unopened(
     rt: &impl Eprint,
     arguments: &Arguments<'_>,
+    terminal: bool,
     path: &str,
     error: &io::Error,
 ) -> ExitCode {
@@ -87,6 +88,8 @@ fn report_unopened(
     if arguments.explain {
         let path = sanitize(path, LONGEST_PATH);
         let _ = eprintln!(rt; "  {path}: {error}");
+    } else if terminal {
+        let _ = eprintln!(rt; "  --explain says why");
     }
     ExitCode::from(1)
 }
@@ -181,7 +184,7 @@ fn run_on_file<R: AllocGlobal + Files + Input + Print + Eprint + Clock + Threads
     match arguments.file {
         Some(path) => match fs::open(rt, path) {
             Ok(mut file) => run_on(rt, arguments, terminal, &mut file),
-            Err(error) => report_unopened(rt, arguments, path, &error),
+            Err(error) => report_unopened(rt, arguments, terminal, path, &error),
         },
         None => run_on(rt, arguments, terminal, &mut rt.reader()),
     }

@@ -5,8 +5,8 @@ use council_file::bracket_rule;
 use council_game::{Memory, limits};
 use std::alloc::Global;
 
-/// How the front of a bracket text can end, and what is then wanted after it. The first end that
-/// fits says it.
+/// How a bracket text can end after a front that has a digit, and what is then wanted after it. The
+/// first end that fits says it.
 const ENDS: &[(&str, &str)] = &[
     ("", "nothing may stand behind the bracket"),
     (
@@ -15,8 +15,6 @@ const ENDS: &[(&str, &str)] = &[
     ),
     ("1]", "a weight is expected here, a whole number"),
     (";1]", "a semicolon is expected here, behind the quota"),
-    ("1;1]", "the quota is expected here, a whole number"),
-    ("[1;1]", "a bracket is expected here"),
 ];
 
 /// What is wanted after the front of a bracket text; none if a text with this front breaks the
@@ -31,10 +29,12 @@ fn expect_after(alloc: Global, front: &str) -> Result<Option<&'static str>, Memo
     Ok(None)
 }
 
-/// How many bytes of a text a bracket text can begin with, found by steps of 2^16 halved down to 1:
-/// if a length fits, each shorter one does.
+/// How many bytes of a text a bracket text can begin with: at least those up to its first digit,
+/// and more by steps of 2^16 halved down to 1, since if a longer front fits, each shorter one does.
 fn longest_front(alloc: Global, text: &str) -> Result<usize, Memory> {
-    let mut len = 0usize;
+    let mut len = text
+        .find(is_digit)
+        .map_or(0, |place| place.saturating_add(1));
     for halvings in 0..17u32 {
         let longer = len.saturating_add(limits::FILE_BYTES >> halvings);
         if let Some(front) = text.get(..longer)

@@ -60,19 +60,21 @@ impl Explanation<'_> {
 
     /// Says what helps with a quota or a weight: its number, and what comes after it.
     fn explain_numeral(&mut self, number: &str, after: &str) {
-        if number.is_empty() {
-            self.line("a quota or a weight is a whole number, in digits, without quotes");
-        } else if number.contains(is_separator) {
+        if number.contains(is_separator) {
             self.explain_separators(number);
-        } else if after.starts_with(';') {
-            self.line("a line ends without a semicolon");
         } else if number.len() > 1 && number.starts_with('0') {
             let digits = match number.trim_start_matches('0') {
                 "" => "0",
                 digits => digits,
             };
             self.line(format_args!("a number has no leading zero: write {}", short(digits)));
-        } else if !after.starts_with(['%', '/']) {
+        } else if after.starts_with(['%', '/', ';']) {
+            // said with the place, or by the message
+        } else if number.is_empty() {
+            self.line("a quota or a weight is a whole number, in digits, without quotes");
+        } else if after.is_empty() {
+            self.line("write a number in digits only");
+        } else {
             self.line("a number has no unit: write its digits only");
         }
     }
@@ -92,23 +94,30 @@ impl Explanation<'_> {
         }
     }
 
-    /// Says what helps with a name or a title whose value breaks off after this front of it.
-    fn explain_text_slip(&mut self, front: &str) {
-        if front.trim_start().starts_with(['"', '\'']) {
-            self.line("write \\\" for a quote inside the quotes");
-        } else {
+    /// Says what helps with a name or a title whose value breaks off after this front of it, with
+    /// the rest of its line.
+    fn explain_text_slip(&mut self, front: &str, rest: &str) {
+        if !front.trim_start().starts_with(['"', '\'']) {
             self.line("a text needs quotes, as in name = \"A\"");
+        } else if front.ends_with('\\') {
+            self.line("write \\\\ for a backslash");
+        } else if rest.contains(['"', '\'']) {
+            self.line("write \\\" for a quote inside the quotes");
         }
     }
 
     /// Says what helps if the value of a key breaks off at a place, after this front of it.
     fn explain_value_slip(&mut self, key: &str, front: &str, place: usize) {
-        let rest = first_row(self.text.get(place..).unwrap_or(""));
+        let rest = first_row(self.text.get(place..).unwrap_or("")).trim();
         let key = key.trim_end();
-        if rest.contains('=') && !key.contains('{') {
+        if rest == ";" {
+            self.line("a line ends without a semicolon");
+        } else if rest == "," {
+            self.line("a line ends without a comma");
+        } else if rest.contains('=') && !key.contains('{') {
             self.line("each key begins a line of its own");
         } else if key.ends_with("name") || key.ends_with("title") {
-            self.explain_text_slip(front);
+            self.explain_text_slip(front, rest);
         } else if key.ends_with("quota") || key.ends_with("weight") {
             self.explain_number_slip(front, place);
         }
@@ -120,7 +129,11 @@ impl Explanation<'_> {
     pub fn explain_slip(&mut self, place: usize, message: &str) {
         let (front, rest) = self.text.split_at_checked(place).unwrap_or((self.text, ""));
         let (_, row) = front.rsplit_once('\n').unwrap_or(("", front));
-        if rest.starts_with(is_curly) && !row.ends_with(is_digit) {
+        if message == "number out of range" {
+            self.line(
+                "a weight is at most 1000000000000, and a quota at most the total of its weights",
+            );
+        } else if rest.starts_with(is_curly) && !row.ends_with(is_digit) {
             self.line("write straight quotes: \" or '");
         } else if let Some((key, front)) = row.rsplit_once('=') {
             self.explain_value_slip(key, front, place);

@@ -1,0 +1,1 @@
+council --explain $(printf 'x%.0s' {1..4097})

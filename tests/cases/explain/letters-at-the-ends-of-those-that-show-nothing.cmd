@@ -1,0 +1,1 @@
+council --explain "$(cat game)"

@@ -1,0 +1,1 @@
+council --explain --most 1 game

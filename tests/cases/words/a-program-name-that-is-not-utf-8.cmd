@@ -1,0 +1,1 @@
+exec -a $'a\377' council game
