@@ -49,13 +49,16 @@ for name in council_game council_file mwc_walk mwc_pipe power_index mwc_tally mw
     are_built "$name" || exit 1
 done
 
+# What is loaded beside refuse.so, each after a colon.
+preload=
+
 # Makes the call of the test $3 of the crate $2 with the allocations refused that $1 names, and
 # keeps its answer and its status, and in $temp/said what refuse.c says.
 call() {
     local own
     own=$(tests_of "$2")
     : >"$temp/said"
-    timeout -k 5 "$seconds" env "$1" REFUSE_CALL=1 REFUSE_TO=9 LD_PRELOAD="$temp/refuse.so" \
+    timeout -k 5 "$seconds" env "$1" REFUSE_CALL=1 REFUSE_TO=9 LD_PRELOAD="$temp/refuse.so$preload" \
         "$crates/$own/out/${own}_tests" "$2_tests::refusals::$3" >"$temp/out" 2>"$temp/err" 9>"$temp/said" </dev/null
     status=$?
     answer=$(sed -n 2p "$temp/out")
@@ -196,6 +199,25 @@ takes_memory power_index gives_all_indices
 asks_for_little power_index gives_all_indices
 takes_memory mwc_tally tallies "not started"
 starts_threads mwc_tally tallies_pieces
+# only the first thread starts, and that is what the call answers even if memory runs out too
+name="mwc_tally tallies, one thread starts"
+if ! cc -shared -fPIC -o "$temp/first.so" "$top/tests/allocations/first_thread.c" -ldl 2>"$temp/cc"; then
+    failed "$name" "$(head -n 1 "$temp/cc")"
+else
+    preload=:$temp/first.so
+    call REFUSE_FROM=10000 mwc_tally tallies
+    if [ "$answer" = "not started" ]; then ok "$name"; else failed "$name" "the answer is: $answer"; fi
+    : >"$temp/answers"
+    for ((number = 1; number <= 10000; number++)); do
+        call "REFUSE_FROM=$number" mwc_tally tallies
+        [ -s "$temp/said" ] || break
+        echo "$answer" >>"$temp/answers"
+    done
+    shape='o+s{2,}'
+    if has_shape; then ok "$name, REFUSE_FROM"; else failed "$name, REFUSE_FROM" "$why"; fi
+    preload=
+    shape=''
+fi
 takes_none mwc_tally tallies_a_slice_without_memory
 takes_memory mwc_closed_count counts_by_sums
 takes_memory mwc_closed_count counts_by_halves

@@ -115,6 +115,17 @@ limit=$((seconds / 20))
 same "29 members, counted by sums" "$temp/sums.toml" --tally
 limit=$whole
 
+# ---- counted by kinds, as by the program: these members of two kinds have 75,370,861,360
+# coalitions, for which a walk would take an hour
+{
+    echo 'quotas = [41, 41, 31]'
+    for member in {1..40}; do
+        printf '[[member]]\nname = "%s"\n' "$member"
+        if [ "$member" -le 20 ]; then echo 'weights = [3, 1, 2]'; else echo 'weights = [1, 3, 2]'; fi
+    done
+} >"$temp/kinds.toml"
+same "40 members of two kinds" "$temp/kinds.toml" --tally --sizes
+
 # ---- a report of some 60 KB
 game_file 6 1 1 1 1 1 1 1 1 1 1 1 1 >"$temp/twelve.toml"
 same "a long report" "$temp/twelve.toml" --list --sizes --notation

@@ -93,6 +93,11 @@ fn more_bits_than_members(rt: HostRuntime) {
 }
 
 #[test]
+fn no_bits(rt: HostRuntime) {
+    sees_all(&rt, rt.alloc(), TWELVE, 2, 0, 1);
+}
+
+#[test]
 fn as_many_slices_as_there_can_be(rt: HostRuntime) {
     sees_all(&rt, rt.alloc(), TWELVE, 16, 10, 1024);
 }
