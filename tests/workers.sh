@@ -70,7 +70,7 @@ if needs python3 "a long run on a terminal" "a barren run on a terminal" "a late
 import re, sys
 from terminal import run_slowly
 # (no option for lines keeps the observer away)
-run, status = run_slowly([sys.argv[1], "--workers", "16", "--bits", "10", "--most", "4000000", "--sizes", "--notation", "--explain", sys.argv[2]], 2)
+run, status = run_slowly([sys.argv[1], "--workers", "16", "--bits", "10", "--most", "4000000", "--list", "--sizes", "--notation", "--explain", sys.argv[2]], 2)
 assert status == 0, status
 lines = re.findall(rb"\rcouncil: ([0-9,]+) coalitions found, ([0-9]+) of 1024 slices done", run.told)
 assert len(lines) >= 2, run.told
@@ -159,6 +159,7 @@ from terminal import type_in
 status, out, err = type_in([sys.argv[1]], b"[51; 50, 49, 1]\n\x04")
 assert status == 0 and out.startswith(b"members\t3\n"), out
 assert err == b"council: a game is read from standard input, up to its end\n", err
+assert type_in([sys.argv[1], "--explain"], b"[51; 50, 49, 1]\n\x04") == (status, out, err)
 # that is not said if a file is named
 status, out, err = type_in([sys.argv[1], sys.argv[2]], b"")
 assert status == 0 and out.startswith(b"members\t3\n") and err == b"", (status, err)
