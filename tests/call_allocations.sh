@@ -6,10 +6,10 @@
 # answer, and fails if not. If no allocation was refused the answer is the worked one. If one was,
 # it is out of memory or, for calls that start threads, that one did not start, each for the
 # allocations that it is for; no call works then. The built tests of the crates are run, and the
-# library that refuses is allocations/refuse.c.
+# library that refuses is preloaded/refuse.c.
 . "$(dirname "$0")/common.sh"
 
-compile_refuse
+compile_preloaded refuse first_thread in_turn
 crates=$top/crates
 
 # tests_of CRATE: the crate that has its tests, as a module CRATE_tests.
@@ -199,25 +199,24 @@ takes_memory power_index gives_all_indices
 asks_for_little power_index gives_all_indices
 takes_memory mwc_tally tallies "not started"
 starts_threads mwc_tally tallies_pieces
+# a worker that runs out of memory leaves no slice to those that start after it
+preload=:$temp/in_turn.so
+takes_memory mwc_tally tallies_in_turn "not started"
 # only the first thread starts, and that is what the call answers even if memory runs out too
 name="mwc_tally tallies, one thread starts"
-if ! cc -shared -fPIC -o "$temp/first.so" "$top/tests/allocations/first_thread.c" -ldl 2>"$temp/cc"; then
-    failed "$name" "$(head -n 1 "$temp/cc")"
-else
-    preload=:$temp/first.so
-    call REFUSE_FROM=10000 mwc_tally tallies
-    if [ "$answer" = "not started" ]; then ok "$name"; else failed "$name" "the answer is: $answer"; fi
-    : >"$temp/answers"
-    for ((number = 1; number <= 10000; number++)); do
-        call "REFUSE_FROM=$number" mwc_tally tallies
-        [ -s "$temp/said" ] || break
-        echo "$answer" >>"$temp/answers"
-    done
-    shape='o+s{2,}'
-    if has_shape; then ok "$name, REFUSE_FROM"; else failed "$name, REFUSE_FROM" "$why"; fi
-    preload=
-    shape=''
-fi
+preload=:$temp/first_thread.so
+call REFUSE_FROM=10000 mwc_tally tallies
+if [ "$answer" = "not started" ]; then ok "$name"; else failed "$name" "the answer is: $answer"; fi
+: >"$temp/answers"
+for ((number = 1; number <= 10000; number++)); do
+    call "REFUSE_FROM=$number" mwc_tally tallies
+    [ -s "$temp/said" ] || break
+    echo "$answer" >>"$temp/answers"
+done
+shape='o+s{2,}'
+if has_shape; then ok "$name, REFUSE_FROM"; else failed "$name, REFUSE_FROM" "$why"; fi
+preload=
+shape=''
 takes_none mwc_tally tallies_a_slice_without_memory
 takes_memory mwc_closed_count counts_by_sums
 takes_memory mwc_closed_count counts_by_halves

@@ -146,12 +146,15 @@ member = [
 END
 }
 
-# Compiles the library that refuses allocations to $temp/refuse.so; if there is no compiler, the
-# script ends here.
-compile_refuse() {
+# compile_preloaded NAME..: compiles preloaded/NAME.c to $temp/NAME.so, which is loaded before the C
+# library; if there is no compiler, the script ends here.
+compile_preloaded() {
+    local name
     needs cc "$(basename "$0")" || exit 0
-    if ! cc -O2 -Wall -Wextra -shared -fPIC -o "$temp/refuse.so" "$top/tests/allocations/refuse.c" 2>"$temp/cc"; then
-        failed "allocations/refuse.c is compiled" "$(head -n 1 "$temp/cc")"
-        exit 1
-    fi
+    for name; do
+        if ! cc -O2 -Wall -Wextra -shared -fPIC -o "$temp/$name.so" "$top/tests/preloaded/$name.c" -ldl -pthread 2>"$temp/cc"; then
+            failed "preloaded/$name.c is compiled" "$(head -n 1 "$temp/cc")"
+            exit 1
+        fi
+    done
 }

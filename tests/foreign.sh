@@ -214,7 +214,7 @@ fi
 # not needed.
 name="from C: want of memory is a status"
 if [ -x "$temp/report_c" ]; then
-    compile_refuse
+    compile_preloaded refuse
     for words in "--list" "--tally --sizes"; do
         # shellcheck disable=SC2086
         run $words <"$top/examples/eec-1958.toml"

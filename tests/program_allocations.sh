@@ -6,10 +6,10 @@
 # with ample memory. At a fault of the command line it may also tell less of the fault, on standard
 # error and with status 2, and with --explain it may lack lines after the first. And a small game
 # works while each allocation of more than 64 KiB is refused. The library that refuses is
-# allocations/refuse.c. Threads are refused too.
+# preloaded/refuse.c. Threads are refused too.
 . "$(dirname "$0")/common.sh"
 
-compile_refuse
+compile_preloaded refuse
 {
     echo 'title = "Two rules"'
     two_rules

@@ -1,28 +1,25 @@
 """A program on a terminal, for the scripts of this folder: they run python3 with PYTHONPATH on it.
 
-    run = Run([program, "--tally", game])
+    run = Run([program, "--tally", game], clock=clock)
     run.read_until(lambda told: b"slices done" in told)
     run.kill()
 """
 import os
 import pty
-import signal
 import subprocess
 import sys
-import time
 
 
 class Run:
-    """A program whose standard error is a terminal, and its standard output too where it says so."""
+    """A program whose standard error is a terminal, and its standard output too where it says so. Its clock is that of a compiled
+    preloaded/clock.c, if one is named: it goes on by a tenth of a second each time the program reads it."""
 
-    def __init__(self, words, stdout=subprocess.DEVNULL, both=False):
+    def __init__(self, words, stdout=subprocess.DEVNULL, both=False, clock=None):
         self.leader, follower = pty.openpty()
-        began = time.monotonic()
-        self.process = subprocess.Popen(words, stdin=subprocess.DEVNULL, stdout=follower if both else stdout, stderr=follower)
+        own = {**os.environ, "LD_PRELOAD": clock} if clock else None
+        self.process = subprocess.Popen(words, stdin=subprocess.DEVNULL, stdout=follower if both else stdout, stderr=follower, env=own)
         os.close(follower)
-        self.began = began
-        # after how many seconds it first said something, and what it has said so far
-        self.first = None
+        # what it has said so far
         self.told = b""
 
     def read(self):
@@ -31,8 +28,6 @@ class Run:
             more = os.read(self.leader, 4096)
         except OSError:
             return False
-        if self.first is None:
-            self.first = time.monotonic() - self.began
         self.told += more
         return bool(more)
 
@@ -47,29 +42,9 @@ class Run:
             pass
         return self.process.wait()
 
-    def slow_down(self, piece):
-        """Stops it six times, each time after some seconds, so that its clock goes on for two seconds and it does not."""
-        for _ in range(6):
-            time.sleep(piece)
-            self.process.send_signal(signal.SIGSTOP)
-            time.sleep(0.4)
-            self.process.send_signal(signal.SIGCONT)
-
     def kill(self):
         self.process.kill()
         self.process.wait()
-
-
-def run_slowly(words, lines, both=False):
-    """Runs a program that takes some tenths of a second so that more than a second goes by until it ends: it is stopped now and
-    then, on a busier machine later, until it has shown its progress so often. That run, and its status."""
-    for piece in (0.005, 0.02, 0.08, 0.32):
-        run = Run(words, both=both)
-        run.slow_down(piece)
-        status = run.read_all()
-        if run.told.count(b"slices done") >= lines:
-            break
-    return run, status
 
 
 def type_in(words, typed):

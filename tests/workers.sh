@@ -57,8 +57,11 @@ slow_game() {
 
 # ---- on a terminal: how far a run has come, and that a game is read from standard input
 if needs python3 "a long run on a terminal" "a barren run on a terminal" "a late coalition on a terminal" "a late fault on a terminal" "a late report on a terminal" "a game from a terminal"; then
-    # a game of 3,838,380 coalitions, listed in some tenths of a second; the program is stopped
-    # meanwhile, until more than the second has passed after which a run is reported
+    # the clock goes on by a tenth of a second at each look: the program looks at each slice that it
+    # takes and each 1,048,576 prefixes, and shows nothing before more than a second has passed
+    compile_preloaded clock
+    clock=$temp/clock.so
+    # a game of 3,838,380 coalitions
     {
         echo 'quota = 6'
         for ((member = 1; member <= 40; member++)); do
@@ -66,11 +69,12 @@ if needs python3 "a long run on a terminal" "a barren run on a terminal" "a late
         done
     } >"$temp/long.toml"
     export PYTHONPATH=$top/tests PYTHONDONTWRITEBYTECODE=1
-    if timeout "$seconds" python3 - "$program" "$temp/long.toml" >"$temp/told" 2>&1 <<'END'
+    if timeout "$seconds" python3 - "$program" "$temp/long.toml" "$clock" >"$temp/told" 2>&1 <<'END'
 import re, sys
-from terminal import run_slowly
+from terminal import Run
 # (no option for lines keeps the observer away)
-run, status = run_slowly([sys.argv[1], "--workers", "16", "--bits", "10", "--most", "4000000", "--list", "--sizes", "--notation", "--explain", sys.argv[2]], 2)
+run = Run([sys.argv[1], "--workers", "16", "--bits", "10", "--most", "4000000", "--list", "--sizes", "--notation", "--explain", sys.argv[2]], clock=sys.argv[3])
+status = run.read_all()
 assert status == 0, status
 lines = re.findall(rb"\rcouncil: ([0-9,]+) coalitions found, ([0-9]+) of 1024 slices done", run.told)
 assert len(lines) >= 2, run.told
@@ -83,34 +87,29 @@ END
     then ok "a long run on a terminal"; else failed "a long run on a terminal" "$(tail -n 1 "$temp/told")"; fi
     # a game that takes hours: 21 of 39 members must agree, 6 of the first twelve and 15 of the
     # others, so a coalition with a seventh of the twelve is never minimal. The run is ended once it
-    # was told of twice, before it has found a coalition
+    # was told of four times, before it has found a coalition
     slow_game '21000, 15000, 6000' 40 >"$temp/barren.toml"
-    if timeout "$seconds" python3 - "$program" "$temp/barren.toml" >"$temp/told" 2>&1 <<'END'
+    if timeout "$seconds" python3 - "$program" "$temp/barren.toml" "$clock" >"$temp/told" 2>&1 <<'END'
 import re, sys
 from terminal import Run
-line = rb"\rcouncil: 0 coalitions found, 0 of 1 slices done, ([0-9,]+) prefixes examined"
-# before the second second, unless the machine is busy
-for _ in range(9):
-    run = Run([sys.argv[1], "--workers", "1", "--bits", "0", sys.argv[2]])
-    run.read_until(lambda told: len(set(re.findall(line, told))) >= 2)
-    run.kill()
-    assert run.first > 1, f"told of after {run.first} seconds"
-    if run.first < 2:
-        break
-assert run.first < 2, f"told of after {run.first} seconds"
-# each 1,048,576 of the one thread are reported
-numbers = sorted({int(it.replace(b",", b"")) for it in re.findall(line + rb"(?=\r)", run.told)})
-assert numbers and all(it % 2**20 == 0 for it in numbers), numbers
-assert all(there - here == 2**20 for here, there in zip(numbers, numbers[1:])), numbers
+line = rb"\rcouncil: 0 coalitions found, 0 of 1 slices done, ([0-9,]+) prefixes examined(?=\r)"
+run = Run([sys.argv[1], "--workers", "1", "--bits", "0", sys.argv[2]], clock=sys.argv[3])
+run.read_until(lambda told: len(re.findall(line, told)) >= 3)
+run.kill()
+# it looks as it begins, as it takes the slice, and with each 1,048,576 prefixes: at the tenth of
+# these 1.1 seconds have passed
+numbers = [int(it.replace(b",", b"")) for it in re.findall(line, run.told)]
+assert numbers[:3] == [2**20 * it for it in (10, 11, 12)], numbers
+assert run.told.startswith(b"\rcouncil: 0 coalitions found"), run.told[:80]
 END
     then ok "a barren run on a terminal"; else failed "a barren run on a terminal" "$(tail -n 1 "$temp/told")"; fi
     # 6 of 12 and 12 of 22 members must agree, and nothing is found for some seconds: the line that
     # tells of prefixes is wiped before the first one that does not, which is shorter
     slow_game '18000, 12000, 6000' 35 >"$temp/found.toml"
-    if timeout "$seconds" python3 - "$program" "$temp/found.toml" >"$temp/told" 2>&1 <<'END'
+    if timeout "$seconds" python3 - "$program" "$temp/found.toml" "$clock" >"$temp/told" 2>&1 <<'END'
 import re, sys
 from terminal import Run
-run = Run([sys.argv[1], "--workers", "1", "--bits", "0", "--most", "4000000", sys.argv[2]])
+run = Run([sys.argv[1], "--workers", "1", "--bits", "0", "--most", "4000000", sys.argv[2]], clock=sys.argv[3])
 while not re.search(rb"council: [1-9]", run.told) and run.read():
     pass
 run.kill()
@@ -119,10 +118,11 @@ END
     then ok "a late coalition on a terminal"; else failed "a late coalition on a terminal" "$(tail -n 1 "$temp/told")"; fi
     # the game of 3,838,380 coalitions where one fewer is asked for: the line is wiped before the
     # fault
-    if timeout "$seconds" python3 - "$program" "$temp/long.toml" >"$temp/told" 2>&1 <<'END'
+    if timeout "$seconds" python3 - "$program" "$temp/long.toml" "$clock" >"$temp/told" 2>&1 <<'END'
 import sys
-from terminal import run_slowly
-run, status = run_slowly([sys.argv[1], "--workers", "1", "--bits", "10", "--most", "3838379", sys.argv[2]], 1)
+from terminal import Run
+run = Run([sys.argv[1], "--workers", "1", "--bits", "10", "--most", "3838379", sys.argv[2]], clock=sys.argv[3])
+status = run.read_all()
 assert status == 4, status
 assert b"slices done" in run.told, run.told[:60]
 assert run.told.endswith(b"\r\x1b[Kcouncil: too many minimal winning coalitions\r\n  --tally counts any number of them\r\n"), run.told[-120:]
@@ -136,10 +136,11 @@ END
         cat "$temp/out"
         echo "council: the quota is at most half of the total, so two coalitions without a common member could win"
     } | sed 's/$/\r/' >"$temp/report"
-    if timeout "$seconds" python3 - "$program" "$temp/long.toml" "$temp/report" >"$temp/told" 2>&1 <<'END'
+    if timeout "$seconds" python3 - "$program" "$temp/long.toml" "$temp/report" "$clock" >"$temp/told" 2>&1 <<'END'
 import re, sys
-from terminal import run_slowly
-run, status = run_slowly([sys.argv[1], "--workers", "1", "--bits", "10", "--most", "4000000", sys.argv[2]], 2, both=True)
+from terminal import Run
+run = Run([sys.argv[1], "--workers", "1", "--bits", "10", "--most", "4000000", sys.argv[2]], both=True, clock=sys.argv[4])
+status = run.read_all()
 assert status == 0, status
 with open(sys.argv[3], "rb") as it:
     report = it.read()

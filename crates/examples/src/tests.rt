@@ -1,4 +1,6 @@
 //! Each use once, on a worked game.
+mod every_size;
+
 ghost use Rattle.std.specs.Prelude.{◌≡◌, length};
 
 use crate::best::{lightest, smallest};
@@ -15,7 +17,7 @@ use crate::slices::{Passes, words_of_slice};
 use crate::tables::{first_wrong_row, most_powerful};
 use crate::tally::tally_index;
 use council_file::parse_game;
-use council_game::{Coalition, Game, Rule, plain_list};
+use council_game::{Coalition, Game, GameFault, Rule, plain_list};
 use council_report::ReportLines;
 use game_calls::{
     at_quota, coalition_named, count_by_walk, critical_members, first_unnamed, game_from_slices,
@@ -118,6 +120,12 @@ fn the_first_is_not_the_lightest(rt: HostRuntime) {
 /// Ada, Bo and Cleo of 50, 49 and 1 votes, and a majority of 51.
 fn board(rt: &impl Abort, alloc: Global) -> Game {
     game_from_slices(alloc, &["Ada", "Bo", "Cleo"], &[50, 49, 1], 51).expect(rt, "a game")
+}
+
+#[test]
+fn a_game_has_a_member(rt: HostRuntime) {
+    let answer = game_from_slices(rt.alloc(), &[], &[], 1);
+    assert_same(&rt, answer.err(), Some(GameFault::Members), "fault");
 }
 
 #[test]

@@ -109,6 +109,15 @@ fn lists_those_of_several_rules(rt: HostRuntime) {
     check_two(&rt, alloc, [1, 1], [&[1, 0], &[0, 1]], &[3]);
 }
 
+/// The only member is in order, whatever it contributes.
+#[test]
+fn one_member_is_in_order(rt: HostRuntime) {
+    let alloc = rt.alloc();
+    let game = answer_of_two(&rt, alloc, [1, 2], [&[1], &[3]]).expect(&rt, "a game");
+    let other = game.by_contribution(alloc).expect(&rt, "memory");
+    assert!(rt; other.is_none());
+}
+
 /// The readers of the game of two rules.
 fn check_readers(rt: &impl Abort, game: &Game) {
     assert!(rt; game.rules() == 2 && game.members() == 4);

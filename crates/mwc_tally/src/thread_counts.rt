@@ -1,7 +1,7 @@
 //! What one thread counted.
 ghost use Rattle.std.specs.Prelude.{◌≡◌, true, IfOk, IfSome};
 ghost use Rattle.std.specs.List.{range_with_len};
-ghost use Rattle.mwc_tally.specs.Inner.SliceCounts.{AreThreadCounts, CountSlices, CountWhole};
+ghost use Rattle.mwc_tally.specs.Inner.SliceCounts.{AreTaken, AreThreadCounts, CountSlices, CountWhole};
 
 use crate::sliced_game::SlicedGame;
 use council_game::{Memory, limits};
@@ -48,7 +48,8 @@ impl ThreadCounts {
     ) -> Result<(), Memory>
         requires own { AreThreadCounts slices self.old }
         requires more { CountSlices slices taken.now counts.now }
-        ensures { AreThreadCounts slices.entry self.new }
+        ensures counts { AreThreadCounts slices.entry self.new }
+        ensures taken { IfOk result (λ _. AreTaken self.old taken.now counts.now self.new) }
     {
         if self.counts.wide_total() + counts.wide_total() > MOST {
             return Ok(());

@@ -91,10 +91,11 @@ fn five_of_forty_win(rt: HostRuntime) {
     }
 }
 
-/// The slices of 32 that were passed, a binary digit for each, how many were passed again, and how
-/// many came in descending order: slice 31 first.
+/// The slices up to `last`, at most 31, that were passed, a binary digit for each, how many were
+/// passed again, and how many came in descending order: the last slice first.
 #[derive(Drop)]
 struct Once {
+    last: u64,
     seen: AtomicU64,
     again: AtomicU64,
     came: AtomicU64,
@@ -108,7 +109,7 @@ impl Gate for Once {
             self.again.fetch_add(1, Ordering::SeqCst);
         }
         let before = self.came.fetch_add(1, Ordering::SeqCst);
-        if before < 32 && u64::from(slice) == 31 - before {
+        if before <= self.last && u64::from(slice) == self.last - before {
             self.descending.fetch_add(1, Ordering::SeqCst);
         }
     }
@@ -119,30 +120,26 @@ impl Gate for Once {
 #[test]
 fn each_slice_is_passed_once(rt: HostRuntime) {
     let game = five(&rt, rt.alloc());
-    for workers in 1..17u8 {
-        let once = Once {
-            seen: AtomicU64::new(0),
-            again: AtomicU64::new(0),
-            came: AtomicU64::new(0),
-            descending: AtomicU64::new(0),
-        };
-        let counts = tally(&rt, rt.alloc(), &game, 5, workers, &once).expect(&rt, "counts");
-        assert_of_five(&rt, &counts);
-        let all: u64 = (1 << 32) - 1;
-        assert_same(
-            &rt,
-            once.seen.load(Ordering::SeqCst),
-            all,
-            ("seen", workers),
-        );
-        assert_same(
-            &rt,
-            once.again.load(Ordering::SeqCst),
-            0,
-            ("again", workers),
-        );
-        let descending = once.descending.load(Ordering::SeqCst);
-        assert_same(&rt, workers > 1 || descending == 32, true, workers);
+    for (bits, last, all) in [(0, 0, 1), (5, 31, (1 << 32) - 1)] {
+        for workers in 1..17u8 {
+            let once = Once {
+                last,
+                seen: AtomicU64::new(0),
+                again: AtomicU64::new(0),
+                came: AtomicU64::new(0),
+                descending: AtomicU64::new(0),
+            };
+            let counts = tally(&rt, rt.alloc(), &game, bits, workers, &once).expect(&rt, "counts");
+            assert_of_five(&rt, &counts);
+            let found = (
+                once.seen.load(Ordering::SeqCst),
+                once.again.load(Ordering::SeqCst),
+            );
+            assert_same(&rt, found, (all, 0), (bits, workers));
+            let descending = once.descending.load(Ordering::SeqCst);
+            let is_descending = workers > 1 || descending == last + 1;
+            assert_same(&rt, is_descending, true, workers);
+        }
     }
 }
 

@@ -1,9 +1,10 @@
 -- What a thread counted of a game's slices.
-use Rattle.std.specs.Prelude.{ℕ, ◌≡◌, ◌++◌, List}
+use Rattle.std.specs.Prelude.{ℕ, ◌≡◌, ◌+◌, ◌^◌, ◌≤◌, ◌++◌, List}
 use Rattle.std.specs.List.{flat_map}
+use Rattle.council_base.specs.declared.limits.TheConstants.{MEMBERS}
 use Rattle.council_game.specs.Game.{GameView, votes_of}
 use Rattle.mwc_walk.specs.Slices.{slice}
-use Rattle.power_index.specs.Tables.{Tables, AreTallies, AreCountsOfGame}
+use Rattle.power_index.specs.Tables.{Tables, AreTallies, AreCountsOfGame, table_total}
 use Rattle.mwc_tally.specs.declared.thread_counts.ThreadCounts.{ThreadCounts}
 use Rattle.mwc_tally.specs.declared.sliced_game.SlicedGame.{SlicedGame}
 
@@ -21,6 +22,10 @@ AreThreadCountsAt g bits s = AreTallies g (flat_map (slice (votes_of g) bits) s.
 
 abbrev pub AreThreadCounts : SlicedGame → ThreadCounts → Type 0
 AreThreadCounts s totals = AreThreadCountsAt s.game.now s.bits totals
+
+-- further slices are taken, unless there were more coalitions than any game has
+abbrev pub AreTaken : ThreadCounts → List ℕ → Tables → ThreadCounts → Type 0
+AreTaken old taken t new = table_total old.counts.value + table_total t ≤ 2 ^ MEMBERS → new.taken.items ≡ old.taken.items ++ taken
 
 -- the tables count the whole game
 abbrev pub CountWhole : SlicedGame → Tables → Type 0

@@ -15,7 +15,7 @@ add-requires-clause-more g c =
 
 pub loop-thread-preserved-in-Ok : goal.loop-thread-preserved-in-Ok
 loop-thread-preserved-in-Ok g c = record {
-  all = c.add.ensures;
+  all = c.add.ensures.counts;
   rest = others-of (λ t. t.promise ≡ c.args.slices) c.in-Some.ensures.steps.0 c.loop-thread.invariant.rest;
 }
 
