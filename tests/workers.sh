@@ -145,7 +145,9 @@ assert status == 0, status
 with open(sys.argv[3], "rb") as it:
     report = it.read()
 assert b"minimal\t3838380\r\n" in report, report[:80]
-line, wiped, shown = run.told.partition(b"\r\x1b[K")
+# (a longer line tells of the first slices, which hold no coalition, and it is wiped at the first)
+barren = re.match(rb"(\rcouncil: 0 coalitions found, [0-9]+ of 1024 slices done(, [0-9,]+ prefixes examined)?)+\r\x1b\[K", run.told)
+line, wiped, shown = run.told[barren.end() if barren else 0 :].partition(b"\r\x1b[K")
 assert shown == report, run.told[-200:]
 told = re.findall(rb"\rcouncil: ([0-9,]+) coalitions found, ([0-9]+) of 1024 slices done", line)
 numbers = [int(it[1]) for it in told]
