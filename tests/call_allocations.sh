@@ -9,7 +9,7 @@
 # library that refuses is preloaded/refuse.c.
 . "$(dirname "$0")/common.sh"
 
-compile_preloaded refuse first_thread in_turn
+compile_preloaded refuse few_threads in_turn
 crates=$top/crates
 
 # tests_of CRATE: the crate that has its tests, as a module CRATE_tests.
@@ -204,7 +204,8 @@ preload=:$temp/in_turn.so
 takes_memory mwc_tally tallies_in_turn "not started"
 # only the first thread starts, and that is what the call answers even if memory runs out too
 name="mwc_tally tallies, one thread starts"
-preload=:$temp/first_thread.so
+preload=:$temp/few_threads.so
+export THREADS=1
 call REFUSE_FROM=10000 mwc_tally tallies
 if [ "$answer" = "not started" ]; then ok "$name"; else failed "$name" "the answer is: $answer"; fi
 : >"$temp/answers"

@@ -198,6 +198,34 @@ for room in 65535 65536 70000 $(($(wc -c <"$temp/out") - 1)); do
     done
 done
 
+# ---- a large buffer costs its caller memory, and the call none: the system refuses another such
+name="from C: a buffer of 1 GB where there is no other"
+if [ -x "$temp/report_c" ] && (ulimit -v 1500000) 2>/dev/null; then
+    run --list <"$top/examples/board.toml"
+    (ulimit -v 1500000 && exec timeout "$limit" "$temp/report_c" --list --room 1000000000) >"$temp/its" 2>"$temp/its.err" <"$top/examples/board.toml"
+    its=$?
+    fits "$name"
+fi
+
+# ---- games of every number of members and rules, from C; it knows neither workers nor bits
+cat >"$temp/as_program" <<'END'
+#!/usr/bin/env bash
+words=()
+while [ $# -gt 1 ]; do
+    case $1 in
+    --workers | --bits) shift ;;
+    --explain) ;;
+    *) words+=("$1") ;;
+    esac
+    shift
+done
+exec "${0%/*}/report_c" ${words[@]+"${words[@]}"} <"$1"
+END
+chmod +x "$temp/as_program"
+if [ -x "$temp/report_c" ] && needs python3 "from C: every size"; then
+    python3 "$top/tests/every_size.py" "$temp/as_program" | sed 's/every size/from C: &/'
+fi
+
 # ---- several threads at once, each with little stack
 name="from threads of C"
 if command -v cc >/dev/null; then

@@ -169,3 +169,15 @@ assert status == 0 and out.startswith(b"members\t3\n") and err == b"", (status, 
 END
     then ok "a game from a terminal"; else failed "a game from a terminal" "$(tail -n 1 "$temp/told")"; fi
 fi
+
+# ---- 16 threads list the coalitions of that game, and then 15 count them beside the first one
+name="threads of 393212 coalitions with 16 workers"
+compile_preloaded few_threads
+# started THREADS: the run with no more threads than that
+started() {
+    THREADS=$1 LD_PRELOAD=$temp/few_threads.so run "$temp/chunks.txt" --workers 16
+}
+started 30
+refused "$name, one too few start" 5 "a worker could not be started"
+started 31
+printed "$name, all start" "$temp/wanted"

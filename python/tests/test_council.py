@@ -216,6 +216,14 @@ class Reports(unittest.TestCase):
         for one, other in zip(found, wanted):
             self.check_same(one, other)
 
+    def test_a_long_list_with_little_memory(self):
+        # room for a list of any length is refused, so a second call has room for just this one
+        limit = "import resource\nresource.setrlimit(resource.RLIMIT_AS, (9 * 10**8,) * 2)\n"
+        code = f"{limit}import council\nprint(len(council.report(7, [1] * 14, coalitions=True).coalitions))\n"
+        folder = str(Path(council.__file__).resolve().parent.parent)
+        done = subprocess.run([sys.executable, "-c", code], capture_output=True, text=True, timeout=60, env={**os.environ, "PYTHONPATH": folder})
+        self.assertEqual(done.stdout, "3432\n", done.stderr)
+
     def test_an_interrupt_ends_a_long_call(self):
         # (what a shell starts in the background ignores SIGINT, and so would the child)
         heeds = "import signal\nsignal.signal(signal.SIGINT, signal.default_int_handler)\n"

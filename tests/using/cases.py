@@ -19,7 +19,8 @@ if PROGRAM:
     os.environ["COUNCIL_PROGRAM"] = PROGRAM
 # names that a table, a page or a picture might take for something else
 HOSTILE = [
-    "=1+1", "+1", "-1", "@x", '"quoted"', "it's", "<script>alert(1)</script>", "</title>&amp;", "]]>", "a|b `c` *d* [e](f)",
+    "=1+1", "+1", "-1", "@x", "＝1+1", "＋1", "－1", "＠SUM(A1)", "=",
+    '"quoted"', "it's", "<script>alert(1)</script>", "</title>&amp;", "]]>", "a|b `c` *d* [e](f)",
     "\\LaTeX & 100% #_{x}^2~$\\end{tabular}", "${x} {{y}} %s {0}", "\ufffe", "\u202egnp.exe", "a\u2028b\u0085c", "中文 ñ é Ł",
     "e\u0301", "\U0001f600", "x" * 64, "W" * 64, "m, n; o", "CON", " ", "\\u0041",
 ]

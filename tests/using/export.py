@@ -31,7 +31,7 @@ run = Run(TOOL, "csv", input=HARD)
 rows = list(csv.DictReader(io.StringIO(run.out)))
 cells = [it["name"] for it in rows]
 same("csv: hostile names", [it[1:] if it[:1] == "'" else it for it in cells], HOSTILE)
-case("csv: no name is a formula", not any(it.lstrip()[:1] in "=+-@" for it in cells if it.strip()), cells)
+case("csv: no name is a formula", not any(it.lstrip()[:1] in "=+-@＝＋－＠" for it in cells if it.strip()), cells)
 case("csv: names and fractions stand in quotes", all(re.match(r'".*",\d+,\d+,0\.\d{6},0\.\d{6},"\d+/\d+","\d+/\d+"$', it) for it in run.out.split("\n")[1:-1]))
 same("csv: a mark in front", Run(TOOL, "csv", "--mark", input=HARD).out, "\ufeff" + run.out)
 run = Run(TOOL, "csv", "--columns", "public_good,name,share", "--decimals", "2", input=stored("ec-1973"))

@@ -88,7 +88,7 @@ same("council-tools sweep: two rules of at most half", run.err, f"council-tools 
 
 # ---- names of any kind, in the table and in the picture
 hard = put("hard.toml", hostile_game(2))
-run = sweep(hard, "--rule", "2", "--from", "23", "--to", "24", "--picture", f"{TEMP}/hard.svg", "--index", "deegan_packel")
+run = sweep(hard, "--rule", "2", "--from", str(len(HOSTILE) - 1), "--to", str(len(HOSTILE)), "--picture", f"{TEMP}/hard.svg", "--index", "deegan_packel")
 same("council-tools sweep: hostile names", [it[1] for it in rows(run)[: len(HOSTILE)]], HOSTILE)
 with open(f"{TEMP}/hard.svg", encoding="utf-8") as it:
     text = it.read()

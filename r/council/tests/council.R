@@ -58,6 +58,7 @@ stopifnot(
   refused(1, rep(1, 41))$fault == "bad member list",
   refused(1, numeric(0))$status == 3,
   refused(2, c(1, 1), names = c("A", "A"))$fault == "member 2 repeats a name",
+  refused(1, 1, names = "A\x7f")$fault == "bad name of member 1",
   refused(20, rep(1, 40), coalitions = TRUE)$status == 4,
   refused(game = "[51; 50, 49,, 1]")$fault == "bad bracket text"
 )

@@ -1,0 +1,1 @@
+council --$(printf 'x%.0s' {1..300})
