@@ -29,13 +29,13 @@ done
 name="393212 coalitions with 1 to 16 workers"
 echo "[9$(printf ', 2%.0s' {1..10} | sed 's/,/;/')$(printf ', 1%.0s' {1..16})]" >"$temp/chunks.txt"
 run "$temp/chunks.txt" --workers 1
-cp "$temp/out" "$temp/wanted"
+cp "$temp/out" "$temp/chunks.tsv"
 why=
 for ((workers = 2; workers <= 16; workers++)); do
     run "$temp/chunks.txt" --workers "$workers"
-    cmp -s "$temp/out" "$temp/wanted" || why="$why $workers: status $status, $(head -n 1 "$temp/err");"
+    cmp -s "$temp/out" "$temp/chunks.tsv" || why="$why $workers: status $status, $(head -n 1 "$temp/err");"
 done
-if [ -z "$why" ] && grep -q "^minimal	393212$" "$temp/wanted"; then ok "$name"; else failed "$name" "$why"; fi
+if [ -z "$why" ] && grep -q "^minimal	393212$" "$temp/chunks.tsv"; then ok "$name"; else failed "$name" "$why"; fi
 
 # slow_game QUOTAS MEMBERS: a game that takes long. The last quota is of the first twelve members,
 # the second one of the others, and the first of all. The last member has little weight, and only
@@ -180,4 +180,4 @@ started() {
 started 30
 refused "$name, one too few start" 5 "a worker could not be started"
 started 31
-printed "$name, all start" "$temp/wanted"
+printed "$name, all start" "$temp/chunks.tsv"
