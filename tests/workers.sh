@@ -128,23 +128,24 @@ assert b"slices done" in run.told, run.told[:60]
 assert run.told.endswith(b"\r\x1b[Kcouncil: too many minimal winning coalitions\r\n  --tally counts any number of them\r\n"), run.told[-120:]
 END
     then ok "a late fault on a terminal"; else failed "a late fault on a terminal" "$(tail -n 1 "$temp/told")"; fi
-    # the same game where all are wanted: once they are shown, each slice is, one after the other;
-    # the line is wiped once, before the first byte of the report, which is on the same terminal,
-    # and nothing but a remark on the quota is written after it
-    run --workers 1 --most 4000000 "$temp/long.toml"
+    # a list of 1 MB: once they are shown, each slice is, one after the other; the line is wiped
+    # once, before the first byte of the report, which is on the same terminal, and nothing but a
+    # remark on the quota is written after it
+    equal_members 20 6 >"$temp/twenty.txt"
+    run --workers 1 --list "$temp/twenty.txt"
     {
         cat "$temp/out"
         echo "council: the quota is at most half of the total, so two coalitions without a common member could win"
     } | sed 's/$/\r/' >"$temp/report"
-    if timeout "$seconds" python3 - "$program" "$temp/long.toml" "$temp/report" "$clock" >"$temp/told" 2>&1 <<'END'
+    if timeout "$seconds" python3 - "$program" "$temp/twenty.txt" "$temp/report" "$clock" >"$temp/told" 2>&1 <<'END'
 import re, sys
 from terminal import Run
-run = Run([sys.argv[1], "--workers", "1", "--bits", "10", "--most", "4000000", sys.argv[2]], both=True, clock=sys.argv[4])
+run = Run([sys.argv[1], "--workers", "1", "--bits", "10", "--list", sys.argv[2]], both=True, clock=sys.argv[4])
 status = run.read_all()
 assert status == 0, status
 with open(sys.argv[3], "rb") as it:
     report = it.read()
-assert b"minimal\t3838380\r\n" in report, report[:80]
+assert b"minimal\t38760\r\n" in report, report[:80]
 # (a longer line tells of the first slices, which hold no coalition, and it is wiped at the first)
 barren = re.match(rb"(\rcouncil: 0 coalitions found, [0-9]+ of 1024 slices done(, [0-9,]+ prefixes examined)?)+\r\x1b\[K", run.told)
 line, wiped, shown = run.told[barren.end() if barren else 0 :].partition(b"\r\x1b[K")
