@@ -4,9 +4,11 @@
     tests/using/council-tools from-table PROGRAM
 """
 import re
+from fractions import Fraction
 
 from cases import HOSTILE, TEMP, Run, case, done, fault, report, same
 from council.game import find_comments, read_units
+from council.tools.cells import Number, decode, write_plain
 
 TOOL = "from-table"
 
@@ -28,9 +30,45 @@ def gives(name, words, table, quota, weights):
     same(f"a table: {name}", found, (quota, weights))
 
 
+def names(run):
+    return re.findall(r'^name = "(.*)"$', run.out, re.M)
+
+
 def no_quota(text):
     return f'the quota "{text}" is no number, no percentage as 65% or \'>50%\', and no fraction as 2/3'
 
+
+# ---- a number by a decimal point and by a decimal comma; None if it is none
+for text, point, comma in [
+    ("12", 12, 12), ("0", 0, 0), ("007", 7, 7), ("0" * 39 + "5", 5, 5), ("0" * 40 + "5", None, None),
+    ("1.5", "1.5", None), ("1,5", None, "1.5"), (".567", ".567", None), (",567", None, ".567"), ("0.567", ".567", None), ("0,567", None, ".567"), (".5", ".5", None),
+    ("1,000", 1000, 1), ("1.000", 1, 1000), ("10,567", 10567, "10.567"), ("100.567", "100.567", 100567), ("1234.567", "1234.567", None), ("1234,567", None, "1234.567"),
+    ("1,2345", None, "1.2345"), ("1,234,567", 1234567, None), ("1.234.567", None, 1234567), ("1,234,567.8", "1234567.8", None), ("1.234.567,8", None, "1234567.8"),
+    ("1,000.5", "1000.5", None), ("1.5,000", None, None), ("1.000.00", None, None), ("1,00,000", None, None), ("1.000,5.5", None, None), ("1,000.5,5", None, None),
+    ("1 000", 1000, 1000), ("12 345.5", "12345.5", None), ("123 456,5", None, "123456.5"), ("1 000.500", "1000.5", None), ("1'000,500", None, "1000.5"),
+    ("1\u2007000", 1000, 1000), ("1\u2009000", 1000, 1000), ("1 00", None, None), ("1 0000", None, None), ("1000 000", None, None), ("1 000 00", None, None), ("1  000", None, None),
+    ("1.5e3", 1500, None), ("1.500E+03", 1500, None), ("1,500e-3", None, ".0015"), ("2e12", 2 * 10**12, 2 * 10**12), ("2e0100", None, None), ("e5", None, None), ("1e", None, None),
+    ("12%", 12, 12), ("12 %", 12, 12), ("1,5\u202f%", None, "1.5"), ("%", None, None), ("12%%", None, None), ("%12", None, None),
+    ("", None, None), (".", None, None), ("5.", None, None), ("1..5", None, None), ("-5", None, None), ("+5", None, None), ("\u0663", None, None), ("x", None, None), ("1 x", None, None),
+]:
+    it = Number(f" {text}\t")
+    valid = [sign for sign in ".," if it.good and it.is_valid_with(sign)]
+    wanted = [None if each is None else Fraction(each) for each in (point, comma)]
+    same(f"the number {text}", [it.value(sign) if sign in valid else None for sign in ".,"], wanted)
+    same(f"the number {text} has a percent sign", (it.percent, it.text), (text.endswith("%"), text))
+    if it.good:
+        same(f"the decimal sign of {text}", it.decimal(), None if len(valid) == 2 else valid[0])
+        same(f"the number {text} is open", it.is_open(), len(set(wanted)) == 2 and None not in wanted)
+for value, wanted in [(0, "0"), ("12345678", "12,345,678"), ("1/8", "0.125"), ("4999/4", "1,249.75"), ("1/1000000", "0.000001"), ("1/10000000", "0.000000.."), ("200/3", "66.666666.."), ("1.2345678", "1.234567..")]:
+    same(f"{value} with its decimals", write_plain(Fraction(value)), wanted)
+
+# ---- encodings, and where a row is
+for name, data in [("UTF-8", "Å,1\n".encode()), ("UTF-8 with a mark", "\ufeffÅ,1\n".encode()), ("UTF-16, low first", "\ufeffÅ,1\n".encode("utf-16-le")), ("UTF-16, high first", "\ufeffÅ,1\n".encode("utf-16-be")),
+                   ("UTF-16 of no Latin letters", "\ufeff中、".encode("utf-16-le")), ("UTF-16, low first, without a mark", "Å,1\n".encode("utf-16-le")), ("UTF-16, high first, without a mark", "Å,1\n".encode("utf-16-be"))]:
+    same(f"text in {name}", decode(data, None), "中、" if "Latin" in name else "Å,1\n")
+same("a zero among the first 200 bytes", len(decode(b"a" * 199 + b"\0", None)), 100)
+same("a zero after 200 bytes", len(decode(b"a" * 200 + b"\0", None)), 201)
+same("the mark is no part of a name", names(game("1", table="Å\t1\n".encode("utf-16"))), ["Å"])
 
 # ---- separators, headings, decimals
 gives("commas", ["51"], "A,50\nB,48\nC,3\n", "51", ["50", "48", "3"])
@@ -48,8 +86,10 @@ gives("a byte order mark", ["1"], b"\xef\xbb\xbfA,1\n", "1", ["1"])
 gives("UTF-16 as Excel writes it", ["1"], "\ufeffn\tw\nÅ\t1\n".encode("utf-16-le"), "1", ["1"])
 gives("UTF-16 without a mark", ["1"], "A\t1\n".encode("utf-16-be"), "1", ["1"])
 gives("another encoding", ["1", "--encoding", "cp1252"], b"\xc5land;1\n", "1", ["1"])
-gives("line ends of Windows, empty rows", ["3"], "A,1\r\n\r\n,,\r\nB,2\r\n", "3", ["1", "2"])
+gives("line ends of Windows, empty rows", ["3"], "A,1\r\n\r\n,,\r\n , \r\nB,2\r\n", "3", ["1", "2"])
+gives("line ends of an old Mac", ["3"], "A,1\rB,2\r", "3", ["1", "2"])
 gives("a first line sep=", ["3"], "sep=;\nA;1\nB;2\n", "3", ["1", "2"])
+gives("another separator after sep=", ["3"], "sep=|\r\nA, x|1\r\nB, y|2\r\n", "3", ["1", "2"])
 gives("the total below", [">50%", "--no-total"], "A,1\nB,2\nTotal,3\n", "2", ["1", "2"])
 gives("a member that is named as a total", ["4", "--all-rows"], "A,1\nB,2\nTotal,3\n", "4", ["1", "2", "3"])
 gives("a decimal sign that is told", ["1", "--decimal", ","], 'A,"1,000"\nB,2\n', "1", ["1", "2"])
@@ -213,9 +253,12 @@ for name, words, table, status, text in [
     ("a column that is not there", ["1", "--weight", "x"], "a,b\nA,1\n", 2, 'there is no column "x", or two of them; the first row has "a", "b"'),
     ("a column 0", ["1", "--weight", "0"], "A,1\n", 2, "there is no column 0: they are counted from 1"),
     ("quotes that do not end", ["1"], 'A,1\n"B,2\n', 1, "line 2: this is no row of a table: unexpected end of data"),
+    ("quotes that do not end, after sep=", ["1"], 'sep=;\n"A\nB";1\n"B;2\n', 1, "line 4: this is no row of a table: unexpected end of data"),
+    ("a weight that is no number, after sep=", ["1"], 'sep=;\n"A\nB";1\nB;x\n', 1, 'line 4, column 2: "x" is no number (--heading, --name and --weight say which cell is what)'),
     ("bytes of another encoding", ["1"], b"A,1\n\xc5,2\n", 1, "line 2 is not utf-8-sig: export the table as UTF-8, or say --encoding cp1252 or what it is"),
     ("no such encoding", ["1", "--encoding", "x\ny"], "A,1\n", 2, 'there is no encoding "x\\u000Ay"'),
     ("the file of a spreadsheet", ["1"], b"PK\x03\x04\x14\0", 1, "this is the file of a spreadsheet itself: export it as CSV, and give that"),
+    ("the file of an old spreadsheet", ["1"], b"\xd0\xcf\x11\xe0\xa1\xb1\x1a\xe1\0\0", 1, "this is the file of a spreadsheet itself: export it as CSV, and give that"),
     ("a long title", ["1", "--title", "t" * 201], "A,1\n", 1, "the title has more than 200 bytes, or a letter that is none to read"),
     ("an option that is not there", ["--what"], "A,1\n", 2, "unrecognized arguments: --what (--help says more)"),
 ]:

@@ -89,37 +89,36 @@ class Table:
         text = decode(data, encoding)
         first, _, rest = text.partition("\n")
         said = re.fullmatch(r"sep=(.)\r?", first)
-        self.skipped = 0
         if said:
-            self.skipped, text = 1, rest
-            self.delimiter = str(said[1])
+            # that line is as an empty one
+            self.delimiter, text = said[1], "\n" + rest
         else:
             self.delimiter = max("\t;,", key=lambda it: sum(len(row) > 1 for _, row in read_rows(text, it, quiet=True)))
-        self.rows = [(line + self.skipped, row) for line, row in read_rows(text, self.delimiter, self.skipped)]
+        self.rows = list(read_rows(text, self.delimiter))
 
 
 def decode(data: bytes, encoding: Optional[str]) -> str:
     """Returns the text of a table. A byte order mark tells UTF-8 and UTF-16; without one, zeros
     tell UTF-16."""
-    if data[:4] == b"PK\x03\x04" or data[:8] == b"\xd0\xcf\x11\xe0\xa1\xb1\x1a\xe1":
+    if data.startswith((b"PK\x03\x04", b"\xd0\xcf\x11\xe0\xa1\xb1\x1a\xe1")):
         raise Fault("this is the file of a spreadsheet itself: export it as CSV, and give that")
     if encoding is None:
-        if data[:2] in (b"\xff\xfe", b"\xfe\xff"):
+        if data.startswith((b"\xff\xfe", b"\xfe\xff")):
             encoding = "utf-16"
         elif b"\0" in data[:200]:
-            encoding = "utf-16-be" if data[:1] == b"\0" else "utf-16-le"
+            encoding = "utf-16-be" if data.startswith(b"\0") else "utf-16-le"
         else:
             encoding = "utf-8-sig"
     try:
         return data.decode(encoding)
     except UnicodeDecodeError as it:
-        line = data.count(b"\n", 0, it.start) + 1
+        line = data[: it.start].count(b"\n") + 1
         raise Fault(f"line {line} is not {encoding}: export the table as UTF-8, or say --encoding cp1252 or what it is") from None
     except (LookupError, ValueError):
         raise Fault(f"there is no encoding {quote(encoding)}", 2) from None
 
 
-def read_rows(text: str, delimiter: str, skipped: int = 0, quiet: bool = False) -> Iterator[tuple[int, list[str]]]:
+def read_rows(text: str, delimiter: str, quiet: bool = False) -> Iterator[tuple[int, list[str]]]:
     """Yields the rows that are not empty, each with the line in which it begins."""
     reader = csv.reader(io.StringIO(text, newline=""), delimiter=delimiter, strict=True)
     begun = 1
@@ -130,4 +129,4 @@ def read_rows(text: str, delimiter: str, skipped: int = 0, quiet: bool = False) 
             begun = reader.line_num + 1
     except csv.Error as it:
         if not quiet:
-            raise Fault(f"line {begun + skipped}: this is no row of a table: {it}") from None
+            raise Fault(f"line {begun}: this is no row of a table: {it}") from None
