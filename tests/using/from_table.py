@@ -97,6 +97,17 @@ gives("columns by their headings", ["3", "--name", "who", "--weight", "votes"], 
 gives("columns by their numbers", ["3", "--name", "2", "--weight", "1"], "1,A\n2,B\n", "3", ["1", "2"])
 gives("a heading of years", ["3", "--heading"], "EU,2019\nA,1\nB,2\n", "3", ["1", "2"])
 gives("rounded weights", ["50%", "--round", "2"], "A,0.333333333333333\nB,0.666666666666667\n", "50", ["33", "67"])
+gives("halves are rounded upwards", ["4", "--round", "0"], "A,0.5\nB,1.5\nC,2.5\nD,0.49\n", "4", ["1", "2", "3", "0"])
+gives("halves of a decimal are rounded upwards", ["50%", "--round", "2"], "A,0.125\nB,0.375\n", "26", ["13", "38"])
+gives("12 decimals are kept", ["1", "--round", "12"], "A,0.123456789012\nB,1\n", "1000000000000", ["123456789012", "1000000000000"])
+gives("the greatest weight", [">50%"], "A,1000000000000\nB,1\n", "500000000001", ["1000000000000", "1"])
+gives("a zero without a percent sign", ["60%"], "A,0\nB,5%\nC,2%\n", "5", ["0", "5", "2"])
+gives("the decimal sign of the table in a quota", ["1,000"], "A;1500,5\nB;2\n", "10", ["15005", "20"])
+gives("a decimal sign of one column of two", ["1", "1"], "A;1,5;1,000\nB;2;2\n", "[10, 1]", ["[15, 1]", "[20, 2]"])
+gives("a percentage below 1", ["0.5%"], "A,600\nB,400\n", "5", ["600", "400"])
+gives("the last column that there may be", ["1", "--weight", "1000", "--no-heading"], "A" + "," * 999 + "1\n", "1", ["1"])
+gives("names after the weights", ["3", "2", "--name", "3", "--weight", "2", "--weight", "1"], "1,2,A\n1,4,B\n3,4,C\n", "[3, 2]", ["[2, 1]", "[4, 1]", "[4, 3]"])
+gives("headings with blanks round them", ["3", "--name", "who", "--weight", "votes"], " who , votes \nA,1\nB,2\n", "3", ["1", "2"])
 gives("two rules", ["65%", "55%"], "name,people,states\nA,5.5,1\nB,3,1\nC,1,1\n", "[62, 2]", ["[55, 1]", "[30, 1]", "[10, 1]"])
 gives("heads", ["65%", "heads:55%"], "name,people\nA,5.5\nB,3\nC,1\n", "[62, 2]", ["[55, 1]", "[30, 1]", "[10, 1]"])
 gives("heads alone", ["heads:2", "--no-heading"], "A\nB\nC\n", "2", ["1", "1", "1"])
@@ -104,10 +115,13 @@ gives("heads alone", ["heads:2", "--no-heading"], "A\nB\nC\n", "2", ["1", "1", "
 # ---- quotas of 101 votes, as docs/GUIDE.md has them, and of decimals
 TABLE = "A,40\nB,35\nC,26\n"
 for quota, wanted in [(">50%", 51), ("50%", 51), ("1/2", 51), (">1/2", 51), ("2/3", 68), (">2/3", 68), ("100%", 101), ("51", 51), (">50", 51),
-                      ("49.5", 50), (">=49,5", 50), ("66.67%", 68), ("heads:2", 2)]:
-    table = TABLE.replace(",40", "").replace(",35", "").replace(",26", "") if quota == "heads:2" else TABLE
-    found = read(game(quota, *(["--no-heading"] if quota == "heads:2" else []), table=table).out or "quota = none")[0]
-    same(f"a quota: {quota} of 101", found, str(wanted))
+                      ("49.5", 50), (">=49,5", 50), ("≥49.5", 50), ("66.67%", 68), (" > 2 / 3 ", 68), ("1", 1), ("101", 101), (">100", 101), ("200/200", 101),
+                      ("heads:2", 2), (" heads: > 1/3 ", 2), ("heads:>=2", 2), ("heads:100%", 3)]:
+    run = game(quota, table=TABLE)
+    same(f"a quota: {quota} of 101", read(run.out or "quota = none")[0], str(wanted))
+for quota, wanted in [(">2/3", "more than 2/3 of 101, which is 67.333333.., so 68"), ("2/3", "at least 2/3 of 101, which is 67.333333.., so 68"), (">50", "more than 50, so 51"),
+                      ("100%", "at least 1/1 of 101, which is 101"), ("heads:2", "at least 2"), ("heads:>1/3", "more than 1/3 of 3, which is 1, so 2")]:
+    case(f"a quota in a comment: {quota}", f'; the quota "{quota}" is {wanted}\n' in game(quota, table=TABLE).out, game(quota, table=TABLE).out)
 
 # ---- a row that has the sum of all others is a total or a member: the user says which
 ASKS = "say --no-total to leave it out, or --all-rows if it is a member"
@@ -122,6 +136,23 @@ fault("a total in one column of two is asked about", game("60%", "60%", table="A
 for name, table in [("percent", "A,33%\nB,33%\nC,33%\nx,100%\n"), ("decimals", "A,33.33\nB,33.33\nC,33.33\nx,100.00\n"), ("large numbers", "A,33333\nB,33333\nC,33333\nx,100000\n")]:
     fault(f"a total of rounded weights: {name}", game("60%", table=table), 1, f'line 4, "x", is nearly the sum of all others: {ASKS}')
 gives("218 seats beside 217 are no total", ["218"], "A,218\nB,217\n", "218", ["218", "217"])
+for name, table, more in [("percent", "A,15%\nB,{}%\nx,{}%\n", (15, 31, 14, 30)), ("votes", "A,750\nB,{}\nx,{}\n", (750, 1501, 749, 1500)), ("decimals", "A,1.5\nB,{}\nx,{}\n", ("1.5", "3.1", "1.4", "3.0")),
+                          ("percent, too far", "A,50%\nB,{}%\nx,{}%\n", (50, 101, 50, 102)), ("percent, too low", "A,50%\nB,{}%\nx,{}%\n", (50, 99, 50, 98)), ("four rows", "A,33%\nB,33%\nC,{}%\nx,{}%\n", (33, 101, 33, 102)),
+                          ("a weight that is no percentage", "A,0\nB,{}%\nx,{}%\n", (30, 31, 29, 30))]:
+    found = [game("60%", table=table.format(*it)) for it in (more[:2], more[2:])]
+    case(f"a total that rounding explains: {name}", found[0].err == f'council-tools from-table: line {table.count(chr(10))}, "x", is nearly the sum of all others: {ASKS}\n' and found[1].status == 0, [it.err for it in found])
+fault("two equal members", game("1", table="A,3\nB,3\n"), 1, f'line 2, "B", is the sum of all others: {ASKS}')
+fault("a first row with more sums than the last", game("1", "1", table="T,9,4\nA,0,1\nB,9,3\n"), 1, f'line 1, "T", is the sum of all others: {ASKS}')
+fault("one exact sum of two", game("1", "1", table="A,33%,1\nB,33%,2\nC,33%,3\nx,100%,6\n"), 1, f'line 4, "x", is the sum of all others: {ASKS}')
+for table, line, label in [("A,5\nB,3\n TOTAL: ,1\n", 3, "TOTAL:"), ("Total,1\nA,5\nB,3\n", 1, "Total"), ("Sum,1\nA,5\nTotal.,3\n", 3, "Total.")]:
+    fault(f"a total by its name, {label}", game("60%", table=table), 1, f'line {line}, "{label}", is a total by its name, but not the sum of all others: {ASKS}')
+gives("one member is no total", ["1"], "Totals and more,1\n", "1", ["1"])
+same("a sum is left out silently", game("60%", "--no-total", table="A,5\nB,3\nx,8\n").err, "")
+run = game("60%", "--no-total", table="A,33%\nB,33%\nC,33%\nx,100%\n")
+same("what is nearly the sum is left out aloud", (read(run.out), run.err), (("60", ["33"] * 3), 'council-tools from-table: line 4, "x", is left out, and is nearly the sum of all others\n'))
+case("what is nearly the sum is in a comment", '\n# Left out: line 4, "x", nearly the sum of all others\n' in run.out, run.out)
+for words in [], ["--no-total"]:
+    same(f"a long name of a total is cut, {words}", game("60%", *words, table="A,5\nB,3\n" + "T" * 41 + ",8\n").err.count("T"), 0 if words else 40)
 fault("a total of heads", game("heads:2", "--no-heading", table="A\nB\nTotal\n"), 1, f'line 3, "Total", is a total by its name, but not the sum of all others: {ASKS}')
 HARDLY = "is hardly a member: delete the line, or say --all-rows if it is one"
 for name, table, line, told in [("a source with a comma", "A,5\nB,3\nSource: Smith, 2004\n", 3, "Source: Smith"), ("a title with a comma", "Votes: Europe, 2004.5\nA,5\nB,3\n", 1, "Votes: Europe"),
@@ -129,6 +160,10 @@ for name, table, line, told in [("a source with a comma", "A,5\nB,3\nSource: Smi
     fault(f"{name} is hardly a member", game("60%", table=table), 1, f'line {line}, "{told}", {HARDLY}')
 gives("a member with the name of a subtotal", ["60%", "--all-rows"], "A,5\nB,3\nSubtotal,8\nC,2\nD,1\n", "12", ["5", "3", "8", "2", "1"])
 gives("members with colons", ["60%"], "A: x,5\nB: y,3\nC,1\n", "6", ["5", "3", "1"])
+gives("a member with a colon between others", ["60%"], "A,5\nB: y,3\nC,1\n", "6", ["5", "3", "1"])
+gives("one member with a colon", ["1"], "A: x,5\n", "1", ["5"])
+fault("a subtotal before a source", game("60%", table="A,5\nB,3\nSubtotal,7\nC,2\nSource: x,1\n"), 1, f'line 3, "Subtotal", {HARDLY}')
+fault("a long name of a source is cut", game("60%", table="A,5\nB,3\n:" + "x" * 40 + ",1\n"), 1, f'line 3, ":{"x" * 39}", {HARDLY}')
 fault("--no-total without a total", game("60%", "--no-total", table="A,5\nB,3\nC,1\n"), 2, "--no-total: neither the first row nor the last is the sum of all others")
 run = game("60%", "--no-total", table="A,5\nB,3\nTotal,9\n")
 case("a total that is none is left out aloud", read(run.out)[1] == ["5", "3"] and run.err == 'council-tools from-table: line 3, "Total", is left out, and is a total by its name, but not the sum of all others\n', run.err)
@@ -142,6 +177,24 @@ gives("no heading of heads", ["heads:2", "--no-heading"], "Fraktion\nA\nB\n", "2
 gives("a heading of heads over numbers", ["heads:2"], "Fraktion,Sitze\nA,4\nB,5\nC,6\n", "2", ["1", "1", "1"])
 gives("no heading of heads beside numbers", ["heads:2"], "A,4\nB,5\nC,6\n", "2", ["1", "1", "1"])
 gives("the heading Name", ["heads:2"], "Name\nA\nB\nC\n", "2", ["1", "1", "1"])
+MAY = "may be a heading or a member: say --heading or --no-heading"
+for name, table in [("years", "Fraktion,2019\nA,4\nB,5\n"), ("words", "Fraktion,Land\nA,x\nB,y\n"), ("words and numbers", "Fraktion,Land\nA,x\nB,5\n"), ("a title over numbers and a number over numbers", "Fraktion,Sitze,5\nA,4,3\nB,5,4\n"),
+                    ("nothing", "Fraktion,Land,\nA,x,4\nB,y,5\n"), ("a column without numbers", "Fraktion,Land,x\nA,y,\nB,z, \n")]:
+    fault(f"a heading of heads over {name}", game("heads:2", table=table), 1, f'line 1, "Fraktion", {MAY}')
+fault("a first row Name of heads beside numbers", game("heads:2", table="Name,4\nA,5\nB,6\n"), 1, f'line 1, "Name", {MAY}')
+fault("a first row of heads over names that are numbers", game("heads:2", "--name", "1", table="Nummer,Land\n1,x\n2,y\n"), 1, f'line 1, "Nummer", {MAY}')
+fault("a long first row is cut", game("heads:2", table="F" * 41 + "\nA\nB\n"), 1, f'line 1, "{"F" * 40}", {MAY}')
+gives("a heading of heads over some numbers", ["heads:2"], "Fraktion,Land,Sitze\nA,x\nB,y, \nC,z,5\n", "2", ["1", "1", "1"])
+gives("a heading of heads over a single cell", ["heads:2", "--heading"], "Fraktion\nA,5\nB,3\n", "2", ["1", "1"])
+for name, heading in [("a short word after Name", "NAME,x1"), ("a letter that means weight", "x,w"), ("a percent sign", "x,%"), ("a word of three letters", "x,Abc")]:
+    gives(f"a heading: {name}", ["60%"], f"{heading}\nA,5\nB,3\n", "5", ["5", "3"])
+NUMBERED = "is no number (--heading, --name and --weight say which cell is what)"
+for heading, told in [("x,w1", "w1"), ("x,z", "z"), ("x,NaN", "NaN"), ("x,None", "None"), ("x,null", "null"), ("x,votes,5", "votes"), ("Name,w1,5", "w1"), ("x,w,", "w"), ("Name,w1,", "w1"), ("Name,w1", "w1")]:
+    more = ["60%"] if heading.count(",") == 2 or heading == "Name,w1" else []
+    fault(f"no heading: {heading}", game("60%", *more, table=f"{heading}\nA,5,1\nB,3,1\n" if more else f"{heading}\nA,5\nB,3\n"), 1, f'line 1, column 2: "{told}" {NUMBERED}')
+gives("a year in one column of two", ["60%", "60%"], "EU,2019,5\nA,500,3\n", "[1512, 5]", ["[2019, 5]", "[500, 3]"])
+fault("years in two columns of two", game("60%", "60%", table="EU,2019,1999\nA,500,3\n"), 1, f'line 1, "EU", {MAY}')
+gives("one member with a year", ["1"], "EU,2019\n", "1", ["2019"])
 fault("a heading of a year", game("60%", table="EU,2019\nA,5\nB,3\n"), 1, 'line 1, "EU", may be a heading or a member: say --heading or --no-heading')
 fault("a heading that is a number", game("60%", table="Member,1\nA,5\nB,3\n"), 1, 'line 1, "Member", may be a heading or a member: say --heading or --no-heading')
 gives("a member with as many votes as a year", ["60%", "--no-heading"], "A,2019\nB,500\n", "1512", ["2019", "500"])
@@ -166,7 +219,7 @@ fault("a table of more than 16 MiB", game("1", table="A,1\nB,2\n" + "\n" * (1 <<
 
 # ---- lines with a single cell: titles and sources
 NOTES = "Votes of 2019{0}\n\nholder,votes\nA,5\nB,3\nC,1\nSource: a book{0}\n*) estimated{0}\n"
-for name, pad in [("alone", ""), ("with the commas of a spreadsheet", ",")]:
+for name, pad in [("alone", ""), ("with the commas of a spreadsheet", ","), ("with blanks", " , ")]:
     run = game("60%", table=NOTES.format(pad))
     same(f"titles and sources {name} are left out", read(run.out), ("6", ["5", "3", "1"]))
     told = [f"council-tools from-table: line {line} has a single cell and is left out: {text}" for line, text in [(1, '"Votes of 2019"'), (7, '"Source: a book"'), (8, '"*) estimated"')]]
@@ -176,6 +229,12 @@ gives("titles above columns that are chosen", ["60%", "--weight", "votes"], NOTE
 fault("a single cell beside heads", game("heads:2", table="who,votes\nA,5\nB,3\nSource: a book\n"), 1,
       'line 4 has a single cell, "Source: a book", and others have more: delete the line, or say --all-rows if it is a member')
 gives("a single cell of a member", ["heads:2", "--all-rows"], "who,votes\nA,5\nB,3\nC,\n", "2", ["1", "1", "1"])
+SINGLE = "and others have more: delete the line, or say --all-rows if it is a member"
+fault("the last of several single cells", game("heads:2", table="Title\nwho,votes\nA,5\nB,3\nsource\n" + "x" * 61 + "\n"), 1, f'line 6 has a single cell, "{"x" * 60}", {SINGLE}')
+fault("a title beside heads", game("heads:2", table="Title\nA,5\nB,3\n"), 1, f'line 1 has a single cell, "Title", {SINGLE}')
+fault("a source under a heading of heads", game("heads:2", "--heading", table="Title\nA,5\nB,3\nsource\n"), 1, f'line 4 has a single cell, "source", {SINGLE}')
+run = game("60%", table="x" * 201 + "\nA,5\nB,3\n")
+same("a long title is cut", [it.count("x") for it in (run.out, run.err)], [200, 200])
 
 # ---- an owner in two rows, and row numbers
 gives("--sum", ["60%", "--sum"], "A,5\nB,3\nA,1.5\n", "57", ["65", "30"])
@@ -186,6 +245,10 @@ for name, words, table in [("R", ["60%"], '"","holder","votes"\n"1","A",5\n"2","
     fault(f"row numbers of {name}", game(*words, table=table), 1, "column 1 has row numbers, and column 2 the names: say --name 2")
 gives("row numbers", ["60%", "--name", "2"], '"","holder","votes"\n"1","A",5\n"2","B",3\n', "5", ["5", "3"])
 gives("names that are numbers", ["60%"], "1,5\n2,3\n", "5", ["5", "3"])
+gives("names that are numbers, as the user says", ["60%", "--name", "1", "--weight", "3"], "1,A,5\n2,B,3\n", "5", ["5", "3"])
+fault("row numbers with gaps and blanks", game("60%", table=",holder,votes\n 0 , A ,5\n,B,3\n2,C,1\n"), 1, "column 1 has row numbers, and column 2 the names: say --name 2")
+for name, table in [("a name is missing", ",holder\n0,A\n1\n"), ("a name is a number", ",holder\n0,A\n1,7\n"), ("a row has no number", ",holder\n0,A\nx,B\n"), ("no row has one", ",holder\n,A\n,B\n")]:
+    case(f"no row numbers: {name}", "row numbers" not in game("heads:2", table=table).err, game("heads:2", table=table).err)
 
 # ---- names and units of rules, as other programs read them
 run = game("85%", "heads:2", "--source", "a\nbook", table="Holder,Share of votes\nA,16.50%\nB,40.25%\nC,43.25%\n")
@@ -199,6 +262,37 @@ hard = [read_units(find_comments(game("1", table=f'name,"votes {it}"\nA,1\n').ou
 same("hostile headings are read back", hard, [" ".join(f"votes {it}".split()) for it in HOSTILE])
 
 # ---- comments say what was done, and no text of the table ends them
+run = game("2/3", "heads:2", "--name", "Holder", "--weight", "Votes", "--sum", "--no-total", "--source", " a\n book", "--title", "T",
+           table="Holder;Country;Votes\nA;x;1,5\nB;y;2\nA;z;1\nTotal;;4,5\n")
+same("a whole game file", run.out, """# Source: a book
+# From a table of 2 members, by council-tools from-table; ";" separates the columns, and "," is the decimal sign
+# Rule 1: "Votes", 1 decimal; column 3, times 10; the quota "2/3" is at least 2/3 of 45, which is 30
+# Rule 2: "heads"; each member weighs 1; the quota "heads:2" is at least 2
+# Left out: line 1, the heading
+# Left out: line 5, "Total", the sum of all others
+# Left out: column 2
+# Added: lines 2, 4, "A"
+title = "T"
+quotas = [30, 2]
+
+[[member]]
+name = "A"
+weights = [25, 1]
+
+[[member]]
+name = "B"
+weights = [20, 1]
+""")
+same("a whole game file of one member, rounded", game("1", "--round", "1", "--weight", "2", table="A,1.25%,7\n").out, """# From a table of 1 member, by council-tools from-table; "," separates the columns, and "." is the decimal sign
+# Rule 1: percent, 1 decimal; column 2, rounded to 1 decimals, times 10; the quota "1" is at least 10
+# Left out: column 3
+quota = 10
+
+[[member]]
+name = "A"
+weight = 13
+""")
+case("weights that are not rounded are not called so", "rounded" not in game("1", "--round", "2", table="A,1.25\n").out)
 run = game("51", "--title", "T", "--name", "n\n[[member]]", "--weight", "2", table='"n\n[[member]]","quota = 1\nx"\nA,50.5\nB,50\n')
 comments = [it for it in run.out.split("\n") if it.startswith("#")]
 case("comments tell what was done", len(comments) == 3 and "times 10" in comments[1] and "line 1, the heading" in comments[2], run.out)
@@ -223,6 +317,9 @@ for name, words, table, status, text in [
     ("five quotas", ["1"] * 5, "A,1\n", 2, "say a quota for each rule, 1 to 4 of them, as 65% or '>50%' in quotes"),
     ("a quota that is no number", ["half"], "A,1\n", 2, no_quota("half")),
     ("a quota over zero", ["1/0"], "A,1\n", 2, no_quota("1/0")),
+    ("a quota of nothing over one", ["0/1"], "A,1\n", 2, no_quota("0/1")),
+    ("a fraction in digits of another script", ["\u0661/\u0662"], "A,1\n", 2, no_quota("\u0661/\u0662")),
+    ("a quota with another decimal sign", ["1.5"], "A;2,5\nB;1\n", 2, 'the quota "1.5" is no number with "," before its decimals'),
     ("a quota of two readings", ["1,000"], "A,2000\n", 2, 'the quota "1,000" may have decimals or thousands: say --decimal . or --decimal ,'),
     ("a quota above the total", ["120%"], "A,1\nB,2\n", 2, 'the quota "120%" comes to 4, and must be from 1 to 3, the total'),
     ("more than all", [">100%"], "A,1\nB,2\n", 2, 'the quota ">100%" comes to 4, and must be from 1 to 3, the total'),
@@ -231,27 +328,51 @@ for name, words, table, status, text in [
     ("a heading alone", ["1"], "name,weight\n", 1, "there is a heading, and no row below it"),
     ("one column", ["1"], "A 1\nB 2\n", 1, "the table has no column 2: commas, semicolons or TABs separate the columns"),
     ("a weight that is no number", ["1"], "A,1\nB,x2\n", 1, f'{AT}: "x2" is no number (--heading, --name and --weight say which cell is what)'),
+    ("a cell of 40 letters", ["1"], "A,1\nB," + "x" * 40 + "\n", 1, f'{AT}: "{"x" * 40}" {NUMBERED}'),
+    ("a cell of 41 letters", ["1"], "A,1\nB," + "x" * 41 + "\n", 1, f'{AT}: "{"x" * 40}.." {NUMBERED}'),
+    ("a minus before a word", ["1"], "A,1\nB,-x\n", 1, f'{AT}: "-x" {NUMBERED}'),
+    ("a plus", ["1"], "A,1\nB,+2\n", 1, f'{AT}: "+2" {NUMBERED}'),
     ("digits of another script", ["1"], "A,1\nB,٣\n", 1, f'{AT}: "٣" is no number (--heading, --name and --weight say which cell is what)'),
     ("a number without end", ["1"], "A,1\nB," + "9" * 5000 + "\n", 1, f'{AT}: "{"9" * 40}.." is no number (--heading, --name and --weight say which cell is what)'),
     ("a weight below zero", ["1"], "A,1\nB,-2\n", 1, f'{AT}: "-2" is negative'),
+    ("a long minus", ["1"], "A,1\nB,−2\n", 1, f'{AT}: "−2" is negative'),
+    ("a dash before a number", ["1"], "A,1\nB,– 2\n", 1, f'{AT}: "– 2" is negative'),
     ("no weight", ["1"], "A,1\nB,\nC,2\n", 1, f'{AT} is empty: write 0 if "B" is a member without weight'),
+    ("a short row", ["1"], "A,1\n" + "B" * 41 + "\nC,2\n", 1, f'{AT} is empty: write 0 if "{"B" * 40}" is a member without weight'),
+    ("no weight in the first row", ["1", "1", "1"], "A,1,,\nB,1,1,1\nC,1,1,1\n", 1, 'line 1, column 3 is empty: write 0 if "A" is a member without weight'),
+    ("no weight in the last row", ["1", "1"], "A,1,1\nB,1,1\nC,1,\n", 1, 'line 3, column 3 is empty: write 0 if "C" is a member without weight'),
+    ("another decimal sign than was said", ["1", "--decimal", "."], "A;1\nB;1,5\n", 1, f'{AT}: "1,5" is no number with "." before its decimals'),
     ("thousands or decimals", ["1"], 'A,1\nB,"1,000"\n', 1, f'{AT}: "1,000" may have decimals or thousands: say --decimal . or --decimal ,'),
     ("two decimal signs", ["1"], 'A;1.5\nB;1,5\n', 1, f'{AT}: "1,5" is no number with "." before its decimals; line 1, column 2: "1.5" has another'),
     ("percent signs here and there", ["1"], "A,2%\nB,1\n", 1, f'{AT}: "1": some weights of this column have a percent sign, and some have none'),
+    ("a percent sign after a zero", ["1"], "A,0\nB,2\nC,0%\nD,1%\n", 1, 'line 4, column 2: "1%": some weights of this column have a percent sign, and some have none'),
     ("a total that is none", ["1"], "A,1\nB,2\nTotal,4\n", 1,
      'line 3, "Total", is a total by its name, but not the sum of all others: say --no-total to leave it out, or --all-rows if it is a member'),
     ("a name twice", ["1"], "A,1\nB,2\nA,2\n", 1, 'line 3: the name "A" is in line 1 too (--sum adds their weights)'),
+    ("a name three times", ["1"], "A,1\nB,2\nB,2\nB,2\n", 1, 'line 3: the name "B" is in line 2 too (--sum adds their weights)'),
     ("a long name", ["1"], "é" * 33 + ",1\n", 1, f'line 1: the name "{"é" * 20}".. has more than 64 bytes, or a letter that is none to read'),
     ("a name that rings a bell", ["1"], "A\x07,1\n", 1, 'line 1: the name "A\\u0007".. has more than 64 bytes, or a letter that is none to read'),
     ("no name", ["1"], ",1\n", 1, "line 1: there is no name"),
     ("41 members", ["1"], "".join(f"m{it},1\n" for it in range(41)), 1, "line 41: this is member 41, and a game has at most 40"),
     ("too many decimals", ["1"], "A,0.3333333333333333\nB,0.6\n", 1,
      "line 1, column 2: with 16 decimals this is a weight of 16 digits, and the greatest is 1,000,000,000,000: --round N rounds the weights to N decimals"),
+    ("too great a weight", ["1"], "A,1\nB,1000000000001\n", 1,
+     "line 2, column 2: with 0 decimals this is a weight of 13 digits, and the greatest is 1,000,000,000,000: --round N rounds the weights to N decimals"),
     ("weights of nothing", ["1"], "A,0\nB,0\n", 1, "column 2: all weights are 0"),
     ("a column without a quota", ["1"], "A,1,3\nB,2,4\n", 1,
      "column 3 has numbers too, and there is no quota for it: give one more, or choose columns by --weight"),
     ("a column that is not there", ["1", "--weight", "x"], "a,b\nA,1\n", 2, 'there is no column "x", or two of them; the first row has "a", "b"'),
     ("a column 0", ["1", "--weight", "0"], "A,1\n", 2, "there is no column 0: they are counted from 1"),
+    ("a column 1001", ["1", "--weight", "1001"], "A,1\n", 2, "there is no column 1001: they are counted from 1"),
+    ("a column of many digits", ["1", "--weight", "12345678901"], "A,1\n", 2, "there is no column 123456789: they are counted from 1"),
+    ("a column beyond the table", ["1", "--weight", "4"], "A,1\nB,1,2\n", 1, "the table has no column 4: commas, semicolons or TABs separate the columns"),
+    ("a column of names beyond the table", ["1", "--name", "3", "--weight", "2"], "A,1\n", 1, "the table has no column 3: commas, semicolons or TABs separate the columns"),
+    ("a column by a digit that is none", ["1", "--weight", "²"], "A,1\n", 2, 'there is no column "²", or two of them; the first row has "A", "1"'),
+    ("a heading twice", ["1", "--weight", "a"], "who, a,a\nA,1,2\n", 2, 'there is no column "a", or two of them; the first row has "who", "a", "a"'),
+    ("fewer columns than quotas", ["1", "1", "--weight", "2"], "A,1\n", 2, "there are quotas for 2 columns of weights, and --weight names 1"),
+    ("more columns than quotas", ["1", "heads:1", "--weight", "2", "--weight", "3"], "A,1,1\n", 2, "there are quotas for 1 columns of weights, and --weight names 2"),
+    ("a column of weights twice", ["1", "1", "--weight", "2", "--weight", "2"], "A,1,1\n", 2, "a column is named twice"),
+    ("a column of names and weights", ["1", "--weight", "1"], "A,1\n", 2, "a column is named twice"),
     ("quotes that do not end", ["1"], 'A,1\n"B,2\n', 1, "line 2: this is no row of a table: unexpected end of data"),
     ("quotes that do not end, after sep=", ["1"], 'sep=;\n"A\nB";1\n"B;2\n', 1, "line 4: this is no row of a table: unexpected end of data"),
     ("a weight that is no number, after sep=", ["1"], 'sep=;\n"A\nB";1\nB;x\n', 1, 'line 4, column 2: "x" is no number (--heading, --name and --weight say which cell is what)'),
@@ -276,4 +397,5 @@ same("a file: - is standard input", game("51", "-", table="A,50\nB,49\nC,2\n").o
 fault("a file that is not there", Run(TOOL, "51", f"{TEMP}/none.csv"), 2, no_quota(f"{TEMP}/none.csv"))
 fault("two files", Run(TOOL, "51", f"{TEMP}/table.csv", f"{TEMP}/table.csv"), 2, no_quota(f"{TEMP}/table.csv"))
 fault("a folder", Run(TOOL, "51", TEMP), 1, f"{TEMP}: Is a directory")
+fault("a file of 16 MiB is read", game("1", table=b"\xc5" * (1 << 24)), 1, "line 1 is not utf-8-sig: export the table as UTF-8, or say --encoding cp1252 or what it is")
 done()
