@@ -3,12 +3,17 @@
 
     tests/using/council-tools from-table PROGRAM
 """
+import io
+import os
 import re
+import sys
 from fractions import Fraction
 
 from cases import HOSTILE, TEMP, Run, case, done, fault, report, same
 from council.game import find_comments, read_units
+from council.reports import Fault
 from council.tools.cells import Number, decode, write_plain
+from council.tools.from_table import read_table
 
 TOOL = "from-table"
 
@@ -89,6 +94,8 @@ gives("another encoding", ["1", "--encoding", "cp1252"], b"\xc5land;1\n", "1", [
 gives("line ends of Windows, empty rows", ["3"], "A,1\r\n\r\n,,\r\n , \r\nB,2\r\n", "3", ["1", "2"])
 gives("line ends of an old Mac", ["3"], "A,1\rB,2\r", "3", ["1", "2"])
 gives("a first line sep=", ["3"], "sep=;\nA;1\nB;2\n", "3", ["1", "2"])
+gives("a first line sep= without a separator", ["3"], "sep=\r\nA,1\r\nB,2\r\n", "3", ["1", "2"])
+gives("a first line sep= with a quote", ["3"], 'sep="\nA,1\nB,2\n', "3", ["1", "2"])
 gives("another separator after sep=", ["3"], "sep=|\r\nA, x|1\r\nB, y|2\r\n", "3", ["1", "2"])
 gives("the total below", [">50%", "--no-total"], "A,1\nB,2\nTotal,3\n", "2", ["1", "2"])
 gives("a member that is named as a total", ["4", "--all-rows"], "A,1\nB,2\nTotal,3\n", "4", ["1", "2", "3"])
@@ -143,6 +150,9 @@ for name, table, more in [("percent", "A,15%\nB,{}%\nx,{}%\n", (15, 31, 14, 30))
     case(f"a total that rounding explains: {name}", found[0].err == f'council-tools from-table: line {table.count(chr(10))}, "x", is nearly the sum of all others: {ASKS}\n' and found[1].status == 0, [it.err for it in found])
 fault("two equal members", game("1", table="A,3\nB,3\n"), 1, f'line 2, "B", is the sum of all others: {ASKS}')
 fault("a first row with more sums than the last", game("1", "1", table="T,9,4\nA,0,1\nB,9,3\n"), 1, f'line 1, "T", is the sum of all others: {ASKS}')
+for cells in ["1", "1", "1", ""], ["0", "0", "0", "0"]:
+    table = "A,33%,{}\nB,33%,{}\nC,33%,{}\nx,100%,{}\n".format(*cells)
+    fault(f"a sum beside {cells[3] or 'an empty cell'}", game("1", "1", table=table), 1, f'line 4, "x", is nearly the sum of all others: {ASKS}')
 fault("one exact sum of two", game("1", "1", table="A,33%,1\nB,33%,2\nC,33%,3\nx,100%,6\n"), 1, f'line 4, "x", is the sum of all others: {ASKS}')
 for table, line, label in [("A,5\nB,3\n TOTAL: ,1\n", 3, "TOTAL:"), ("Total,1\nA,5\nB,3\n", 1, "Total"), ("Sum,1\nA,5\nTotal.,3\n", 3, "Total.")]:
     fault(f"a total by its name, {label}", game("60%", table=table), 1, f'line {line}, "{label}", is a total by its name, but not the sum of all others: {ASKS}')
@@ -215,7 +225,12 @@ run = game(">50%", "heads:1", table=TABLE)
 same("one such quota of two", run.err, "council-tools from-table: the quota 1 of rule 2 is at most half of the total, 3\n")
 
 # ---- a table that is too long is refused, not cut
-fault("a table of more than 16 MiB", game("1", table="A,1\nB,2\n" + "\n" * (1 << 24)), 1, "the table is longer than 16 MiB: keep the rows of the members, and the columns that you need")
+LONG = "the table is longer than 16 MiB: keep the rows of the members, and the columns that you need"
+fault("a table of more than 16 MiB", game("1", table=b"\xc5" * ((1 << 24) + 1)), 1, LONG)
+fault("a table of 16 MiB is read", game("1", table=b"\xc5" * (1 << 24)), 1, "line 1 is not utf-8-sig: export the table as UTF-8, or say --encoding cp1252 or what it is")
+with open(f"{TEMP}/long.csv", "wb") as it:
+    it.truncate((1 << 24) + 1)
+fault("a file of more than 16 MiB", Run(TOOL, "51", f"{TEMP}/long.csv"), 1, LONG)
 
 # ---- lines with a single cell: titles and sources
 NOTES = "Votes of 2019{0}\n\nholder,votes\nA,5\nB,3\nC,1\nSource: a book{0}\n*) estimated{0}\n"
@@ -344,7 +359,7 @@ for name, words, table, status, text in [
     ("no weight in the last row", ["1", "1"], "A,1,1\nB,1,1\nC,1,\n", 1, 'line 3, column 3 is empty: write 0 if "C" is a member without weight'),
     ("another decimal sign than was said", ["1", "--decimal", "."], "A;1\nB;1,5\n", 1, f'{AT}: "1,5" is no number with "." before its decimals'),
     ("thousands or decimals", ["1"], 'A,1\nB,"1,000"\n', 1, f'{AT}: "1,000" may have decimals or thousands: say --decimal . or --decimal ,'),
-    ("two decimal signs", ["1"], 'A;1.5\nB;1,5\n', 1, f'{AT}: "1,5" is no number with "." before its decimals; line 1, column 2: "1.5" has another'),
+    ("two decimal signs", ["1"], 'A;1\nB;1.5\nC;2.5\nD;1,5\n', 1, f'line 4, column 2: "1,5" is no number with "." before its decimals; {AT}: "1.5" has another'),
     ("percent signs here and there", ["1"], "A,2%\nB,1\n", 1, f'{AT}: "1": some weights of this column have a percent sign, and some have none'),
     ("a percent sign after a zero", ["1"], "A,0\nB,2\nC,0%\nD,1%\n", 1, 'line 4, column 2: "1%": some weights of this column have a percent sign, and some have none'),
     ("a total that is none", ["1"], "A,1\nB,2\nTotal,4\n", 1,
@@ -399,5 +414,27 @@ same("a file: - is standard input", game("51", "-", table="A,50\nB,49\nC,2\n").o
 fault("a file that is not there", Run(TOOL, "51", f"{TEMP}/none.csv"), 2, no_quota(f"{TEMP}/none.csv"))
 fault("two files", Run(TOOL, "51", f"{TEMP}/table.csv", f"{TEMP}/table.csv"), 2, no_quota(f"{TEMP}/table.csv"))
 fault("a folder", Run(TOOL, "51", TEMP), 1, f"{TEMP}: Is a directory")
-fault("a file of 16 MiB is read", game("1", table=b"\xc5" * (1 << 24)), 1, "line 1 is not utf-8-sig: export the table as UTF-8, or say --encoding cp1252 or what it is")
+with open(f"{TEMP}/51", "w", encoding="utf-8") as it:
+    it.write("A,60\n")
+os.chdir(TEMP)
+same("a file with the name of a quota", Run(TOOL, "51", input="A,50\nB,49\nC,2\n").out, wanted)
+same("a file with the name of a quota, by its path", Run(TOOL, "51", "./51").out, game("51", table="A,60\n").out)
+
+
+class Terminal(io.BytesIO):
+    """Standard input that is a terminal."""
+
+    def isatty(self):
+        return True
+
+
+sys.stdin, kept = io.TextIOWrapper(Terminal(b"A,1\n")), sys.stdin
+try:
+    read_table("-")
+    case("a terminal is no table", False)
+except Fault as it:
+    same("a terminal is no table", (str(it), it.status), ("no table: name a file, as in council-tools from-table 65% table.csv >game.toml", 2))
+sys.stdin = kept
+run = game("1", "--round", "13", table="A,1\n")
+case("at most 12 decimals", run.status == 2 and run.err.startswith("council-tools from-table: argument --round: invalid choice: 13 "), run.err)
 done()

@@ -26,8 +26,7 @@ class Number:
         self.text = text.strip(BLANKS + "\t")
         self.percent = self.text.endswith("%")
         digits = self.text[:-1].strip(BLANKS) if self.percent else self.text
-        self.grouped = GROUPED.match(digits) is not None
-        if self.grouped:
+        if GROUPED.match(digits):
             digits = "".join(it for it in digits if it not in BLANKS + "'’")
         match = NUMBER.fullmatch(digits)
         self.good = False
@@ -44,7 +43,7 @@ class Number:
         if not groups:
             return True
         is_third = all(len(it) == 3 for it in groups[1:].split(OTHER[decimal]))
-        return is_third and not self.grouped and 1 <= len(self.whole) <= 3 and self.whole[0] != "0" and not self.power
+        return is_third and 1 <= len(self.whole) <= 3 and self.whole[0] != "0" and not self.power
 
     def decimal(self) -> Optional[str]:
         """Returns its decimal sign; None if it has none, or if both readings make a number."""
@@ -88,9 +87,10 @@ class Table:
     def __init__(self, data: bytes, encoding: Optional[str]) -> None:
         text = decode(data, encoding)
         first, _, rest = text.partition("\n")
-        said = re.fullmatch(r"sep=(.)\r?", first)
+        # csv takes no quote and no line end for a separator
+        said = re.fullmatch(r'sep=([^"\r])\r?', first)
         if said:
-            # that line is as an empty one
+            # an empty line instead of it keeps the line numbers
             self.delimiter, text = said[1], "\n" + rest
         else:
             self.delimiter = max("\t;,", key=lambda it: sum(len(row) > 1 for _, row in read_rows(text, it, quiet=True)))

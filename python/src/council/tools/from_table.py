@@ -275,7 +275,7 @@ def is_sum(numbers: Sequence[Any], row: int, decimal: Optional[str]) -> int:
     values = [it.value(decimal or ".") for it in numbers]
     value = values.pop(row)
     wanted = sum(values)
-    if not wanted or value == wanted:
+    if value == wanted:
         return 2 if wanted else 0
     places = max(map(count_decimals, [value, *values]))
     slack = Fraction(len(numbers), 2 * 10**places)
