@@ -279,15 +279,17 @@ same("hostile headings are read back", hard, [" ".join(f"votes {it}".split()) fo
 # ---- comments say what was done, and no text of the table ends them
 run = game("2/3", "heads:2", "--name", "Holder", "--weight", "Votes", "--sum", "--no-total", "--source", " a\n book", "--title", "T",
            table="Holder;Country;Votes\nA;x;1,5\nB;y;2\nA;z;1\nTotal;;4,5\n")
-same("a whole game file", run.out, """# Source: a book
-# From a table of 2 members, by council-tools from-table; ";" separates the columns, and "," is the decimal sign
-# Rule 1: "Votes", 1 decimal; column 3, times 10; the quota "2/3" is at least 2/3 of 45, which is 30
-# Rule 2: "heads"; each member weighs 1; the quota "heads:2" is at least 2
-# Left out: line 1, the heading
-# Left out: line 5, "Total", the sum of all others
-# Left out: column 2
-# Added: lines 2, 4, "A"
-title = "T"
+same("a whole game file: its comments", find_comments(run.out), [
+    "Source: a book",
+    'From a table of 2 members, by council-tools from-table; ";" separates the columns, and "," is the decimal sign',
+    'Rule 1: "Votes", 1 decimal; column 3, times 10; the quota "2/3" is at least 2/3 of 45, which is 30',
+    'Rule 2: "heads"; each member weighs 1; the quota "heads:2" is at least 2',
+    "Left out: line 1, the heading",
+    'Left out: line 5, "Total", the sum of all others',
+    "Left out: column 2",
+    'Added: lines 2, 4, "A"',
+])
+same("a whole game file: the rest", re.sub("# .*\n", "", run.out), """title = "T"
 quotas = [30, 2]
 
 [[member]]
@@ -298,15 +300,13 @@ weights = [25, 1]
 name = "B"
 weights = [20, 1]
 """)
-same("a whole game file of one member, rounded", game("1", "--round", "1", "--weight", "2", table="A,1.25%,7\n").out, """# From a table of 1 member, by council-tools from-table; "," separates the columns, and "." is the decimal sign
-# Rule 1: percent, 1 decimal; column 2, rounded to 1 decimals, times 10; the quota "1" is at least 10
-# Left out: column 3
-quota = 10
-
-[[member]]
-name = "A"
-weight = 13
-""")
+run = game("1", "--round", "1", "--weight", "2", table="A,1.25%,7\n")
+same("one member, rounded: the comments", find_comments(run.out), [
+    'From a table of 1 member, by council-tools from-table; "," separates the columns, and "." is the decimal sign',
+    'Rule 1: percent, 1 decimal; column 2, rounded to 1 decimals, times 10; the quota "1" is at least 10',
+    "Left out: column 3",
+])
+same("one member, rounded: the game", re.sub("# .*\n", "", run.out), 'quota = 10\n\n[[member]]\nname = "A"\nweight = 13\n')
 case("weights that are not rounded are not called so", "rounded" not in game("1", "--round", "2", table="A,1.25\n").out)
 run = game("51", "--title", "T", "--name", "n\n[[member]]", "--weight", "2", table='"n\n[[member]]","quota = 1\nx"\nA,50.5\nB,50\n')
 comments = [it for it in run.out.split("\n") if it.startswith("#")]
