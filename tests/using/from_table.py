@@ -158,7 +158,8 @@ run = game("60%", "--no-total", table="A,33%\nB,33%\nC,33%\nx,100%\n")
 same("what is nearly the sum is left out aloud", (read(run.out), run.err), (("60", ["33"] * 3), 'council-tools from-table: line 4, "x", is left out, and is nearly the sum of all others\n'))
 case("what is nearly the sum is in a comment", '\n# Left out: line 4, "x", nearly the sum of all others\n' in run.out, run.out)
 for words in [], ["--no-total"]:
-    same(f"a long name of a total is cut, {words}", game("60%", *words, table="A,5\nB,3\n" + "T" * 41 + ",8\n").err.count("T"), 0 if words else 40)
+    run = game("60%", *words, table="A,33%\nB,33%\nC,33%\n" + "T" * 41 + ",100%\n")
+    same(f"a long name of a total is cut, {words}", run.err.count("T"), 40)
 fault("a total of heads", game("heads:2", "--no-heading", table="A\nB\nTotal\n"), 1, f'line 3, "Total", is a total by its name, but not the sum of all others: {ASKS}')
 HARDLY = "is hardly a member: delete the line, or say --all-rows if it is one"
 for name, table, line, told in [("a source with a comma", "A,5\nB,3\nSource: Smith, 2004\n", 3, "Source: Smith"), ("a title with a comma", "Votes: Europe, 2004.5\nA,5\nB,3\n", 1, "Votes: Europe"),
@@ -168,6 +169,8 @@ gives("a member with the name of a subtotal", ["60%", "--all-rows"], "A,5\nB,3\n
 gives("members with colons", ["60%"], "A: x,5\nB: y,3\nC,1\n", "6", ["5", "3", "1"])
 gives("a member with a colon between others", ["60%"], "A,5\nB: y,3\nC,1\n", "6", ["5", "3", "1"])
 gives("one member with a colon", ["1"], "A: x,5\n", "1", ["5"])
+fault("a source after one member", game("60%", table="A,5\nSource: x,1\n"), 1, f'line 2, "Source: x", {HARDLY}')
+fault("one row, which is named as a total", game("1", table="Total,5\n"), 1, f'line 1, "Total", {HARDLY}')
 fault("a subtotal before a source", game("60%", table="A,5\nB,3\nSubtotal,7\nC,2\nSource: x,1\n"), 1, f'line 3, "Subtotal", {HARDLY}')
 fault("a long name of a source is cut", game("60%", table="A,5\nB,3\n:" + "x" * 40 + ",1\n"), 1, f'line 3, ":{"x" * 39}", {HARDLY}')
 fault("--no-total without a total", game("60%", "--no-total", table="A,5\nB,3\nC,1\n"), 2, "--no-total: neither the first row nor the last is the sum of all others")

@@ -288,14 +288,15 @@ def find_total(members: list[Member], decimal: Optional[str]) -> tuple[Optional[
     """Returns the last or the first row if it is a total, and why: it has the sum of all others in
     a column of weights, or else the label of a total."""
     last = len(members) - 1
+    edges = [last, 0] if last else []
     best, score = None, 0
-    for row in [last, 0] if last else []:
+    for row in edges:
         found = [is_sum([it.numbers[at] for it in members], row, decimal) for at in range(len(members[0].numbers))]
         if sum(found) > score:
             best, score, nearly = row, sum(found), "" if 2 in found else "nearly "
     if best is not None:
         return best, f"{nearly}the sum of all others"
-    for row in [last, 0] if last else []:
+    for row in edges:
         if has_name_of_total(members[row]):
             return row, "a total by its name, but not the sum of all others"
     return None, ""
