@@ -101,7 +101,7 @@ gives("columns by their numbers", ["3", "--name", "2", "--weight", "1"], "1,A\n2
 gives("a heading of years", ["3", "--heading"], "EU,2019\nA,1\nB,2\n", "3", ["1", "2"])
 gives("rounded weights", ["50%", "--round", "2"], "A,0.333333333333333\nB,0.666666666666667\n", "50", ["33", "67"])
 gives("halves are rounded upwards", ["4", "--round", "0"], "A,0.5\nB,1.5\nC,2.5\nD,0.49\n", "4", ["1", "2", "3", "0"])
-gives("halves of a decimal are rounded upwards", ["50%", "--round", "2"], "A,0.125\nB,0.375\n", "26", ["13", "38"])
+gives("halves of a decimal are rounded upwards", ["50%", "--round", "2"], "A,0.125\nB,0.375\nC,1\n", "76", ["13", "38", "100"])
 gives("12 decimals are kept", ["1", "--round", "12"], "A,0.123456789012\nB,1\n", "1000000000000", ["123456789012", "1000000000000"])
 gives("the greatest weight", [">50%"], "A,1000000000000\nB,1\n", "500000000001", ["1000000000000", "1"])
 gives("a zero without a percent sign", ["60%"], "A,0\nB,5%\nC,2%\n", "5", ["0", "5", "2"])
@@ -124,7 +124,8 @@ for quota, wanted in [(">50%", 51), ("50%", 51), ("1/2", 51), (">1/2", 51), ("2/
     same(f"a quota: {quota} of 101", read(run.out or "quota = none")[0], str(wanted))
 for quota, wanted in [(">2/3", "more than 2/3 of 101, which is 67.333333.., so 68"), ("2/3", "at least 2/3 of 101, which is 67.333333.., so 68"), (">50", "more than 50, so 51"),
                       ("100%", "at least 1/1 of 101, which is 101"), ("heads:2", "at least 2"), ("heads:>1/3", "more than 1/3 of 3, which is 1, so 2")]:
-    case(f"a quota in a comment: {quota}", f'; the quota "{quota}" is {wanted}\n' in game(quota, table=TABLE).out, game(quota, table=TABLE).out)
+    what = '"heads"; each member weighs 1' if "heads" in quota else "column 2"
+    same(f"a quota in a comment: {quota}", find_comments(game(quota, table=TABLE).out)[1], f'Rule 1: {what}; the quota "{quota}" is {wanted}')
 
 # ---- a row that has the sum of all others is a total or a member: the user says which
 ASKS = "say --no-total to leave it out, or --all-rows if it is a member"
@@ -134,6 +135,7 @@ for label in ["Grand total", "Total votes", "Totaal", "Razem", "Summa", "Gesamts
 gives("--no-total, below", ["60%", "--no-total"], "A,5\nB,3\nC,1\nRazem,9\n", "6", ["5", "3", "1"])
 gives("--no-total, above", ["60%", "--no-total"], "World,9\nA,5\nB,3\nC,1\n", "6", ["5", "3", "1"])
 gives("--all-rows", ["60%", "--all-rows"], "A,5\nB,3\nC,1\nWorld,9\n", "11", ["5", "3", "1", "9"])
+gives("a total above in one column of two", ["60%", "60%", "--no-total"], "All votes,9,\nA,5,1\nB,3,1\nC,1,2\n", "[6, 3]", ["[5, 1]", "[3, 1]", "[1, 2]"])
 gives("a total in one column of two", ["60%", "60%", "--no-total"], "A,5,1\nB,3,1\nC,1,2\nAll votes,9,\n", "[6, 3]", ["[5, 1]", "[3, 1]", "[1, 2]"])
 fault("a total in one column of two is asked about", game("60%", "60%", table="A,5,1\nB,3,1\nC,1,2\nx,9,\n"), 1, f'line 4, "x", is the sum of all others: {ASKS}')
 for name, table in [("percent", "A,33%\nB,33%\nC,33%\nx,100%\n"), ("decimals", "A,33.33\nB,33.33\nC,33.33\nx,100.00\n"), ("large numbers", "A,33333\nB,33333\nC,33333\nx,100000\n")]:
@@ -255,13 +257,13 @@ gives("--sum", ["60%", "--sum"], "A,5\nB,3\nA,1.5\n", "57", ["65", "30"])
 gives("--sum of two columns", ["60%", "1", "--sum"], "A,5,1\nB,3,1\nA,1,3\n", "[6, 1]", ["[6, 4]", "[3, 1]"])
 gives("--sum of 41 rows", ["60%", "--sum"], "A,60\n" + "".join(f"m{it % 20},1\n" for it in range(40)), "60", ["60"] + ["2"] * 20)
 case("--sum is in a comment", '\n# Added: lines 1, 3, "A"\n' in game("60%", "--sum", table="A,5\nB,3\nA,1\n").out)
-for name, words, table in [("R", ["60%"], '"","holder","votes"\n"1","A",5\n"2","B",3\n'), ("pandas", ["60%"], ",holder,votes\n0,A,5\n1,B,3\n"), ("pandas, of heads", ["heads:2"], ",holder\n0,A\n1,B\n")]:
+for name, words, table in [("R", ["60%"], '"","holder","votes"\n"1","A",5\n"2","B",3\n'), ("pandas", ["60%"], ",holder,votes\n0,A,5\n1,B,3\n"), ("pandas, of heads", ["heads:2"], ",holder\n0,A\n1,B\n"), ("a heading, of heads", ["heads:2"], "no,holder\n0,A\n1,B\n")]:
     fault(f"row numbers of {name}", game(*words, table=table), 1, "column 1 has row numbers, and column 2 the names: say --name 2")
 gives("row numbers", ["60%", "--name", "2"], '"","holder","votes"\n"1","A",5\n"2","B",3\n', "5", ["5", "3"])
 gives("names that are numbers", ["60%"], "1,5\n2,3\n", "5", ["5", "3"])
 gives("names that are numbers, as the user says", ["60%", "--name", "1", "--weight", "3"], "1,A,5\n2,B,3\n", "5", ["5", "3"])
 fault("row numbers with gaps and blanks", game("60%", table=",holder,votes\n 0 , A ,5\n,B,3\n2,C,1\n"), 1, "column 1 has row numbers, and column 2 the names: say --name 2")
-for name, table in [("a name is missing", ",holder\n0,A\n1\n"), ("a name is a number", ",holder\n0,A\n1,7\n"), ("a row has no number", ",holder\n0,A\nx,B\n"), ("no row has one", ",holder\n,A\n,B\n")]:
+for name, table in [("a name is missing", ",holder\n0,A\n1\n"), ("a name is a number", ",holder\n0,A\n1,7\n"), ("a row has no number", ",holder\n0,A\nx,B\n"), ("the first row has none", "no,holder\nx,A\n1,B\n"), ("no row has one", ",holder\n,A\n,B\n")]:
     case(f"no row numbers: {name}", "row numbers" not in game("heads:2", table=table).err, game("heads:2", table=table).err)
 
 # ---- names and units of rules, as other programs read them
@@ -372,9 +374,12 @@ for name, words, table, status, text in [
     ("41 members", ["1"], "".join(f"m{it},1\n" for it in range(41)), 1, "line 41: this is member 41, and a game has at most 40"),
     ("too many decimals", ["1"], "A,0.3333333333333333\nB,0.6\n", 1,
      "line 1, column 2: with 16 decimals this is a weight of 16 digits, and the greatest is 1,000,000,000,000: --round N rounds the weights to N decimals"),
+    ("too great a sum", ["1", "--sum"], "A,1000000000000\nB,1\nA,1\n", 1,
+     "line 1, column 2: with 0 decimals this is a weight of 13 digits, and the greatest is 1,000,000,000,000: --round N rounds the weights to N decimals"),
     ("too great a weight", ["1"], "A,1\nB,1000000000001\n", 1,
      "line 2, column 2: with 0 decimals this is a weight of 13 digits, and the greatest is 1,000,000,000,000: --round N rounds the weights to N decimals"),
     ("weights of nothing", ["1"], "A,0\nB,0\n", 1, "column 2: all weights are 0"),
+    ("weights that are rounded to nothing", ["1", "--round", "0"], "A,0.1\nB,0.3\n", 1, "column 2: all weights are 0"),
     ("a column without a quota", ["1"], "A,1,3\nB,2,4\n", 1,
      "column 3 has numbers too, and there is no quota for it: give one more, or choose columns by --weight"),
     ("a column that is not there", ["1", "--weight", "x"], "a,b\nA,1\n", 2, 'there is no column "x", or two of them; the first row has "a", "b"'),
@@ -434,6 +439,19 @@ try:
 except Fault as it:
     same("a terminal is no table", (str(it), it.status), ("no table: name a file, as in council-tools from-table 65% table.csv >game.toml", 2))
 sys.stdin = kept
-run = game("1", "--round", "13", table="A,1\n")
-case("at most 12 decimals", run.status == 2 and run.err.startswith("council-tools from-table: argument --round: invalid choice: 13 "), run.err)
+
+# ---- options, and columns that are left out
+for option, value in [("--round", "13"), ("--round", "-1"), ("--decimal", ";")]:
+    run = game("1", f"{option}={value}", table="A,1\n")
+    case(f"no choice: {option} {value}", run.status == 2 and run.err.startswith(f"council-tools from-table: argument {option}: invalid choice: "), run.err)
+run = game("--help", table="")
+told = " ".join(run.out.partition("show this help message and exit")[2].split())
+for option in ["--title TEXT", "--source TEXT", "--name COLUMN", "--weight COLUMN", "--heading", "--no-heading", "--all-rows", "--no-total", "--sum", "--decimal {.,,}", "--round N", "--encoding NAME"]:
+    case(f"--help explains {option}", re.search(rf"(^| ){re.escape(option)} [a-z]", told), told)
+case("--help explains the quotas", re.search(r"\n  QUOTA +a quota for each rule, and the file of the table\n", run.out) and "\nMakes a game file from a table: " in run.out, run.out)
+case("--help succeeds", (run.status, run.err) == (0, ""), run.err)
+for name, table, wanted in [("a longer row", "A,1\nB,2,x,\nC,4,, \n", ["column 3"]), ("numbers and words", "A,1,5\nB,2,x\n", ["column 3"]), ("two columns", "A,1,x,y\nB,2,z,3\n", ["column 3", "column 4"]), ("none", "A,1, \nB,2,,\n", [])]:
+    found = [it for it in find_comments(game("2", table=table).out) if it.startswith("Left out")]
+    same(f"columns that are left out: {name}", found, [f"Left out: {it}" for it in wanted])
+case("a column of the total only is not left out", "Left out: column" not in game("2", "--no-total", table="A,1\nB,2\nx,3,y\n").out)
 done()

@@ -429,7 +429,7 @@ def make_game(data: bytes, quotas: Sequence[Quota], words: argparse.Namespace) -
     for rule, quota in enumerate(quotas, 1):
         rules.append(Rule(rule, quota, members) if quota.heads else Rule(rule, quota, members, columns, next(used), read, decimal))
         comments.append(rules[-1].comment)
-    weights = list(zip(*(it.weights for it in rules)))
+    weights = zip(*(it.weights for it in rules))
     text = write_game([it.name for it in members], [it.quota for it in rules], weights, words.title or "", comments + left_out)
     warn_of_low_quotas([it.quota for it in rules], [sum(it.weights) for it in rules])
     return text
