@@ -211,7 +211,7 @@ fault("a heading of a year", game("60%", table="EU,2019\nA,5\nB,3\n"), 1, 'line 
 fault("a heading that is a number", game("60%", table="Member,1\nA,5\nB,3\n"), 1, 'line 1, "Member", may be a heading or a member: say --heading or --no-heading')
 gives("a member with as many votes as a year", ["60%", "--no-heading"], "A,2019\nB,500\n", "1512", ["2019", "500"])
 fault("--heading and --no-heading", game("60%", "--heading", "--no-heading", table="A,5\n"), 2, "argument --no-heading: not allowed with argument --heading (--help says more)")
-fault("--no-heading and a column by its heading", game("60%", "--no-heading", "--name", "who", table="who,votes\nA,5\n"), 2, '--no-heading: the column "who" is chosen by its heading')
+fault("--no-heading and a column by its heading", game("60%", "--no-heading", "--name", "who", "--weight", "votes", table="who,votes\nA,5\n"), 2, '--no-heading: the column "who" is chosen by its heading')
 
 # ---- a quota below 1 is a share that lacks its sign; one of at most half is doubtful
 for quota, wanted in [("0.85", "85%"), ("0,85", "85%"), (".5", "50%"), ("0.667", "66.7%"), (">0.5", "'>50%'"), ("heads:0.55", "heads:55%"), ("heads:>0.5", "'heads:>50%'")]:
@@ -445,6 +445,7 @@ sys.stdin = kept
 for option, value in [("--round", "13"), ("--round", "-1"), ("--decimal", ";")]:
     run = game("1", f"{option}={value}", table="A,1\n")
     case(f"no choice: {option} {value}", run.status == 2 and run.err.startswith(f"council-tools from-table: argument {option}: invalid choice: "), run.err)
+os.environ["COLUMNS"] = "100"
 run = game("--help", table="")
 told = " ".join(run.out.partition("show this help message and exit")[2].split())
 for option in ["--title TEXT", "--source TEXT", "--name COLUMN", "--weight COLUMN", "--heading", "--no-heading", "--all-rows", "--no-total", "--sum", "--decimal {.,,}", "--round N", "--encoding NAME"]:
