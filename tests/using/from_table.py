@@ -98,6 +98,7 @@ gives("a member that is named as a total", ["4", "--all-rows"], "A,1\nB,2\nTotal
 gives("a decimal sign that is told", ["1", "--decimal", ","], 'A,"1,000"\nB,2\n', "1", ["1", "2"])
 gives("columns by their headings", ["3", "--name", "who", "--weight", "votes"], "no,who,share,votes\n1,A,0.3,1\n2,B,0.7,2\n", "3", ["1", "2"])
 gives("columns by their numbers", ["3", "--name", "2", "--weight", "1"], "1,A\n2,B\n", "3", ["1", "2"])
+gives("a heading of a year over a column of names that is chosen by its heading", ["3", "--name", "EU"], "EU,2019\nA,1\nB,2\n", "3", ["1", "2"])
 gives("a heading of years", ["3", "--heading"], "EU,2019\nA,1\nB,2\n", "3", ["1", "2"])
 gives("rounded weights", ["50%", "--round", "2"], "A,0.333333333333333\nB,0.666666666666667\n", "50", ["33", "67"])
 gives("halves are rounded upwards", ["4", "--round", "0"], "A,0.5\nB,1.5\nC,2.5\nD,0.49\n", "4", ["1", "2", "3", "0"])
@@ -196,7 +197,7 @@ for name, table in [("years", "Fraktion,2019\nA,4\nB,5\n"), ("words", "Fraktion,
 fault("a first row Name of heads beside numbers", game("heads:2", table="Name,4\nA,5\nB,6\n"), 1, f'line 1, "Name", {MAY}')
 fault("a first row of heads over names that are numbers", game("heads:2", "--name", "1", table="Nummer,Land\n1,x\n2,y\n"), 1, f'line 1, "Nummer", {MAY}')
 fault("a long first row is cut", game("heads:2", table="F" * 41 + "\nA\nB\n"), 1, f'line 1, "{"F" * 40}", {MAY}')
-gives("a heading of heads over some numbers", ["heads:2"], "Fraktion,Land,Sitze\nA,x\nB,y, \nC,z,5\n", "2", ["1", "1", "1"])
+gives("a heading of heads over some numbers", ["heads:2"], 'Fraktion,Land,Sitze\nA,x\nB,y, \nC,z,"5\n"\n', "2", ["1", "1", "1"])
 gives("a heading of heads over a single cell", ["heads:2", "--heading"], "Fraktion\nA,5\nB,3\n", "2", ["1", "1"])
 for name, heading in [("a short word after Name", "NAME,x1"), ("a letter that means weight", "x,w"), ("a percent sign", "x,%"), ("a word of three letters", "x,Abc")]:
     gives(f"a heading: {name}", ["60%"], f"{heading}\nA,5\nB,3\n", "5", ["5", "3"])
@@ -263,8 +264,8 @@ for name, words, table in [("R", ["60%"], '"","holder","votes"\n"1","A",5\n"2","
 gives("row numbers", ["60%", "--name", "2"], '"","holder","votes"\n"1","A",5\n"2","B",3\n', "5", ["5", "3"])
 gives("names that are numbers", ["60%"], "1,5\n2,3\n", "5", ["5", "3"])
 gives("names that are numbers, as the user says", ["60%", "--name", "1", "--weight", "3"], "1,A,5\n2,B,3\n", "5", ["5", "3"])
-fault("row numbers with gaps and blanks", game("60%", table=",holder,votes\n 0 , A ,5\n,B,3\n2,C,1\n"), 1, "column 1 has row numbers, and column 2 the names: say --name 2")
-for name, table in [("a name is missing", ",holder\n0,A\n1\n"), ("a name is a number", ",holder\n0,A\n1,7\n"), ("a row has no number", ",holder\n0,A\nx,B\n"), ("the first row has none", "no,holder\nx,A\n1,B\n"), ("no row has one", ",holder\n,A\n,B\n")]:
+fault("row numbers with gaps and blanks", game("60%", table=",holder,votes\n 0 , A ,5\n ,B,3\n2,C,1\n"), 1, "column 1 has row numbers, and column 2 the names: say --name 2")
+for name, table in [("a name is missing", ",holder\n0,A\n1\n"), ("a name is a number", ",holder\n0,A\n1,7\n"), ("a name is blank", ",holder\n0, \n1,B\n"), ("a row has no number", ",holder\n0,A\nx,B\n"), ("the first row has none", "no,holder\nx,A\n1,B\n"), ("no row has one", ",holder\n,A\n,B\n")]:
     case(f"no row numbers: {name}", "row numbers" not in game("heads:2", table=table).err, game("heads:2", table=table).err)
 
 # ---- names and units of rules, as other programs read them
@@ -386,7 +387,7 @@ for name, words, table, status, text in [
     ("a column that is not there", ["1", "--weight", "x"], "a,b\nA,1\n", 2, 'there is no column "x", or two of them; the first row has "a", "b"'),
     ("a column 0", ["1", "--weight", "0"], "A,1\n", 2, "there is no column 0: they are counted from 1"),
     ("a column 1001", ["1", "--weight", "1001"], "A,1\n", 2, "there is no column 1001: they are counted from 1"),
-    ("a column of many digits", ["1", "--weight", "12345678901"], "A,1\n", 2, "there is no column 123456789: they are counted from 1"),
+    ("a column of many digits", ["1", "--weight", "123456789" + "0" * 5000], "A,1\n", 2, "there is no column 123456789: they are counted from 1"),
     ("a column beyond the table", ["1", "--weight", "4"], "A,1\nB,1,2\n", 1, "the table has no column 4: commas, semicolons or TABs separate the columns"),
     ("a column of names beyond the table", ["1", "--name", "3", "--weight", "2"], "A,1\n", 1, "the table has no column 3: commas, semicolons or TABs separate the columns"),
     ("a column by a digit that is none", ["1", "--weight", "²"], "A,1\n", 2, 'there is no column "²", or two of them; the first row has "A", "1"'),
