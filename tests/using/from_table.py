@@ -356,6 +356,7 @@ for name, words, table, status, text in [
     ("a long minus", ["1"], "A,1\nB,−2\n", 1, f'{AT}: "−2" is negative'),
     ("a dash before a number", ["1"], "A,1\nB,– 2\n", 1, f'{AT}: "– 2" is negative'),
     ("no weight", ["1"], "A,1\nB,\nC,2\n", 1, f'{AT} is empty: write 0 if "B" is a member without weight'),
+    ("no weight between the first row and a total", ["1"], "A,1\nB,\nTotal,1\n", 1, f'{AT} is empty: write 0 if "B" is a member without weight'),
     ("a short row", ["1"], "A,1\n" + "B" * 41 + "\nC,2\n", 1, f'{AT} is empty: write 0 if "{"B" * 40}" is a member without weight'),
     ("a blank weight", ["1"], "A,1\nB, \nC,2\n", 1, f'{AT} is empty: write 0 if "B" is a member without weight'),
     ("no weight in the first row", ["1", "1", "1"], "A,1,,\nB,1,1,1\nC,1,1,1\n", 1, 'line 1, column 3 is empty: write 0 if "A" is a member without weight'),
