@@ -52,14 +52,10 @@ for text, point, comma in [
     ("12%", 12, 12), ("12 %", 12, 12), ("1,5\u202f%", None, "1.5"), ("%", None, None), ("12%%", None, None), ("%12", None, None),
     ("", None, None), (".", None, None), ("5.", None, None), ("1..5", None, None), ("-5", None, None), ("+5", None, None), ("\u0663", None, None), ("x", None, None), ("1 x", None, None),
 ]:
-    it = Number(f" {text}\t")
-    valid = [sign for sign in ".," if it.good and it.is_valid_with(sign)]
-    wanted = [None if each is None else Fraction(each) for each in (point, comma)]
-    same(f"the number {text}", [it.value(sign) if sign in valid else None for sign in ".,"], wanted)
-    same(f"the number {text} has a percent sign", (it.percent, it.text), (text.endswith("%"), text))
-    if it.good:
-        same(f"the decimal sign of {text}", it.decimal(), None if len(valid) == 2 else valid[0])
-        same(f"the number {text} is open", it.is_open(), len(set(wanted)) == 2 and None not in wanted)
+    it, values = Number(f" {text}\t"), [None if each is None else Fraction(each) for each in (point, comma)]
+    signs = [sign for sign, value in zip(".,", values) if value is not None]
+    found = [it.value(sign) if it.good and it.is_valid_with(sign) else None for sign in ".,"], it.percent, it.text, it.good and (it.decimal(), it.is_open())
+    same(f"the number {text}", found, (values, text.endswith("%"), text, bool(signs) and (signs[0] if len(signs) == 1 else None, len(signs) == 2 and values[0] != values[1])))
 for value, wanted in [(0, "0"), ("12345678", "12,345,678"), ("1/8", "0.125"), ("4999/4", "1,249.75"), ("1/1000000", "0.000001"), ("1/10000000", "0.000000.."), ("200/3", "66.666666.."), ("1.2345678", "1.234567..")]:
     same(f"{value} with its decimals", write_plain(Fraction(value)), wanted)
 
@@ -450,10 +446,10 @@ for option, value in [("--round", "13"), ("--round", "-1"), ("--decimal", ";")]:
 os.environ["COLUMNS"] = "100"
 run = game("--help", table="")
 told = " ".join(run.out.partition("show this help message and exit")[2].split())
-for option in ["--title TEXT", "--source TEXT", "--name COLUMN", "--weight COLUMN", "--heading", "--no-heading", "--all-rows", "--no-total", "--sum", "--decimal {.,,}", "--round N", "--encoding NAME"]:
-    case(f"--help explains {option}", re.search(rf"(^| ){re.escape(option)} [a-z]", told), told)
-case("--help explains the quotas", re.search(r"\n  QUOTA +a quota for each rule, and the file of the table\n", run.out) and "\nMakes a game file from a table: " in run.out and run.out.startswith("usage: council-tools from-table ["), run.out)
-case("--help succeeds", (run.status, run.err) == (0, ""), run.err)
+options = ["--title TEXT", "--source TEXT", "--name COLUMN", "--weight COLUMN", "--heading", "--no-heading", "--all-rows", "--no-total", "--sum", "--decimal {.,,}", "--round N", "--encoding NAME"]
+same("--help explains each option", [it for it in options if not re.search(rf"(^| ){re.escape(it)} [a-z]", told)], [])
+case("--help explains the quotas", re.search(r"\n  QUOTA +a quota for each rule, and the file of the table\n", run.out) and "\nMakes a game file from a table: " in run.out, run.out)
+case("--help succeeds", run.out.startswith("usage: council-tools from-table [") and (run.status, run.err) == (0, ""), run.err)
 for name, table, wanted in [("a longer row", "A,1\nB,2,x,\nC,4,, \n", ["column 3"]), ("numbers and words", "A,1,5\nB,2,x\n", ["column 3"]), ("two columns", "A,1,x,y\nB,2,z,3\n", ["column 3", "column 4"]), ("none", "A,1, \nB,2,,\n", [])]:
     found = [it for it in find_comments(game("2", table=table).out) if it.startswith("Left out")]
     same(f"columns that are left out: {name}", found, [f"Left out: {it}" for it in wanted])
