@@ -26,8 +26,7 @@ class Number:
         self.text = text.strip(BLANKS + "\t")
         self.percent = self.text.endswith("%")
         digits = self.text[:-1].strip(BLANKS) if self.percent else self.text
-        self.grouped = GROUPED.match(digits) is not None
-        if self.grouped:
+        if GROUPED.match(digits):
             digits = "".join(it for it in digits if it not in BLANKS + "'’")
         match = NUMBER.fullmatch(digits)
         self.good = False
@@ -44,7 +43,7 @@ class Number:
         if not groups:
             return True
         is_third = all(len(it) == 3 for it in groups[1:].split(OTHER[decimal]))
-        return is_third and not self.grouped and 1 <= len(self.whole) <= 3 and self.whole[0] != "0" and not self.power
+        return is_third and 1 <= len(self.whole) <= 3 and self.whole[0] != "0" and not self.power
 
     def decimal(self) -> Optional[str]:
         """Returns its decimal sign; None if it has none, or if both readings make a number."""
@@ -88,38 +87,38 @@ class Table:
     def __init__(self, data: bytes, encoding: Optional[str]) -> None:
         text = decode(data, encoding)
         first, _, rest = text.partition("\n")
-        said = re.fullmatch(r"sep=(.)\r?", first)
-        self.skipped = 0
+        # csv takes no quote and no line end for a separator
+        said = re.fullmatch(r'sep=([^"\r])\r?', first)
         if said:
-            self.skipped, text = 1, rest
-            self.delimiter = str(said[1])
+            # an empty line instead of it keeps the line numbers
+            self.delimiter, text = said[1], "\n" + rest
         else:
             self.delimiter = max("\t;,", key=lambda it: sum(len(row) > 1 for _, row in read_rows(text, it, quiet=True)))
-        self.rows = [(line + self.skipped, row) for line, row in read_rows(text, self.delimiter, self.skipped)]
+        self.rows = list(read_rows(text, self.delimiter))
 
 
 def decode(data: bytes, encoding: Optional[str]) -> str:
     """Returns the text of a table. A byte order mark tells UTF-8 and UTF-16; without one, zeros
     tell UTF-16."""
-    if data[:4] == b"PK\x03\x04" or data[:8] == b"\xd0\xcf\x11\xe0\xa1\xb1\x1a\xe1":
+    if data.startswith((b"PK\x03\x04", b"\xd0\xcf\x11\xe0\xa1\xb1\x1a\xe1")):
         raise Fault("this is the file of a spreadsheet itself: export it as CSV, and give that")
     if encoding is None:
-        if data[:2] in (b"\xff\xfe", b"\xfe\xff"):
+        if data.startswith((b"\xff\xfe", b"\xfe\xff")):
             encoding = "utf-16"
         elif b"\0" in data[:200]:
-            encoding = "utf-16-be" if data[:1] == b"\0" else "utf-16-le"
+            encoding = "utf-16-be" if data.startswith(b"\0") else "utf-16-le"
         else:
             encoding = "utf-8-sig"
     try:
         return data.decode(encoding)
     except UnicodeDecodeError as it:
-        line = data.count(b"\n", 0, it.start) + 1
+        line = data[: it.start].count(b"\n") + 1
         raise Fault(f"line {line} is not {encoding}: export the table as UTF-8, or say --encoding cp1252 or what it is") from None
     except (LookupError, ValueError):
         raise Fault(f"there is no encoding {quote(encoding)}", 2) from None
 
 
-def read_rows(text: str, delimiter: str, skipped: int = 0, quiet: bool = False) -> Iterator[tuple[int, list[str]]]:
+def read_rows(text: str, delimiter: str, quiet: bool = False) -> Iterator[tuple[int, list[str]]]:
     """Yields the rows that are not empty, each with the line in which it begins."""
     reader = csv.reader(io.StringIO(text, newline=""), delimiter=delimiter, strict=True)
     begun = 1
@@ -130,4 +129,4 @@ def read_rows(text: str, delimiter: str, skipped: int = 0, quiet: bool = False) 
             begun = reader.line_num + 1
     except csv.Error as it:
         if not quiet:
-            raise Fault(f"line {begun + skipped}: this is no row of a table: {it}") from None
+            raise Fault(f"line {begun}: this is no row of a table: {it}") from None

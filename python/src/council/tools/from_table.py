@@ -37,9 +37,9 @@ MOST = 1 << 24
 Row = Tuple[int, List[str]]
 Rows = List[Row]
 # headings of a column of names
-NAMED = set("name names member members".split())
+NAMED = "name names member members".split()
 # labels of totals, which also stop a row that is not the sum of the others
-TOTAL = set("total totals sum sums all summe gesamt insgesamt somme ensemble totale suma subtotal subtotals".split())
+TOTAL = "total totals sum sums all summe gesamt insgesamt somme ensemble totale suma subtotal subtotals".split()
 
 
 class Quota:
@@ -116,7 +116,7 @@ def drop_notes(rows: Rows, weighed: int, words: argparse.Namespace) -> tuple[Row
     above = next((at for at, (_, row) in enumerate(rows) if not is_note(row)), len(rows))
     below = next((at for at, (_, row) in enumerate(reversed(rows)) if not is_note(row)), len(rows))
     notes = rows[:above] + rows[len(rows) - below :]
-    if above == len(rows) or not notes:
+    if above == len(rows):
         return rows, []
     if not weighed:
         # a member needs no second cell here, and neither does a heading
@@ -210,7 +210,7 @@ def is_title(cell: str) -> bool:
     quantity."""
     if cell.casefold() in ("nan", "none", "null"):
         return False
-    return bool(re.search(r"[^\W\d_]{3}", cell)) or (cell != "" and not re.search(r"\d", cell) and cell in "%wWqQ")
+    return bool(re.search(r"[^\W\d_]{3}", cell)) or (cell != "" and cell in "%wWqQ")
 
 
 def is_year(cell: str) -> bool:
@@ -237,7 +237,7 @@ class Member:
         for column in columns.weights:
             text = row[column].strip() if column < len(row) else ""
             it = Number(text)
-            if text[:1] in tuple("-−–") and Number(text[1:]).good:
+            if text.startswith(("-", "−", "–")) and Number(text[1:]).good:
                 raise Fault(f"{name_cell(line, column, text)} is negative")
             if text and not it.good:
                 raise Fault(f"{name_cell(line, column, text)} is no number (--heading, --name and --weight say which cell is what)")
@@ -255,7 +255,7 @@ def find_decimal(members: list[Member], columns: Columns, said: Optional[str]) -
     decimal, told = said, None
     numbers = [(it, number, column) for it in members for number, column in zip(it.numbers, columns.weights) if number]
     for it, number, column in numbers:
-        here = number.decimal() if number.rest else None
+        here = number.decimal()
         if decimal and not number.is_valid_with(decimal):
             where = f"; {told} has another" if told else ""
             raise Fault(f"{name_cell(it.line, column, number.text)} is no number with {quote(decimal)} before its decimals{where}")
@@ -275,7 +275,7 @@ def is_sum(numbers: Sequence[Any], row: int, decimal: Optional[str]) -> int:
     values = [it.value(decimal or ".") for it in numbers]
     value = values.pop(row)
     wanted = sum(values)
-    if not wanted or value == wanted:
+    if value == wanted:
         return 2 if wanted else 0
     places = max(map(count_decimals, [value, *values]))
     slack = Fraction(len(numbers), 2 * 10**places)
@@ -288,14 +288,15 @@ def find_total(members: list[Member], decimal: Optional[str]) -> tuple[Optional[
     """Returns the last or the first row if it is a total, and why: it has the sum of all others in
     a column of weights, or else the label of a total."""
     last = len(members) - 1
+    edges = [last, 0] if last else []
     best, score = None, 0
-    for row in [last, 0] if last else []:
+    for row in edges:
         found = [is_sum([it.numbers[at] for it in members], row, decimal) for at in range(len(members[0].numbers))]
         if sum(found) > score:
             best, score, nearly = row, sum(found), "" if 2 in found else "nearly "
     if best is not None:
         return best, f"{nearly}the sum of all others"
-    for row in [last, 0] if last else []:
+    for row in edges:
         if has_name_of_total(members[row]):
             return row, "a total by its name, but not the sum of all others"
     return None, ""
@@ -428,7 +429,7 @@ def make_game(data: bytes, quotas: Sequence[Quota], words: argparse.Namespace) -
     for rule, quota in enumerate(quotas, 1):
         rules.append(Rule(rule, quota, members) if quota.heads else Rule(rule, quota, members, columns, next(used), read, decimal))
         comments.append(rules[-1].comment)
-    weights = list(zip(*(it.weights for it in rules)))
+    weights = zip(*(it.weights for it in rules))
     text = write_game([it.name for it in members], [it.quota for it in rules], weights, words.title or "", comments + left_out)
     warn_of_low_quotas([it.quota for it in rules], [sum(it.weights) for it in rules])
     return text
