@@ -149,18 +149,16 @@ class Report:
         return one
 
     @classmethod
-    def from_text(cls, text: str, listed: bool = False) -> Report:
-        """Returns the report in a text. Its coalitions, if it was asked to list them, are read when
-        somebody first looks at them."""
+    def from_text(cls, text: str) -> Report:
+        """Returns the report in a text. Its coalitions, if it lists them, are read when somebody
+        first looks at them."""
         first = text.find("\ncoalition\t") + 1
-        last = text.find("\nmember\t") + 1
-        unread = text[first:last] if 0 < first < last else ""
+        last = text.find("\n", text.rfind("\ncoalition\t") + 1) + 1
+        unread = text[first:last] if first else ""
         it = cls((text[:first] + text[last:] if unread else text).split("\n")[:-1], ignore)
         it._unread, it.listed = unread, unread.count("\n")
         if it.listed not in (0, it.minimal):
             raise Fault("the report is not whole, or its numbers are not those of council")
-        if listed and not unread:
-            it._kept = []
         return it
 
     @property
