@@ -7,6 +7,7 @@ It tests the package that Python finds, else the one beside it. Each test is a l
 `FAILED NAME: why` or `skipped NAME: why`. `python3 -m unittest` runs it too.
 """
 import contextlib
+import ctypes
 import doctest
 import gc
 import math
@@ -350,6 +351,142 @@ class Reports(unittest.TestCase):
         frame = pandas.DataFrame({"votes": [3, 2, 2, 1], "heads": [1, 1, 1, 1]}, index=list("ABCD"))
         two = council.report(frame.sum() // 2 + 1, [frame[it] for it in frame], names=frame.index)
         self.assertEqual(list(pandas.DataFrame(two.rows())["weight_1"]), [3, 2, 2, 1])
+
+
+def make_library(status, data):
+    """Returns a library whose call answers so, and a list of what it was asked."""
+    asked = []
+
+    def call(text, size, options, place, room, length):
+        asked.append((text[:size], [getattr(options._obj, it) for it, _ in engine.Options._fields_], room, threading.current_thread().daemon))
+        ctypes.memmove(place, data, min(len(data), room))
+        length._obj.value = len(data)
+        return status
+
+    library = engine.Library.__new__(engine.Library)
+    library._call = call
+    return library, asked
+
+
+class Engines(unittest.TestCase):
+    """How the library and the program are found and asked."""
+
+    def compute(self, library, *words, **more):
+        with mock.patch.object(engine, "find_library", lambda: library):
+            return engine.compute(*words, **more)
+
+    def test_what_the_library_is_asked(self):
+        for size, more, options, rooms in [
+            (9, {}, [0, True, False, False, False], [65536]), (9, {"listed": True, "most": 7}, [7, False, True, False, False], [2**30]),
+            (65536, {}, [0, True, False, False, False], [65536]), (65537, {}, [0, True, False, False, False], [65536, 65537]),
+        ]:
+            library, asked = make_library(0, b"x" * size)
+            self.assertEqual(self.compute(library, b"[1; 1]", **more), "x" * size)
+            self.assertEqual(asked, [(b"[1; 1]", options, it, True) for it in rooms])
+            with self.assertRaises(council.NotFound):
+                self.compute(library, b"[1; 1]", program="no-such-program")
+        library._call = mock.Mock(side_effect=KeyError("a fault"))
+        with self.assertRaisesRegex(KeyError, "a fault"):
+            self.compute(library, b"[1; 1]")
+        with mock.patch("mmap.mmap", lambda _, room, __: b"" if room == 65536 else os.open("/none", 0)):
+            self.assertEqual(engine.reserve(2**30), (b"", 65536))
+            with self.assertRaisesRegex(MemoryError, "out of memory"):
+                engine.reserve(65537)
+
+    def test_what_the_library_answers(self):
+        for status, data, kind, line in [
+            (3, b"bad bracket text", council.Refused, 1), (4, b"too many minimal winning coalitions", council.TooMany, None), (1, b"no file", council.Refused, None),
+            (5, b"out of memory", MemoryError, 0), (5, b"no thread", RuntimeError, 0), (2, b"a word", RuntimeError, 0),
+        ]:
+            # the program says where and why, if there is one
+            for program in (find_program(), ""):
+                with mock.patch.dict(os.environ, COUNCIL_PROGRAM=program), self.assertRaises(kind) as caught:
+                    self.compute(make_library(status, data)[0], b"[1; 1, 1,, 1]" if status == 3 else b"[2; 1, 1, 1, 1]", listed=True, most=5)
+                it, text = caught.exception, data.decode()
+                self.assertEqual((type(it), str(it).split("\n")[0]), (kind, text))
+                if line != 0:
+                    explained = bool(program) and status != 1
+                    self.assertEqual((it.fault, it.status, bool(it.explanation), it.line), (text, status, explained, line if explained else None))
+        self.assertEqual(council.Refused(3, "bad", "line 3, column 5: x").line, 3)
+        self.assertEqual((str(council.Refused(3, "bad")), str(council.Refused(3, "bad", "a\nb"))), ("bad", "bad\na\nb"))
+
+    def test_what_the_program_answers(self):
+        with tempfile.TemporaryDirectory() as folder:
+            path = os.path.join(folder, "program")
+
+            def compute(script, **more):
+                with open(path, "w", encoding="utf-8") as it:
+                    it.write(f"#!/bin/sh\ncat\n{script}\n")
+                os.chmod(path, 0o755)
+                return engine.compute(b"game\n", program=path, **more)
+
+            self.assertEqual(compute('echo "$@"; echo note >&2'), "game\n--explain --tally\n")
+            self.assertEqual(compute('echo "$@"', listed=True, most=7), "game\n--explain --list --most 7\n")
+            for script, kind, text in [
+                ("exit 7", RuntimeError, f"{path} ended with status 7"), ("kill -9 $$", RuntimeError, f"{path} ended with status -9"), ("echo council: no thread >&2; exit 5", RuntimeError, "no thread"),
+                ("echo council: out of memory >&2; exit 5", MemoryError, "out of memory"), ("echo a fault >&2; exit 1", council.Refused, "a fault"), ("exit 4", council.TooMany, f"{path} ended with status 4"),
+                ("printf 'council: bad\\n  line 3: \\377\\n  why\\n' >&2; exit 3", council.Refused, "bad\nline 3: \ufffd\nwhy"),
+            ]:
+                with self.assertRaises(kind, msg=script) as caught:
+                    compute(script)
+                self.assertEqual((type(caught.exception), str(caught.exception)), (kind, text))
+
+    @contextlib.contextmanager
+    def laid_out(self, files, clone=False, **variables):
+        """Makes a folder with these files, home/bin for the package and bin as the PATH."""
+        with tempfile.TemporaryDirectory() as folder:
+            top = os.path.realpath(folder)
+            for it in ["home/bin/x", "bin/x", *files]:
+                path = Path(top, it.rstrip("-"))
+                path.parent.mkdir(parents=True, exist_ok=True)
+                path.write_bytes(b"#!/bin/sh\n" if it in ("clone/council", "other/council", "script/it") else b"\x7fELF")
+                path.chmod(0o644 if it.endswith("-") else 0o755)
+            Path(top, "bin/link").symlink_to(f"{top}/clone/council")
+            if "launcher" in variables:
+                Path(top, "bin/council").symlink_to(f"{top}/{variables.pop('launcher')}/council")
+            found = {it: value.replace("TOP", top) for it, value in variables.items()}
+            kept = {it: value for it, value in os.environ.items() if it not in ("COUNCIL_PROGRAM", "COUNCIL_LIBRARY")}
+            with mock.patch.dict(os.environ, {**kept, "PATH": f"{top}/bin", **found}, clear=True):
+                with mock.patch.multiple(engine, HOME=f"{top}/home/bin", CLONE=f"{top}/clone" if clone else None):
+                    yield top
+
+    def test_where_the_program_is(self):
+        script, built, never = ["clone/council", "clone/tools/built.sh"], "clone/crates/council/out/council", "the program of TOP/clone was never built: run TOP/clone/council once, which takes 7 to 20 minutes"
+        none = "the program council was not found on the PATH"
+        for files, named, more, wanted in [
+            (["bin/council"], None, {}, "TOP/bin/council"), (["bin/council"], "council", {}, "TOP/bin/council"), ([], None, {}, none), ([], "it", {}, "it: no program of that name was found"),
+            # a launcher of a clone is never run
+            ([*script, built], "TOP/clone/council", {}, f"TOP/{built}"), ([*script, built], "link", {}, f"TOP/{built}"), (script, "link", {}, never), ([*script, built + "-"], "link", {}, never),
+            ([*script, built], None, {"launcher": "clone"}, f"TOP/{built}"), (script, None, {"launcher": "clone"}, never), (["clone/tools/built.sh", "clone/it"], "TOP/clone/it", {}, "TOP/clone/it"),
+            (["script/it"], "TOP/script/it", {}, "TOP/script/it"),
+            # the variable, the package, the archive, the clone
+            (["bin/council"], None, {"COUNCIL_PROGRAM": ""}, "COUNCIL_PROGRAM is empty"), (["bin/council", "it"], None, {"COUNCIL_PROGRAM": "TOP/it"}, "TOP/it"),
+            (["bin/council", "it"], "TOP/it", {"COUNCIL_PROGRAM": ""}, "TOP/it"), (["bin/council", "home/bin/council"], None, {}, "TOP/home/bin/council"),
+            (["bin/council", "home/bin/council-"], None, {}, "TOP/bin/council"), (["bin/council", "home/bin/council/x"], None, {}, "TOP/bin/council"),
+            (["bin/council", "home/council", "home/PROVED"], None, {}, "TOP/home/council"), (["bin/council", "home/council"], None, {}, "TOP/bin/council"),
+            ([*script, built], None, {"clone": True}, f"TOP/{built}"), (["bin/council", *script, built], None, {"clone": True}, f"TOP/{built}"), (["bin/council", *script], None, {"clone": True}, "TOP/bin/council"),
+            (script, None, {"clone": True}, never), (["other/council", "other/tools/built.sh", f"other{built[5:]}", *script], None, {"clone": True, "launcher": "other"}, f"TOP/other{built[5:]}"),
+        ]:
+            with self.subTest(files=files, named=named, more=more), self.laid_out(files, **more) as top:
+                try:
+                    found = engine.find_program(named and named.replace("TOP", top))
+                except council.NotFound as it:
+                    found = str(it)
+                self.assertEqual(found, wanted.replace("TOP", top))
+
+    def test_where_the_library_is(self):
+        own, its = "home/bin/libcouncil.so", "home/lib/libcouncil.so"
+        for files, more, wanted in [
+            ([], {}, None), ([own, its], {}, own), ([its], {}, its), ([own], {"COUNCIL_LIBRARY": ""}, None), ([own, "it"], {"COUNCIL_LIBRARY": "TOP/it"}, "it"),
+        ]:
+            with self.subTest(files=files, more=more), self.laid_out(files, **more) as top:
+                # (it is no library, which is as if it were for another system)
+                if "COUNCIL_LIBRARY" not in more:
+                    self.assertIsNone(find_library())
+                with mock.patch.object(engine, "load_library", lambda path: path):
+                    self.assertEqual(find_library(), wanted and f"{top}/{wanted}")
+        with tempfile.TemporaryDirectory() as folder, mock.patch.object(engine, "__file__", f"{folder}/a.pyz/council/engine.py"):
+            self.assertEqual(engine.find_home(), os.path.realpath(folder))
 
 
 class Parts(unittest.TestCase):
