@@ -439,7 +439,8 @@ class Engines(unittest.TestCase):
             for it in ["home/bin/x", "bin/x", *files]:
                 path = Path(top, it.rstrip("-"))
                 path.parent.mkdir(parents=True, exist_ok=True)
-                path.write_bytes(b"#!/bin/sh\n" if it in ("clone/council", "other/council", "script/it") else b"\x7fELF")
+                launches = it.endswith("/council") and f"{it[:-7]}tools/built.sh" in files
+                path.write_bytes(b"#!/bin/sh\n" if launches or it == "script/it" else b"\x7fELF")
                 path.chmod(0o644 if it.endswith("-") else 0o755)
             Path(top, "bin/link").symlink_to(f"{top}/clone/council")
             if "launcher" in variables:
@@ -464,6 +465,7 @@ class Engines(unittest.TestCase):
             (["bin/council", "it"], "TOP/it", {"COUNCIL_PROGRAM": ""}, "TOP/it"), (["bin/council", "home/bin/council"], None, {}, "TOP/home/bin/council"),
             (["bin/council", "home/bin/council-"], None, {}, "TOP/bin/council"), (["bin/council", "home/bin/council/x"], None, {}, "TOP/bin/council"),
             (["bin/council", "home/council", "home/PROVED"], None, {}, "TOP/home/council"), (["bin/council", "home/council"], None, {}, "TOP/bin/council"),
+            (["bin/council", "home/council", "home/PROVED", "home/tools/built.sh"], None, {}, "TOP/bin/council"),
             ([*script, built], None, {"clone": True}, f"TOP/{built}"), (["bin/council", *script, built], None, {"clone": True}, f"TOP/{built}"), (["bin/council", *script], None, {"clone": True}, "TOP/bin/council"),
             (script, None, {"clone": True}, never), (["other/council", "other/tools/built.sh", f"other{built[5:]}", *script], None, {"clone": True, "launcher": "other"}, f"TOP/other{built[5:]}"),
         ]:
