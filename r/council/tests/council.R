@@ -76,29 +76,33 @@ stopifnot(
 )
 
 # refused games are conditions with the fault, its line and the explanation
-refused <- function(...) tryCatch(council(...), council_refused = identity)
+refused <- function(...) {
+  tryCatch({
+    council(...)
+    stop("the game was not refused")
+  }, council_refused = identity)
+}
 bad <- refused(51, c(50, 16.5))
 stopifnot(
-  inherits(bad, "council_refused"), inherits(bad, "error"), bad$fault == "bad weight of member 2", identical(bad$status, 3L), identical(bad$line, 9L),
-  bad$explanation[1] == "line 9: weight = 16.5", length(bad$explanation) > 1, any(grepl("multiply", bad$explanation)),
+  inherits(bad, "council_refused"), inherits(bad, "error"), identical(bad$fault, "bad weight of member 2"), identical(bad$status, 3L), identical(bad$line, 9L),
+  identical(bad$explanation[1], "line 9: weight = 16.5"), length(bad$explanation) > 1, any(grepl("multiply", bad$explanation)),
   conditionMessage(bad) == paste(c(bad$fault, bad$explanation), collapse = "\n"), identical(conditionCall(bad), quote(council(...))),
   rawToChar(bad$game) == "quota = 51\n\n[[member]]\nname = \"1\"\nweight = 50\n\n[[member]]\nname = \"2\"\nweight = 16.5\n"
 )
 stopifnot(
-  refused(200, c(50, 49))$fault == "quota out of range",
-  refused(1, rep(1, 41))$fault == "bad member list",
-  refused(1, numeric(0))$status == 3,
-  refused(2, c(1, 1), names = c("A", "A"))$fault == "member 2 repeats a name",
-  refused(1, 1, names = "A\x7f")$fault == "bad name of member 1",
-  refused(1, 1, names = "A\x1f")$fault == "bad name of member 1",
-  refused(20, rep(1, 40), coalitions = TRUE)$status == 4,
-  identical(refused(20, rep(1, 40), coalitions = TRUE)$line, NA_integer_),
-  refused(game = "[51; 50, 49,, 1]")$fault == "bad bracket text",
+  identical(refused(200, c(50, 49))$fault, "quota out of range"),
+  identical(refused(1, rep(1, 41))$fault, "bad member list"),
+  identical(refused(1, numeric(0))$status, 3L),
+  identical(refused(2, c(1, 1), names = c("A", "A"))$fault, "member 2 repeats a name"),
+  identical(refused(1, 1, names = "A\x7f")$fault, "bad name of member 1"),
+  identical(refused(1, 1, names = "A\x1f")$fault, "bad name of member 1"),
+  identical(refused(20, rep(1, 40), coalitions = TRUE)[c("status", "line")], list(status = 4L, line = NA_integer_)),
+  identical(refused(game = "[51; 50, 49,, 1]")$fault, "bad bracket text"),
   identical(refused(game = "\nquota = ")$line, 2L),
-  refused(1, c(1, Inf))$fault == "bad weight of member 2",
-  refused(1, 1234567.5)$explanation[1] == "line 5: weight = 1234567.5",
-  refused(1, 0.1)$explanation[1] == "line 5: weight = 0.1",
-  refused(1, 1e15)$explanation[1] == "line 5: weight = 1000000000000000"
+  identical(refused(1, c(1, Inf))$fault, "bad weight of member 2"),
+  identical(refused(1, 1234567.5)$explanation[1], "line 5: weight = 1234567.5"),
+  identical(refused(1, 0.1)$explanation[1], "line 5: weight = 0.1"),
+  identical(refused(1, 1e15)$explanation[1], "line 5: weight = 1000000000000000")
 )
 
 # a file of the greatest length, and a longer one
@@ -106,7 +110,7 @@ path <- tempfile()
 cat(formatC("[51; 50, 49, 1]", width = -65536), file = path)
 stopifnot(identical(council(file = path)$weight, board$weight))
 cat(" ", file = path, append = TRUE)
-stopifnot(refused(file = path)$fault == "the game file is longer than 65536 bytes")
+stopifnot(identical(refused(file = path)$fault, "the game file is longer than 65536 bytes"))
 
 # what is no game at all is an ordinary error
 said <- function(expr) tryCatch({ expr; "nothing" }, council_refused = function(it) "refused", error = conditionMessage)
@@ -143,12 +147,12 @@ kept <- Sys.getenv(c("PATH", "COUNCIL_PROGRAM"))
 stopifnot(
   grepl("^--explain --tally /[^ ]*$", refused(1, 1, program = words)$fault),
   grepl("^--explain --list --most 4000000 /[^ ]*$", refused(1, 1, coalitions = TRUE, program = words)$fault),
-  refused(1, 1, program = silent)$fault == "council ended with status 1", identical(refused(1, 1, program = silent)$line, NA_integer_)
+  identical(refused(1, 1, program = silent)$fault, "council ended with status 1"), identical(refused(1, 1, program = silent)$line, NA_integer_)
 )
 Sys.setenv(COUNCIL_PROGRAM = silent)
-stopifnot(refused(1, 1)$status == 1)
+stopifnot(identical(refused(1, 1)$status, 1L))
 options(council.program = real)
-stopifnot(council(1, 1)$weight == 1, refused(1, 1, program = silent)$status == 1)
+stopifnot(council(1, 1)$weight == 1, identical(refused(1, 1, program = silent)$status, 1L))
 options(council.program = "")
 Sys.setenv(COUNCIL_PROGRAM = "", PATH = paste(here, kept["PATH"], sep = ":"))
 stopifnot(file.symlink(real, file.path(here, "council")), council(1, 1)$weight == 1)
