@@ -178,7 +178,9 @@ class Reports(unittest.TestCase):
         self.assertTrue(str(bad).startswith("bad weight of member 2\nline 9: weight = 16.5\n16.5 is a number with a point"))
         self.assertEqual(bad.game.split("\n")[bad.line - 1], "weight = 16.5")
         again = pickle.loads(pickle.dumps(bad))
-        self.assertEqual((str(again), again.line, again.game), (str(bad), bad.line, bad.game))
+        self.assertEqual((str(again), again.line, again.game, again.status), (str(bad), bad.line, bad.game, bad.status))
+        for kind in (float, Fraction, Decimal):
+            self.assertEqual(find_refusal(51, [50, kind("16.5")]).explanation, bad.explanation)
         for words, fault in [
             ((200, [50, 49]), "quota out of range"), ((0.85, [1]), "bad quota"), ((1, [1] * 41), "bad member list"), ((1, []), "bad member list"),
             ((1, [-1, 2]), "bad weight of member 1"), ((1, [1, float("nan")]), "bad weight of member 2"), ((1, [float("inf")]), "bad weight of member 1"),
@@ -394,18 +396,23 @@ class Engines(unittest.TestCase):
                 engine.reserve(65537)
 
     def test_what_the_library_answers(self):
+        real, folder = find_program(), tempfile.TemporaryDirectory()
+        self.addCleanup(folder.cleanup)
+        broken = os.path.join(folder.name, "broken")
+        Path(broken).write_bytes(b"\x7fELF")
+        os.chmod(broken, 0o755)
         for status, data, kind, line in [
             (3, b"bad bracket text", council.Refused, 1), (4, b"too many minimal winning coalitions", council.TooMany, None), (1, b"no file", council.Refused, None),
             (5, b"out of memory", MemoryError, 0), (5, b"no thread", RuntimeError, 0), (2, b"a word", RuntimeError, 0),
         ]:
-            # the program says where and why, if there is one
-            for program in (find_program(), ""):
+            # the program says where and why, if there is one, and it runs
+            for program in (real, "", broken):
                 with mock.patch.dict(os.environ, COUNCIL_PROGRAM=program), self.assertRaises(kind) as caught:
                     self.compute(make_library(status, data)[0], b"[1; 1, 1,, 1]" if status == 3 else b"[2; 1, 1, 1, 1]", listed=True, most=5)
                 it, text = caught.exception, data.decode()
                 self.assertEqual((type(it), str(it).split("\n")[0]), (kind, text))
                 if line != 0:
-                    explained = bool(program) and status != 1
+                    explained = program == real and status != 1
                     self.assertEqual((it.fault, it.status, bool(it.explanation), it.line), (text, status, explained, line if explained else None))
         self.assertEqual(council.Refused(3, "bad", "line 3, column 5: x").line, 3)
         self.assertEqual((str(council.Refused(3, "bad")), str(council.Refused(3, "bad", "a\nb"))), ("bad", "bad\na\nb"))
@@ -533,6 +540,7 @@ class Parts(unittest.TestCase):
             (["A"], [1], [(1,)], f"quota = 1\n{member} = 1\n"),
             (["A", "B"], [3, 2], [(2, 1), (1, 1)], "T", ["c", "d"], f'# c\n# d\ntitle = "T"\nquotas = [3, 2]\n{member}s = [2, 1]\n{member}s = [1, 1]\n'.replace('"A"\nweights = [1', '"B"\nweights = [1')),
         )
+        self.assertEqual(council.format_game_file(51, [50], names=[7], title="T"), f'title = "T"\nquota = 51\n{member} = 50\n'.replace('"A"', '"7"'))
         self.assertEqual(game.write_game(["A"] * 40, [1], [(1,)] * 40, "x" * 200).count("[[member]]"), 40)
         for words, text in [
             (([], [1], []), "there are 0 members, and a game has 1 to 40"), ((["A"] * 41, [1], [(1,)] * 41), "there are 41 members, and a game has 1 to 40"),

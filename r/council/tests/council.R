@@ -139,14 +139,14 @@ script <- function(path, line) {
   Sys.chmod(path)
   invisible(path)
 }
-here <- normalizePath(tempfile("programs"), mustWork = FALSE)
+here <- file.path(normalizePath(tempdir()), "programs")
 real <- council:::find_program()
 words <- script(file.path(here, "words"), "echo \"council: $*\" >&2; exit 1")
 silent <- script(file.path(here, "silent"), "exit 1")
 kept <- Sys.getenv(c("PATH", "COUNCIL_PROGRAM"))
 stopifnot(
-  grepl("^--explain --tally /[^ ]*$", refused(1, 1, program = words)$fault),
-  grepl("^--explain --list --most 4000000 /[^ ]*$", refused(1, 1, coalitions = TRUE, program = words)$fault),
+  grepl("^--explain --tally /", refused(1, 1, program = words)$fault),
+  grepl("^--explain --list --most 4000000 /", refused(1, 1, coalitions = TRUE, program = words)$fault),
   identical(refused(1, 1, program = silent)$fault, "council ended with status 1"), identical(refused(1, 1, program = silent)$line, NA_integer_)
 )
 Sys.setenv(COUNCIL_PROGRAM = silent)
