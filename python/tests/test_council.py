@@ -558,6 +558,7 @@ class Parts(unittest.TestCase):
         for comments, units in [
             (['Rule 1: "a\\"b", percent, 2 decimals; column 3', "Rule 2: 1 decimal; x"], [('a"b', True, 2), ("", False, 1)]), (["Rule 2: percent", "Rule 3: percent"], [("", False, 0), ("", True, 0)]),
             (["Rule 1: 99 decimals", 'Rule 2: "b"'], [("", False, 18), ("b", False, 0)]), (["a comment", "Rule 1: 7 votes", "Rule 0: percent"], [("", False, 0)] * 2),
+            (['Rule 1: "a" percent', "Rule 2: percentage"], [("", False, 0)] * 2), (["Rule 1: 10 decimals; x", 'Rule 2: "b"; percent'], [("", False, 10), ("b", False, 0)]),
         ]:
             self.assertEqual([(it.name, it.percent, it.places) for it in game.read_units(comments, 2)], units)
 
