@@ -246,6 +246,8 @@ class Reports(unittest.TestCase):
             (LISTED, "quota = 1\n", "line 1"), ("member\t3\t1\t1\t", "member\t3\tx\t1\t", "line 9"),
             ("quota\t51", "quota\t51\t1", "line 2"), ("quota\t51", "quota", "line 2"), ("quota\t51\n", "", unsound), ("quota\t51", "quota\t51/1", unsound),
             ("quota\t51", "quota\t+51", unsound), ("quota\t51", "quota\t5_1", unsound), ("quota\t51", "quota\t\uff11", unsound),
+            # a rule without a weight
+            (LISTED, LISTED.replace("51\nt", "51/1\nt").replace("100", "100/0").replace("50\t2", "50/0\t2").replace("49\t1", "49/0\t1").replace("3\t1\t1", "3\t1/0\t1"), unsound),
             ("members\t3", "members\t4", unsound), ("total\t100", "total\t101", unsound), ("total\t100", "total\t100/3", unsound), ("minimal\t2", "minimal\t1", unsound), ("minimal\t2", "minimal\tx", unsound),
             ("member\t3\t1\t1\t", "member\t3\t1/1\t1\t", unsound), ("member\t3\t1\t1\t1/4\t0.250000", "member\t3\t1\t1\t1/8\t0.125000", unsound),
             ("1/4\t0.250000\n", "1/8\t0.125000\n", unsound), ("1/2\t0.500000\n", "1/2\t0.500001\n", "line 7"), ("1/2\t0.500000\n", "1/0\t0.500000\n", "line 7"),
@@ -259,13 +261,11 @@ class Reports(unittest.TestCase):
                 # (of a text, the coalitions are read last, and their lines are not counted)
                 if read != Report.from_text or text == unsound:
                     self.assertEqual((str(caught.exception), caught.exception.status), (wanted, 1))
-        none = LISTED.replace("50", "0").replace("49", "0").replace("3\t1\t1", "3\t0\t1").replace("100", "0")
-        with self.assertRaises(Fault):
-            Report.from_text(none)
         one = LISTED.replace("coalition\t2\t99\t1\t2\n", "")
         self.assertEqual(Report(one.split("\n")[:-1]).listed, 1)
         with self.assertRaises(Fault):
             Report.from_text(one)
+        self.assertEqual((str(Fault("a text", 2)), Fault("a text", 2).status), ("a text", 2))
 
     def test_coalitions_one_after_the_other(self):
         taken = []

@@ -76,7 +76,7 @@ refuse <- function(status, lines, bytes, call) {
   fault <- if (length(lines)) sub("^council: ", "", lines[1]) else paste("council ended with status", status)
   explanation <- sub("^  ", "", lines[-1])
   first <- regmatches(explanation[1], regexec("^line ([0-9]+)(, column [0-9]+)?:", explanation[1]))[[1]]
-  line <- if (length(explanation) && length(first)) as.integer(first[2]) else NA_integer_
+  line <- as.integer(first[2])
   errorCondition(
     paste(c(fault, explanation), collapse = "\n"),
     fault = fault, line = line, explanation = explanation, status = status, game = bytes,
