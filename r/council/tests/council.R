@@ -39,7 +39,7 @@ stopifnot(
 )
 
 # a game file, its text, or its lines
-lines <- c("quota = 100000 # all", "[[member]]", "name = \"A\"", "weight = 100000")
+lines <- c("title = \"\"", "quota = 100000 # all", "[[member]]", "name = \"A\"", "weight = 100000")
 stopifnot(
   identical(council(game = "[51; 50, 49, 1]")$public_good_exact, board$public_good_exact),
   identical(council(game = lines), council(1e5, 1e5, names = "A")), identical(council(game = paste(lines, collapse = "\n")), council(game = lines))
