@@ -390,7 +390,7 @@ class Engines(unittest.TestCase):
         library._call = mock.Mock(side_effect=KeyError("a fault"))
         with self.assertRaisesRegex(KeyError, "a fault"):
             self.compute(library, b"[1; 1]")
-        with mock.patch("mmap.mmap", lambda _, room, __: b"" if room == 65536 else os.open("/none", 0)):
+        with mock.patch("mmap.mmap", lambda file, room, _: b"" if (file, room) == (-1, 65536) else os.open("/none", 0)):
             self.assertEqual(engine.reserve(2**30), (b"", 65536))
             with self.assertRaisesRegex(MemoryError, "out of memory"):
                 engine.reserve(65537)

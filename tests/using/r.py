@@ -33,6 +33,7 @@ latin <- "name = \\"\\xe9\\""
 Encoding(latin) <- "latin1"
 spelled <- council(game = c("quota = 1", "[[member]]", latin, "weight = 1"))
 its <- c(its, list(show(hard), paste(c("coalition", attr(hard, "coalitions")[[1]]), collapse = "\\t"), show(spelled)))
+its <- c(its, list(paste(identical(hard$name, called), identical(spelled$name, "\\u00e9"))))
 out <- file("seen.txt", "wb")
 writeLines(unlist(its), out, useBytes = TRUE)
 close(out)
@@ -97,10 +98,11 @@ def compare(locale, games):
     same(f"R, {locale}: {len(games)} games", found, wanted)
     case(f"R, {locale}: both indices as numbers", close)
     same(f"R, {locale}: a title with quotes", seen[0], ["game", 'a "title" \\', str(len(HOSTILE))])
-    *hard, first, _, spelled = seen[1:]
+    *hard, first, _, spelled, are_same = seen[1:]
     same(f"R, {locale}: hostile names", [it[0] for it in hard], HOSTILE)
     same(f"R, {locale}: the first coalition", first, ["coalition", *HOSTILE[:-1]])
     same(f"R, {locale}: a text in latin1", spelled[0], "\xe9")
+    same(f"R, {locale}: names are those of R", are_same, ["TRUE TRUE"])
 
 
 if needs("Rscript", "R CMD check", "R, C.UTF-8: games", "R, C: games"):
