@@ -182,15 +182,18 @@ class Reports(unittest.TestCase):
         for kind in (float, Fraction, Decimal):
             self.assertEqual(find_refusal(51, [50, kind("16.5")]).explanation, bad.explanation)
         for words, fault in [
-            ((200, [50, 49]), "quota out of range"), ((0.85, [1]), "bad quota"), ((1, [1] * 41), "bad member list"), ((1, []), "bad member list"),
+            ((200, [50, 49]), "quota out of range"), ((0.85, [1]), "bad quota"), ((1, [1] * (game.MEMBERS + 1)), "bad member list"), ((1, []), "bad member list"),
             ((1, [-1, 2]), "bad weight of member 1"), ((1, [1, float("nan")]), "bad weight of member 2"), ((1, [float("inf")]), "bad weight of member 1"),
-            ((1, [10**12 + 1]), "bad weight of member 1"), ((10**30, [1]), "the game file is not TOML"), (([1] * 5, [[1]] * 5), "bad rules"),
+            ((1, [game.WEIGHT + 1]), "bad weight of member 1"), ((10**30, [1]), "the game file is not TOML"), (([1] * (game.RULES + 1), [[1]] * (game.RULES + 1)), "bad rules"),
         ]:
             it = find_refusal(*words)
             self.assertEqual(it.fault, fault)
             self.assertTrue(it.explanation, fault)
-        for names, fault in [(["A", "A"], "member 2 repeats a name"), (["A", ""], "bad name of member 2"), (["a\tb", "c"], "bad name of member 1"), (["x" * 65, "c"], "bad name of member 1")]:
+        for names, fault in [(["A", "A"], "member 2 repeats a name"), (["A", ""], "bad name of member 2"), (["a\tb", "c"], "bad name of member 1"), (["x" * (game.NAME + 1), "c"], "bad name of member 1")]:
             self.assertEqual(find_refusal(1, [1, 1], names=names).fault, fault)
+        self.assertEqual(find_refusal(1, [1], title="x" * (game.TITLE + 1)).fault, "bad title")
+        most = [game.WEIGHT] + [0] * (game.MEMBERS - 1)
+        self.assertEqual(council.report([1] * game.RULES, [most] * game.RULES, names=["x" * game.NAME, *range(1, game.MEMBERS)], title="x" * game.TITLE).minimal, 1)
         self.assertEqual(find_refusal(1, [1], names=["\ud800"]).fault, "the game file is not TOML")
         self.assertEqual(find_refusal(game="[51; 50, 49,, 1]").line, 1)
         self.assertEqual(find_refusal(game=" " * 70000).fault, "the game file is longer than 65536 bytes")
