@@ -167,6 +167,7 @@ class Reports(unittest.TestCase):
             council.report(20, [1] * 40, coalitions=True)
         self.assertEqual((caught.exception.status, caught.exception.fault), (4, "too many minimal winning coalitions"))
         self.assertIn("137846528820", caught.exception.explanation)
+        self.assertIs(type(pickle.loads(pickle.dumps(caught.exception))), council.TooMany)
         self.assertEqual(len(council.report(2, [1] * 4, coalitions=True, most=6).coalitions), 6)
         self.assertEqual(council.report(1, [1], coalitions=True, most=1).coalitions, [(("1",), (1,))])
         with self.assertRaises(council.TooMany):
@@ -206,7 +207,7 @@ class Reports(unittest.TestCase):
         ways, parts, belong = "give a quota and weights, or a file, or a game", "give a quota and weights", "names and a title belong to a quota and weights"
         for words, more, text in [
             ((), {}, ways), ((51, [1]), {"file": "x"}, ways), ((51,), {"file": "x"}, ways), ((None, [1]), {"file": "x"}, ways), ((), {"file": "x", "game": "y"}, ways),
-            ((51,), {}, parts), ((None, [1]), {}, parts), ((), {"game": "[1; 1]", "names": ["A"]}, belong), ((), {"game": "[1; 1]", "title": "T"}, belong),
+            ((51,), {}, parts), ((None, [1]), {}, parts), ((), {"game": "[1; 1]", "names": ["A"]}, belong), ((), {"game": "[1; 1]", "title": "T"}, belong), ((), {"file": "x", "names": []}, belong),
             ((51, ["50"]), {}, "'50' is no number"), ((51, [None]), {}, "None is no number"), (("51", [50]), {}, "'5' is no number"),
             ((51, [50]), {"names": [1.5]}, "1.5 is no name"), ((51, 50), {}, "'int' object is not iterable"),
         ]:
@@ -253,7 +254,7 @@ class Reports(unittest.TestCase):
             (LISTED, LISTED.replace("51\nt", "51/1\nt").replace("100", "100/0").replace("50\t2", "50/0\t2").replace("49\t1", "49/0\t1").replace("3\t1\t1", "3\t1/0\t1"), unsound),
             ("members\t3", "members\t4", unsound), ("total\t100", "total\t101", unsound), ("total\t100", "total\t100/3", unsound), ("minimal\t2", "minimal\t1", unsound), ("minimal\t2", "minimal\tx", unsound),
             ("member\t3\t1\t1\t", "member\t3\t1/1\t1\t", unsound), ("member\t3\t1\t1\t1/4\t0.250000", "member\t3\t1\t1\t1/8\t0.125000", unsound),
-            ("1/4\t0.250000\n", "1/8\t0.125000\n", unsound), ("1/2\t0.500000\n", "1/2\t0.500001\n", "line 7"), ("1/2\t0.500000\n", "1/0\t0.500000\n", "line 7"),
+            ("1/4\t0.250000\n", "1/8\t0.125000\n", unsound), ("1/2\t0.500000\t1/2\t0.500000", "1/4\t0.250000\t3/4\t0.750000", unsound), ("1/2\t0.500000\n", "1/2\t0.500001\n", "line 7"), ("1/2\t0.500000\n", "1/0\t0.500000\n", "line 7"),
             ("1/2\t0.500000\n", "1/2\t0.500000\t\n", "line 7"), ("coalition\t2\t99", "coalition\t3\t99", "line 5"),
         ]:
             changed = LISTED.replace(old, new)
@@ -390,8 +391,8 @@ class Engines(unittest.TestCase):
             self.assertEqual(asked, [(b"[1; 1]", options, it, True) for it in rooms])
             with self.assertRaises(council.NotFound):
                 self.compute(library, b"[1; 1]", program="no-such-program")
-        library._call = mock.Mock(side_effect=KeyError("a fault"))
-        with self.assertRaisesRegex(KeyError, "a fault"):
+        library._call = mock.Mock(side_effect=SystemExit("a fault"))
+        with self.assertRaisesRegex(SystemExit, "a fault"):
             self.compute(library, b"[1; 1]")
         with mock.patch("mmap.mmap", lambda file, room, _: b"" if (file, room) == (-1, 65536) else os.open("/none", 0)):
             self.assertEqual(engine.reserve(2**30), (b"", 65536))
@@ -417,7 +418,7 @@ class Engines(unittest.TestCase):
                 if line != 0:
                     explained = program == real and status != 1
                     self.assertEqual((it.fault, it.status, bool(it.explanation), it.line), (text, status, explained, line if explained else None))
-        self.assertEqual(council.Refused(3, "bad", "line 3, column 5: x").line, 3)
+        self.assertEqual([council.Refused(3, "bad", it).line for it in ("line 3, column 15: x", "line 12: x", "the line 1: x")], [3, 12, None])
         self.assertEqual((str(council.Refused(3, "bad")), str(council.Refused(3, "bad", "a\nb"))), ("bad", "bad\na\nb"))
 
     def test_what_the_program_answers(self):
@@ -561,9 +562,10 @@ class Parts(unittest.TestCase):
         for comments, units in [
             (['Rule 1: "a\\"b", percent, 2 decimals; column 3', "Rule 2: 1 decimal; x"], [('a"b', True, 2), ("", False, 1)]), (["Rule 2: percent", "Rule 3: percent"], [("", False, 0), ("", True, 0)]),
             (["Rule 1: 99 decimals", 'Rule 2: "b"'], [("", False, 18), ("b", False, 0)]), (["a comment", "Rule 1: 7 votes", "Rule 0: percent"], [("", False, 0)] * 2),
-            (['Rule 1: "a" percent', "Rule 2: percentage"], [("", False, 0)] * 2), (["Rule 1: 10 decimals; x", 'Rule 2: "b"; percent'], [("", False, 10), ("b", False, 0)]),
+            (['Rule 1: "a" percent', "Rule 2: percent2 decimals"], [("", False, 0)] * 2), (["Rule 1: 10 decimals; x", 'Rule 2: "b"; percent'], [("", False, 10), ("b", False, 0)]),
         ]:
             self.assertEqual([(it.name, it.percent, it.places) for it in game.read_units(comments, 2)], units)
+        self.assertEqual([it.percent for it in game.read_units(["Rule 4: percent"], 4)], [False, False, False, True])
 
     def test_the_game_of_a_report(self):
         if sys.version_info < (3, 11):
