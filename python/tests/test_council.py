@@ -441,6 +441,7 @@ class Engines(unittest.TestCase):
                 with self.assertRaises(kind, msg=script) as caught:
                     compute(script)
                 self.assertEqual((type(caught.exception), str(caught.exception)), (kind, text))
+                self.assertEqual(getattr(caught.exception, "explanation", ""), text.partition("\n")[2])
 
     @contextlib.contextmanager
     def laid_out(self, files, clone=False, **variables):
