@@ -6,7 +6,10 @@
 It tests the package that Python finds, else the one beside it. Each test is a line `ok NAME`,
 `FAILED NAME: why` or `skipped NAME: why`. `python3 -m unittest` runs it too.
 """
+import contextlib
+import ctypes
 import doctest
+import gc
 import math
 import os
 import pickle
@@ -21,6 +24,7 @@ import unittest
 from decimal import Decimal
 from fractions import Fraction
 from pathlib import Path
+from unittest import mock
 
 HERE = Path(__file__).resolve().parent
 TOP = HERE.parent.parent
@@ -33,13 +37,20 @@ except ImportError:
 sys.path.insert(0, str(TOP / "tests"))
 import oracle  # noqa: E402 (it is beside the clone's other tests)
 
+from council import engine, game, reports  # noqa: E402
 from council.engine import find_library, find_program  # noqa: E402
-from council.reports import Report  # noqa: E402
+from council.game import Unit  # noqa: E402
+from council.reports import Fault, Report  # noqa: E402
 
 HOSTILE = [
     "=1+1", "-1", '"quoted"', "it's", "<b>&amp;", "a|b `c` *d*", "\\LaTeX #_{x}", "${x} %s {0}", "\ufffe", "\u202egnp.exe", "a\u2028b\u0085c",
     "中文 ñ é Ł", "e\u0301", "\U0001f600", "x" * 64, "m, n; o", " ", "\\u0041", "#", "[[member]]", "NA", "nan", "None",
 ]
+# the report of [51; 50, 49, 1], with its coalitions
+LISTED = (
+    "members\t3\nquota\t51\ntotal\t100\nminimal\t2\ncoalition\t2\t99\t1\t2\ncoalition\t2\t51\t1\t3\n"
+    "member\t1\t50\t2\t1/2\t0.500000\t1/2\t0.500000\nmember\t2\t49\t1\t1/4\t0.250000\t1/4\t0.250000\nmember\t3\t1\t1\t1/4\t0.250000\t1/4\t0.250000\n"
+)
 # 40 members whose weights add up to a million in each of two rules: hours
 LONG = [[random.Random(at).randrange(10**6) for at in range(40)]]
 LONG.append([10**6 - it for it in LONG[0]])
@@ -130,6 +141,13 @@ class Reports(unittest.TestCase):
                 it.write(text)
             for file in (path, Path(path)):
                 self.check_same(council.report(file=file), wanted)
+            for more, fault in [(0, None), (1, "the game file is longer than 65536 bytes")]:
+                with open(path, "w", encoding="utf-8") as it:
+                    it.write("[51; 50, 49, 1]".ljust(65536 + more))
+                if fault:
+                    self.assertEqual(find_refusal(file=path).fault, fault)
+                else:
+                    self.check_same(council.report(file=path), wanted)
 
     def test_kinds_of_numbers(self):
         wanted = council.report(51, [50, 49, 1]).members
@@ -137,6 +155,8 @@ class Reports(unittest.TestCase):
             self.assertEqual(council.report(kind(51), [kind(50), kind(49), kind(1)]).members, wanted)
         self.assertEqual(council.report(1, (True, False)).members[0].weights, (1,))
         self.assertEqual(council.report(51, iter([50, 49, 1]), names=range(1, 4)).members, wanted)
+        votes = [mock.Mock(spec=["__index__"], __index__=lambda _, it=it: it) for it in (51, 50, 49, 1)]
+        self.assertEqual(council.report(votes[0], votes[1:]).members, wanted)
         exact = council.report(Fraction(10**12), [Decimal(10**12), 1]).members[0]
         self.assertEqual(exact.weights, (10**12,))
 
@@ -147,7 +167,9 @@ class Reports(unittest.TestCase):
             council.report(20, [1] * 40, coalitions=True)
         self.assertEqual((caught.exception.status, caught.exception.fault), (4, "too many minimal winning coalitions"))
         self.assertIn("137846528820", caught.exception.explanation)
+        self.assertIs(type(pickle.loads(pickle.dumps(caught.exception))), council.TooMany)
         self.assertEqual(len(council.report(2, [1] * 4, coalitions=True, most=6).coalitions), 6)
+        self.assertEqual(council.report(1, [1], coalitions=True, most=1).coalitions, [(("1",), (1,))])
         with self.assertRaises(council.TooMany):
             council.report(2, [1] * 4, coalitions=True, most=5)
 
@@ -157,32 +179,50 @@ class Reports(unittest.TestCase):
         self.assertTrue(str(bad).startswith("bad weight of member 2\nline 9: weight = 16.5\n16.5 is a number with a point"))
         self.assertEqual(bad.game.split("\n")[bad.line - 1], "weight = 16.5")
         again = pickle.loads(pickle.dumps(bad))
-        self.assertEqual((str(again), again.line, again.game), (str(bad), bad.line, bad.game))
+        self.assertEqual((str(again), again.line, again.game, again.status), (str(bad), bad.line, bad.game, bad.status))
+        for kind in (float, Fraction, Decimal):
+            self.assertEqual(find_refusal(51, [50, kind("16.5")]).explanation, bad.explanation)
         for words, fault in [
-            ((200, [50, 49]), "quota out of range"), ((0.85, [1]), "bad quota"), ((1, [1] * 41), "bad member list"), ((1, []), "bad member list"),
+            ((200, [50, 49]), "quota out of range"), ((0.85, [1]), "bad quota"), ((1, [1] * (game.MEMBERS + 1)), "bad member list"), ((1, []), "bad member list"),
             ((1, [-1, 2]), "bad weight of member 1"), ((1, [1, float("nan")]), "bad weight of member 2"), ((1, [float("inf")]), "bad weight of member 1"),
-            ((1, [10**12 + 1]), "bad weight of member 1"), ((10**30, [1]), "the game file is not TOML"), (([1] * 5, [[1]] * 5), "bad rules"),
+            ((1, [game.WEIGHT + 1]), "bad weight of member 1"), ((10**30, [1]), "the game file is not TOML"), (([1] * (game.RULES + 1), [[1]] * (game.RULES + 1)), "bad rules"),
         ]:
             it = find_refusal(*words)
             self.assertEqual(it.fault, fault)
             self.assertTrue(it.explanation, fault)
-        for names, fault in [(["A", "A"], "member 2 repeats a name"), (["A", ""], "bad name of member 2"), (["a\tb", "c"], "bad name of member 1"), (["x" * 65, "c"], "bad name of member 1")]:
+        for names, fault in [(["A", "A"], "member 2 repeats a name"), (["A", ""], "bad name of member 2"), (["a\tb", "c"], "bad name of member 1"), (["x" * (game.NAME + 1), "c"], "bad name of member 1")]:
             self.assertEqual(find_refusal(1, [1, 1], names=names).fault, fault)
+        self.assertEqual(find_refusal(1, [1], title="x" * (game.TITLE + 1)).fault, "bad title")
+        most = [game.WEIGHT] + [0] * (game.MEMBERS - 1)
+        self.assertEqual(council.report([1] * game.RULES, [most] * game.RULES, names=["x" * game.NAME, *range(1, game.MEMBERS)], title="x" * game.TITLE).minimal, 1)
         self.assertEqual(find_refusal(1, [1], names=["\ud800"]).fault, "the game file is not TOML")
         self.assertEqual(find_refusal(game="[51; 50, 49,, 1]").line, 1)
         self.assertEqual(find_refusal(game=" " * 70000).fault, "the game file is longer than 65536 bytes")
         self.assertEqual(find_refusal(game="").fault, "bad quota")
+        self.assertEqual(find_refusal(game="\ud800").explanation.split("\n")[1], "a byte there is not UTF-8: save the file as UTF-8")
+        self.assertEqual(find_refusal(game=b"\xff").game, "\ufffd")
+        self.assertEqual(find_refusal([], []).fault, "bad rules")
 
     def test_words_that_are_no_game(self):
-        for words, more in [
-            ((), {}), ((51,), {}), ((51, [1]), {"file": "x"}), ((), {"file": "x", "game": "y"}), ((), {"game": "[1; 1]", "names": ["A"]}),
-            ((51, ["50"]), {}), ((51, [None]), {}), (("51", [50]), {}), ((51, [50]), {"names": [1.5]}), ((51, 50), {}),
+        ways, parts, belong = "give a quota and weights, or a file, or a game", "give a quota and weights", "names and a title belong to a quota and weights"
+        for words, more, text in [
+            ((), {}, ways), ((51, [1]), {"file": "x"}, ways), ((51,), {"file": "x"}, ways), ((None, [1]), {"file": "x"}, ways), ((), {"file": "x", "game": "y"}, ways),
+            ((51,), {}, parts), ((None, [1]), {}, parts), ((), {"game": "[1; 1]", "names": ["A"]}, belong), ((), {"game": "[1; 1]", "title": "T"}, belong), ((), {"file": "x", "names": []}, belong),
+            ((51, ["50"]), {}, "'50' is no number"), ((51, [None]), {}, "None is no number"), (("51", [50]), {}, "'5' is no number"),
+            ((51, [50]), {"names": [1.5]}, "1.5 is no name"), ((51, 50), {}, "'int' object is not iterable"),
         ]:
-            with self.assertRaises(TypeError, msg=(words, more)):
+            with self.assertRaises(TypeError, msg=(words, more)) as caught:
                 council.report(*words, **more)
-        for words, more in [((51, [50]), {"names": ["A", "B"]}), (([1, 2], [[1]]), {}), (([1, 2], [[1], [1, 2]]), {}), ((1, [1]), {"coalitions": True, "most": 0})]:
-            with self.assertRaises(ValueError, msg=(words, more)):
+            self.assertEqual(str(caught.exception), text)
+        for words, more, text in [
+            ((51, [50]), {"names": ["A", "B"]}, "there are 1 weights, and 2 names"), ((51, [50]), {"names": []}, "there are 1 weights, and 0 names"),
+            (([], []), {"names": ["A"]}, "there are 0 weights, and 1 names"), (([1, 2], [[1]]), {}, "there are 2 quotas, and 1 lists of weights"),
+            (([1, 2], [[1], [1, 2]]), {}, "the lists of weights are not equally long"), (([1, 2], [[1, 2], [1]]), {}, "the lists of weights are not equally long"),
+            ((1, [1]), {"most": 0}, "most is from 1 to 4,000,000"), ((1, [1]), {"most": 4_000_001}, "most is from 1 to 4,000,000"),
+        ]:
+            with self.assertRaises(ValueError, msg=(words, more)) as caught:
                 council.report(*words, **more)
+            self.assertEqual(str(caught.exception), text)
         with self.assertRaises(FileNotFoundError):
             council.report(file="no-such-file.toml")
 
@@ -193,12 +233,53 @@ class Reports(unittest.TestCase):
         self.assertEqual(list(two[0]), ["name", "weight_1", "weight_2", *columns])
         self.assertEqual((two[0]["weight_1"], two[0]["weight_2"]), (3, 1))
 
+    def test_headings_and_shares(self):
+        report = council.report([5, 3], [[3, 2, 2, 1], [1, 1, 1, 1]], title=" ")
+        self.assertEqual((report.title, report.heading()), (" ", "A game"))
+        self.assertEqual((report.share(report.members[0]), report.share(report.members[0], 1)), (Fraction(3, 8), Fraction(1, 4)))
+        self.assertEqual(repr(council.report(1, [1], title="T")), "<council.Report 'T': 1 members, 1 minimal winning coalitions>")
+
     def test_a_report_that_was_changed(self):
-        text = (TOP / "examples/eec-1958.tsv").read_text(encoding="utf-8")
-        for bad in ("", text[:-60], text.replace("5/24", "1/4"), text.replace("\t12\n", "\tx\n"), "quota = 1\n"):
-            with self.assertRaises(Exception) as caught:
-                Report.from_text(bad)
-            self.assertEqual(type(caught.exception).__name__, "Fault")
+        unsound, nothing = "the report is not whole, or its numbers are not those of council", "there is no report: nothing was read (was the game refused?)"
+        others = LISTED.replace("quota\t51\n", "quota\t51\r\nnotation\t[51; 50, 49, 1]\n").replace("member\t1", "size\t2\t2\t2\t1\t1\nmember\t1")
+        for it in (Report.from_text(others), Report(others.split("\n")[:-1])):
+            self.assertEqual((it.quotas, it.minimal, it.listed, [of.name for of in it.members]), ((51,), 2, 2, ["1", "2", "3"]))
+            self.assertEqual(it.coalitions, [(("1", "2"), (99,)), (("1", "3"), (51,))])
+        for old, new, text in [
+            (LISTED, "", nothing), (LISTED[LISTED.index("member\t1") :], "", unsound), (LISTED[: LISTED.index("member\t1")], "", unsound), (LISTED[-20:], "", unsound),
+            (LISTED, "quota = 1\n", "line 1"), ("member\t3\t1\t1\t", "member\t3\tx\t1\t", "line 9"),
+            ("quota\t51", "quota\t51\t1", "line 2"), ("quota\t51", "quota", "line 2"), ("quota\t51\n", "", unsound), ("quota\t51", "quota\t51/1", unsound),
+            ("quota\t51", "quota\t+51", unsound), ("quota\t51", "quota\t5_1", unsound), ("quota\t51", "quota\t\uff11", unsound),
+            # a rule without a weight
+            (LISTED, LISTED.replace("51\nt", "51/1\nt").replace("100", "100/0").replace("50\t2", "50/0\t2").replace("49\t1", "49/0\t1").replace("3\t1\t1", "3\t1/0\t1"), unsound),
+            ("members\t3", "members\t4", unsound), ("total\t100", "total\t101", unsound), ("total\t100", "total\t100/3", unsound), ("minimal\t2", "minimal\t1", unsound), ("minimal\t2", "minimal\tx", unsound),
+            ("member\t3\t1\t1\t", "member\t3\t1/1\t1\t", unsound), ("member\t3\t1\t1\t1/4\t0.250000", "member\t3\t1\t1\t1/8\t0.125000", unsound),
+            ("1/4\t0.250000\n", "1/8\t0.125000\n", unsound), ("1/2\t0.500000\t1/2\t0.500000", "1/4\t0.250000\t3/4\t0.750000", unsound), ("1/2\t0.500000\n", "1/2\t0.500001\n", "line 7"), ("1/2\t0.500000\n", "1/0\t0.500000\n", "line 7"),
+            ("1/2\t0.500000\n", "1/2\t0.500000\t\n", "line 7"), ("coalition\t2\t99", "coalition\t3\t99", "line 5"),
+        ]:
+            changed = LISTED.replace(old, new)
+            wanted = f"{text} is no line of a report of council" if text.startswith("line") else text
+            for read in (lambda it: Report(it.split("\n")[:-1]), Report.from_text):
+                with self.subTest(old=old, new=new), self.assertRaises(Fault) as caught:
+                    read(changed).coalitions
+                # (of a text, the coalitions are read last, and their lines are not counted)
+                if read != Report.from_text or text == unsound:
+                    self.assertEqual((str(caught.exception), caught.exception.status), (wanted, 1))
+        one = LISTED.replace("coalition\t2\t99\t1\t2\n", "")
+        self.assertEqual(Report(one.split("\n")[:-1]).listed, 1)
+        with self.assertRaises(Fault):
+            Report.from_text(one)
+        self.assertEqual((str(Fault("a text", 2)), Fault("a text", 2).status), ("a text", 2))
+
+    def test_coalitions_one_after_the_other(self):
+        taken = []
+        it = Report(LISTED.split("\n")[:-1], taken.append)
+        self.assertEqual((taken, it.coalitions, it.listed), ([(("1", "2"), (99,)), (("1", "3"), (51,))], None, 2))
+        for collects in (False, True):
+            (gc.enable if collects else gc.disable)()
+            kept = Report.from_text(LISTED).coalitions
+            self.assertEqual(gc.isenabled(), collects)
+        self.assertIs(kept[0].members[0], kept[1].members[0])
 
     def test_threads_at_once(self):
         wanted = [council.report(12, [4, 4, 4, 2, 2, 1], title=str(at)) for at in range(8)]
@@ -277,6 +358,231 @@ class Reports(unittest.TestCase):
         two = council.report(frame.sum() // 2 + 1, [frame[it] for it in frame], names=frame.index)
         self.assertEqual(list(pandas.DataFrame(two.rows())["weight_1"]), [3, 2, 2, 1])
 
+
+def make_library(status, data):
+    """Returns a library whose call answers so, and a list of what it was asked."""
+    asked = []
+
+    def call(text, size, options, place, room, length):
+        asked.append((text[:size], [getattr(options._obj, it) for it, _ in engine.Options._fields_], room, threading.current_thread().daemon))
+        ctypes.memmove(place, data, min(len(data), room))
+        length._obj.value = len(data)
+        return status
+
+    library = engine.Library.__new__(engine.Library)
+    library._call = call
+    return library, asked
+
+
+class Engines(unittest.TestCase):
+    """How the library and the program are found and asked."""
+
+    def compute(self, library, *words, **more):
+        with mock.patch.object(engine, "find_library", lambda: library):
+            return engine.compute(*words, **more)
+
+    def test_what_the_library_is_asked(self):
+        for size, more, options, rooms in [
+            (9, {}, [0, True, False, False, False], [65536]), (9, {"listed": True, "most": 7}, [7, False, True, False, False], [2**30]),
+            (65536, {}, [0, True, False, False, False], [65536]), (65537, {}, [0, True, False, False, False], [65536, 65537]),
+        ]:
+            library, asked = make_library(0, b"x" * size)
+            self.assertEqual(self.compute(library, b"[1; 1]", **more), "x" * size)
+            self.assertEqual(asked, [(b"[1; 1]", options, it, True) for it in rooms])
+            with self.assertRaises(council.NotFound):
+                self.compute(library, b"[1; 1]", program="no-such-program")
+        library._call = mock.Mock(side_effect=SystemExit("a fault"))
+        with self.assertRaisesRegex(SystemExit, "a fault"):
+            self.compute(library, b"[1; 1]")
+        with mock.patch("mmap.mmap", lambda file, room, _: b"" if (file, room) == (-1, 65536) else os.open("/none", 0)):
+            self.assertEqual(engine.reserve(2**30), (b"", 65536))
+            with self.assertRaisesRegex(MemoryError, "out of memory"):
+                engine.reserve(65537)
+
+    def test_what_the_library_answers(self):
+        real, folder = find_program(), tempfile.TemporaryDirectory()
+        self.addCleanup(folder.cleanup)
+        broken = os.path.join(folder.name, "broken")
+        Path(broken).write_bytes(b"\x7fELF")
+        os.chmod(broken, 0o755)
+        for status, data, kind, line in [
+            (3, b"bad bracket text", council.Refused, 1), (4, b"too many minimal winning coalitions", council.TooMany, None), (1, b"no file", council.Refused, None),
+            (5, b"out of memory", MemoryError, 0), (5, b"no thread", RuntimeError, 0), (2, b"a word", RuntimeError, 0),
+        ]:
+            # the program says where and why, if there is one, and it runs
+            for program in (real, "", broken):
+                with mock.patch.dict(os.environ, COUNCIL_PROGRAM=program), self.assertRaises(kind) as caught:
+                    self.compute(make_library(status, data)[0], b"[1; 1, 1,, 1]" if status == 3 else b"[2; 1, 1, 1, 1]", listed=True, most=5)
+                it, text = caught.exception, data.decode()
+                self.assertEqual((type(it), str(it).split("\n")[0]), (kind, text))
+                if line != 0:
+                    explained = program == real and status != 1
+                    self.assertEqual((it.fault, it.status, bool(it.explanation), it.line), (text, status, explained, line if explained else None))
+        self.assertEqual([council.Refused(3, "bad", it).line for it in ("line 3, column 15: x", "line 12: x", "the line 1: x")], [3, 12, None])
+        self.assertEqual((str(council.Refused(3, "bad")), str(council.Refused(3, "bad", "a\nb"))), ("bad", "bad\na\nb"))
+
+    def test_what_the_program_answers(self):
+        with tempfile.TemporaryDirectory() as folder:
+            path = os.path.join(folder, "program")
+
+            def compute(script, **more):
+                with open(path, "w", encoding="utf-8") as it:
+                    it.write(f"#!/bin/sh\ncat\n{script}\n")
+                os.chmod(path, 0o755)
+                return engine.compute(b"game\n", program=path, **more)
+
+            self.assertEqual(compute('echo "$@"; echo note >&2'), "game\n--explain --tally\n")
+            self.assertEqual(compute('echo "$@"', listed=True, most=7), "game\n--explain --list --most 7\n")
+            for script, kind, text in [
+                ("exit 7", RuntimeError, f"{path} ended with status 7"), ("kill -9 $$", RuntimeError, f"{path} ended with status -9"), ("echo council: no thread >&2; exit 5", RuntimeError, "no thread"),
+                ("echo council: out of memory >&2; exit 5", MemoryError, "out of memory"), ("echo a fault >&2; exit 1", council.Refused, "a fault"), ("exit 4", council.TooMany, f"{path} ended with status 4"),
+                ("printf 'council: bad\\n  line 3: \\377\\n  why\\n' >&2; exit 3", council.Refused, "bad\nline 3: \ufffd\nwhy"),
+            ]:
+                with self.assertRaises(kind, msg=script) as caught:
+                    compute(script)
+                self.assertEqual((type(caught.exception), str(caught.exception)), (kind, text))
+                self.assertEqual(getattr(caught.exception, "explanation", ""), text.partition("\n")[2])
+
+    @contextlib.contextmanager
+    def laid_out(self, files, clone=False, **variables):
+        """Makes a folder with these files, home/bin for the package and bin as the PATH."""
+        with tempfile.TemporaryDirectory() as folder:
+            top = os.path.realpath(folder)
+            for it in ["home/bin/x", "bin/x", *files]:
+                path = Path(top, it.rstrip("-"))
+                path.parent.mkdir(parents=True, exist_ok=True)
+                launches = it.endswith("/council") and f"{it[:-7]}tools/built.sh" in files
+                path.write_bytes(b"#!/bin/sh\n" if launches or it == "script/it" else b"\x7fELF")
+                path.chmod(0o644 if it.endswith("-") else 0o755)
+            Path(top, "bin/link").symlink_to(f"{top}/clone/council")
+            if "launcher" in variables:
+                Path(top, "bin/council").symlink_to(f"{top}/{variables.pop('launcher')}/council")
+            found = {it: value.replace("TOP", top) for it, value in variables.items()}
+            kept = {it: value for it, value in os.environ.items() if it not in ("COUNCIL_PROGRAM", "COUNCIL_LIBRARY")}
+            with mock.patch.dict(os.environ, {**kept, "PATH": f"{top}/bin", **found}, clear=True):
+                with mock.patch.multiple(engine, HOME=f"{top}/home/bin", CLONE=f"{top}/clone" if clone else None):
+                    yield top
+
+    def test_where_the_program_is(self):
+        script, built, never = ["clone/council", "clone/tools/built.sh"], "clone/crates/council/out/council", "the program of TOP/clone was never built: run TOP/clone/council once, which takes 7 to 20 minutes"
+        none = "the program council was not found on the PATH"
+        for files, named, more, wanted in [
+            (["bin/council"], None, {}, "TOP/bin/council"), (["bin/council"], "council", {}, "TOP/bin/council"), ([], None, {}, none), ([], "it", {}, "it: no program of that name was found"),
+            # a launcher of a clone is never run
+            ([*script, built], "TOP/clone/council", {}, f"TOP/{built}"), ([*script, built], "link", {}, f"TOP/{built}"), (script, "link", {}, never), ([*script, built + "-"], "link", {}, never),
+            ([*script, built], None, {"launcher": "clone"}, f"TOP/{built}"), (script, None, {"launcher": "clone"}, never), (["clone/tools/built.sh", "clone/it"], "TOP/clone/it", {}, "TOP/clone/it"),
+            (["script/it"], "TOP/script/it", {}, "TOP/script/it"),
+            # the variable, the package, the archive, the clone
+            (["bin/council"], None, {"COUNCIL_PROGRAM": ""}, "COUNCIL_PROGRAM is empty"), (["bin/council", "it"], None, {"COUNCIL_PROGRAM": "TOP/it"}, "TOP/it"),
+            (["bin/council", "it"], "TOP/it", {"COUNCIL_PROGRAM": ""}, "TOP/it"), (["bin/council", "home/bin/council"], None, {}, "TOP/home/bin/council"),
+            (["bin/council", "home/bin/council-"], None, {}, "TOP/bin/council"), (["bin/council", "home/bin/council/x"], None, {}, "TOP/bin/council"),
+            (["bin/council", "home/council", "home/PROVED"], None, {}, "TOP/home/council"), (["bin/council", "home/council"], None, {}, "TOP/bin/council"),
+            (["bin/council", "home/council", "home/PROVED", "home/tools/built.sh"], None, {}, "TOP/bin/council"),
+            ([*script, built], None, {"clone": True}, f"TOP/{built}"), (["bin/council", *script, built], None, {"clone": True}, f"TOP/{built}"), (["bin/council", *script], None, {"clone": True}, "TOP/bin/council"),
+            (script, None, {"clone": True}, never), (["other/council", "other/tools/built.sh", f"other{built[5:]}", *script], None, {"clone": True, "launcher": "other"}, f"TOP/other{built[5:]}"),
+        ]:
+            with self.subTest(files=files, named=named, more=more), self.laid_out(files, **more) as top:
+                try:
+                    found = engine.find_program(named and named.replace("TOP", top))
+                except council.NotFound as it:
+                    found = str(it)
+                self.assertEqual(found, wanted.replace("TOP", top))
+
+    def test_where_the_library_is(self):
+        own, its = "home/bin/libcouncil.so", "home/lib/libcouncil.so"
+        for files, more, wanted in [
+            ([], {}, None), ([own, its], {}, own), ([its], {}, its), ([own], {"COUNCIL_LIBRARY": ""}, None), ([own, "it"], {"COUNCIL_LIBRARY": "TOP/it"}, "it"),
+        ]:
+            with self.subTest(files=files, more=more), self.laid_out(files, **more) as top:
+                # (it is no library, which is as if it were for another system)
+                if "COUNCIL_LIBRARY" not in more:
+                    self.assertIsNone(find_library())
+                with mock.patch.object(engine, "load_library", lambda path: path):
+                    self.assertEqual(find_library(), wanted and f"{top}/{wanted}")
+        with tempfile.TemporaryDirectory() as folder, mock.patch.object(engine, "__file__", f"{folder}/a.pyz/council/engine.py"):
+            self.assertEqual(engine.find_home(), os.path.realpath(folder))
+
+
+class Parts(unittest.TestCase):
+    """The functions that the package and its tools share, on values worked out by hand."""
+
+    def check_rows(self, function, *rows):
+        for *words, wanted in rows:
+            self.assertEqual(function(*words), wanted, (function, words))
+
+    def test_numbers(self):
+        half = Fraction(1, 2)
+        self.check_rows(reports.cut_off, (Fraction(2, 3), "0.666666"), (Fraction(0), "0.000000"), (half, 0, "0"), (25 * half, 1, "12.5"), (Fraction(1, 8), 2, "0.12"))
+        self.check_rows(reports.round_half_up, (Fraction(1, 8), 2, "0.13"), (Fraction(31, 250), 2, "0.12"), (half, 0, "1"), (Fraction(2, 5), 0, "0"), (199 * half, 0, "100"))
+        self.check_rows(reports.write_fraction, (Fraction(0), "0/1"), (half, "1/2"))
+        self.check_rows(reports.read_numbers, ("0", (0,)), ("12/7", (12, 7)))
+        for it in ("", "+1", "-1", " 1", "1_0", "\uff11", "\xb2", "1/"):
+            with self.assertRaises(ValueError, msg=it):
+                reports.read_numbers(it)
+        self.check_rows(game.write_grouped, ([1234567, 12], "1,234,567/12"))
+        self.check_rows(Unit("", True, 2).write, (1650, "16.50%"), (5, "0.05%"))
+        self.check_rows(Unit(places=1).write, (12345678, "1,234,567.8"))
+        self.check_rows(Unit().write, (1234567, "1,234,567"), (0, "0"))
+        self.check_rows(Unit("", True, 2).is_share_of, (10000, True), (9999, False))
+        self.check_rows(Unit("", True).is_share_of, (100, True))
+        self.check_rows(Unit(places=2).is_share_of, (10000, False))
+
+    def test_texts(self):
+        self.check_rows(game.quote, ('a"b\\c', '"a\\"b\\\\c"'), ("\x7f", '"\\u007F"'), ("\uffff", '"\\uFFFF"'), ("\U000e0001", '"\\U000E0001"'), ("\u4e2d \xe9", '"\u4e2d \xe9"'))
+        self.check_rows(
+            game.unquote, ('a\\"\\\\', 'a"\\'), ("\\u4e2D", "\u4e2d"), ("\\U0001F600", "\U0001f600"), ("\\ud7ff\\ue000", "\ud7ff\ue000"), ("\\ud800\\uDFFF", "\ufffd\ufffd"),
+            ("\\U0010ffff", "\U0010ffff"), ("\\U00110000", "\ufffd"),
+        )
+        self.check_rows(game.quote_for_shell, ("it's\\", "'it'\\''s\\'"), ("a\nb!'\\", "$'a\\012b\\041\\047\\134'"), ("\xe9\x7f\udcff", "$'\xe9\\177\\377'"))
+        self.check_rows(
+            game.is_text, ("x" * 64, 64, True), ("\xe9" * 32 + "x", 64, False), ("", 0, True), (" ", 1, True), ("a\x1f", 9, False), ("a\x7f", 9, False), ("a\n", 9, False), ("\x80", 9, True),
+        )
+
+    def test_game_files(self):
+        member = '\n[[member]]\nname = "A"\nweight'
+        self.check_rows(
+            game.write_game,
+            (["A"], [1], [(1,)], f"quota = 1\n{member} = 1\n"),
+            (["A", "B"], [3, 2], [(2, 1), (1, 1)], "T", ["c", "d"], f'# c\n# d\ntitle = "T"\nquotas = [3, 2]\n{member}s = [2, 1]\n{member}s = [1, 1]\n'.replace('"A"\nweights = [1', '"B"\nweights = [1')),
+        )
+        self.assertEqual(council.format_game_file(51, [50], names=[7], title="T"), f'title = "T"\nquota = 51\n{member} = 50\n'.replace('"A"', '"7"'))
+        self.assertEqual(game.write_game(["A"] * 40, [1], [(1,)] * 40, "x" * 200).count("[[member]]"), 40)
+        for words, text in [
+            (([], [1], []), "there are 0 members, and a game has 1 to 40"), ((["A"] * 41, [1], [(1,)] * 41), "there are 41 members, and a game has 1 to 40"),
+            ((["A"], [1], [(1,)], "x" * 201), "the title has more than 200 bytes, or a letter that is none to read"),
+        ]:
+            with self.assertRaises(Fault) as caught:
+                game.write_game(*words)
+            self.assertEqual(str(caught.exception), text)
+        self.check_rows(game.find_comments, ("\n # a \n\n#b\nquota = 1\n# c\n", ["a", "b"]), ("", []))
+
+    def test_units(self):
+        self.check_rows(
+            game.write_rule_comment, (1, 'a"b', True, 2, "column 3", 'Rule 1: "a\\"b", percent, 2 decimals; column 3'), (2, "", False, 1, "x", "Rule 2: 1 decimal; x"), (3, "", False, 0, "x", "Rule 3: x"),
+        )
+        for comments, units in [
+            (['Rule 1: "a\\"b", percent, 2 decimals; column 3', "Rule 2: 1 decimal; x"], [('a"b', True, 2), ("", False, 1)]), (["Rule 2: percent", "Rule 3: percent"], [("", False, 0), ("", True, 0)]),
+            (["Rule 1: 99 decimals", 'Rule 2: "b"'], [("", False, 18), ("b", False, 0)]), (["a comment", "Rule 1: 7 votes", "Rule 0: percent"], [("", False, 0)] * 2),
+            (['Rule 1: "a" percent', "Rule 2: percent2 decimals"], [("", False, 0)] * 2), (["Rule 1: 10 decimals; x", 'Rule 2: "b"; percent'], [("", False, 10), ("b", False, 0)]),
+        ]:
+            self.assertEqual([(it.name, it.percent, it.places) for it in game.read_units(comments, 2)], units)
+        self.assertEqual([it.percent for it in game.read_units(["Rule 4: percent"], 4)], [False, False, False, True])
+
+    def test_the_game_of_a_report(self):
+        if sys.version_info < (3, 11):
+            self.skipTest("this Python reads no TOML")
+        one, two = (51, [50, 49, 1]), ([5, 3], [[3, 2, 2, 1], [1, 1, 1, 1]])
+        for it in (one, two):
+            game.check_same(council.format_game_file(*it), council.report(*it))
+        report = council.report(*one)
+        game.check_same(" [ 51; 50, 49, 1]", report)
+        for text, fault in [
+            ("quota = ", "this is no game file"), ("quota = 51\n", "this is no game file"), ("quota = 51\nmember = [1]\n", "this is no game file"), (council.format_game_file(52, one[1]), "this is not the game of the report"),
+            (council.format_game_file(51, [50, 48, 2]), "this is not the game of the report"), (council.format_game_file(*one, names="ABC"), "this is not the game of the report"),
+        ]:
+            with self.assertRaises(Fault, msg=text) as caught:
+                game.check_same(text, report)
+            self.assertEqual(str(caught.exception), fault)
 
 class Lines(unittest.TextTestResult):
     """Prints a line for each test."""

@@ -29,7 +29,11 @@ show <- function(it) {
 its <- lapply(commandArgs(TRUE), function(path) show(council(file = path)))
 called <- readLines("names.txt", encoding = "UTF-8")
 hard <- council(c(length(called) - 1, 1), cbind(rep(1, length(called)), 1), names = called, title = "a \\"title\\" \\\\", coalitions = TRUE)
-its <- c(its, list(show(hard), paste(c("coalition", attr(hard, "coalitions")[[1]]), collapse = "\\t")))
+latin <- "name = \\"\\xe9\\""
+Encoding(latin) <- "latin1"
+spelled <- council(game = c("quota = 1", "[[member]]", latin, "weight = 1"))
+its <- c(its, list(show(hard), paste(c("coalition", attr(hard, "coalitions")[[1]]), collapse = "\\t"), show(spelled)))
+its <- c(its, list(paste(identical(hard$name, called), identical(spelled$name, "\\u00e9"))))
 out <- file("seen.txt", "wb")
 writeLines(unlist(its), out, useBytes = TRUE)
 close(out)
@@ -73,7 +77,9 @@ def is_close(text, exact):
 def compare(locale, games):
     """Runs the script in a locale, and compares what it saw with the reports."""
     words = ["Rscript", "--vanilla", "show.R", *(path for path, _ in games)]
-    ran = subprocess.run(words, cwd=TEMP, env={**os.environ, "LC_ALL": locale, "COUNCIL_PROGRAM": PROGRAM}, capture_output=True)
+    # (the names of the package's own files are quoted for the shell)
+    env = {**os.environ, "LC_ALL": locale, "COUNCIL_PROGRAM": PROGRAM, "TMPDIR": f"{TEMP}/a folder"}
+    ran = subprocess.run(words, cwd=TEMP, env=env, capture_output=True)
     if ran.returncode:
         case(f"R, {locale}: games", False, ran.stderr.decode("utf-8", "replace"))
         return
@@ -92,8 +98,11 @@ def compare(locale, games):
     same(f"R, {locale}: {len(games)} games", found, wanted)
     case(f"R, {locale}: both indices as numbers", close)
     same(f"R, {locale}: a title with quotes", seen[0], ["game", 'a "title" \\', str(len(HOSTILE))])
-    same(f"R, {locale}: hostile names", [it[0] for it in seen[1:-1]], HOSTILE)
-    case(f"R, {locale}: the first coalition", seen[-1][0] == "coalition" and seen[-1][1:] == HOSTILE[:-1], seen[-1])
+    *hard, first, _, spelled, are_same = seen[1:]
+    same(f"R, {locale}: hostile names", [it[0] for it in hard], HOSTILE)
+    same(f"R, {locale}: the first coalition", first, ["coalition", *HOSTILE[:-1]])
+    same(f"R, {locale}: a text in latin1", spelled[0], "\xe9")
+    same(f"R, {locale}: names are those of R", are_same, ["TRUE TRUE"])
 
 
 if needs("Rscript", "R CMD check", "R, C.UTF-8: games", "R, C: games"):
@@ -105,6 +114,7 @@ if needs("Rscript", "R CMD check", "R, C.UTF-8: games", "R, C: games"):
         it.write(SCRIPT)
     with open(f"{TEMP}/names.txt", "w", encoding="utf-8", newline="\n") as it:
         it.write("".join(f"{name}\n" for name in HOSTILE))
+    os.mkdir(f"{TEMP}/a folder")
     for locale in ("C.UTF-8", "C"):
         compare(locale, games)
 done()

@@ -64,12 +64,12 @@ def report(
     if not 1 <= most <= MOST:
         raise ValueError(f"most is from 1 to {MOST:,}")
     if given[0]:
-        data = format_game_file(quota, weights, names=names, title=title).encode("utf-8", "surrogatepass")
+        data = format_game_file(quota, weights, names=names, title=title).encode()
     else:
         if names is not None or title:
             raise TypeError("names and a title belong to a quota and weights")
         data = read(file) if file is not None else game if isinstance(game, bytes) else str(game).encode("utf-8", "surrogatepass")
-    return Report.from_text(compute(data, listed=coalitions, most=most), coalitions)
+    return Report.from_text(compute(data, listed=coalitions, most=most))
 
 
 def read(path: Union[str, "os.PathLike[str]"]) -> bytes:
@@ -94,7 +94,7 @@ def format_game_file(quota: Any, weights: Any, *, names: Optional[Iterable[objec
     called = [write_name(it) for it in names] if names is not None else [str(it) for it in range(1, members + 1)]
     if len(called) != members:
         raise ValueError(f"there are {members} weights, and {len(called)} names")
-    return format_game(called, quotas, list(zip(*columns)), title)
+    return format_game(called, quotas, zip(*columns), title)
 
 
 def is_number(value: Any) -> bool:

@@ -111,8 +111,9 @@ def find_program(named: Optional[str] = None) -> str:
     top = find_launched(found) if found else None
     if found and not top:
         return found
-    if CLONE or top:
-        return find_built(top or CLONE or "")
+    clone = top or CLONE
+    if clone:
+        return find_built(clone)
     return fail("the program council was not found on the PATH")
 
 

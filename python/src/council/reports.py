@@ -149,18 +149,16 @@ class Report:
         return one
 
     @classmethod
-    def from_text(cls, text: str, listed: bool = False) -> Report:
-        """Returns the report in a text. Its coalitions, if it was asked to list them, are read when
-        somebody first looks at them."""
+    def from_text(cls, text: str) -> Report:
+        """Returns the report in a text. Its coalitions, if it lists them, are read when somebody
+        first looks at them."""
         first = text.find("\ncoalition\t") + 1
-        last = text.find("\nmember\t") + 1
-        unread = text[first:last] if 0 < first < last else ""
-        it = cls((text[:first] + text[last:] if unread else text).split("\n")[:-1], ignore)
+        last = text.find("\n", text.rfind("\ncoalition\t") + 1) + 1
+        unread = text[first:last] if first else ""
+        it = cls((text[:first] + text[last:] if unread else text).split("\n")[:-1])
         it._unread, it.listed = unread, unread.count("\n")
         if it.listed not in (0, it.minimal):
             raise Fault("the report is not whole, or its numbers are not those of council")
-        if listed and not unread:
-            it._kept = []
         return it
 
     @property
@@ -215,7 +213,7 @@ class Report:
     def _is_sound(self) -> bool:
         """Returns whether the weights of each rule add up to its total, and each index to 1."""
         rules = len(self.quotas)
-        if len(self.totals) != rules or any(len(it.weights) != rules for it in self.members):
+        if any(len(it.weights) != rules for it in self.members):
             return False
         sums = tuple(sum(it.weights[rule] for it in self.members) for rule in range(rules))
         ones = [sum(it.deegan_packel_exact for it in self.members), sum(it.public_good_exact for it in self.members)]

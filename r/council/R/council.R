@@ -21,7 +21,7 @@ council <- function(quota, weights, names = NULL, title = "", file = NULL, game 
   } else if (given[2]) {
     read_bytes(file)
   } else {
-    charToRaw(enc2utf8(paste(game, collapse = "\n")))
+    charToRaw(paste(enc2utf8(as.character(game)), collapse = "\n"))
   }
   done <- run_program(find_program(program), bytes, coalitions)
   if (done$status != 0) {
@@ -76,7 +76,7 @@ refuse <- function(status, lines, bytes, call) {
   fault <- if (length(lines)) sub("^council: ", "", lines[1]) else paste("council ended with status", status)
   explanation <- sub("^  ", "", lines[-1])
   first <- regmatches(explanation[1], regexec("^line ([0-9]+)(, column [0-9]+)?:", explanation[1]))[[1]]
-  line <- if (length(explanation) && length(first)) as.integer(first[2]) else NA_integer_
+  line <- as.integer(first[2])
   errorCondition(
     paste(c(fault, explanation), collapse = "\n"),
     fault = fault, line = line, explanation = explanation, status = status, game = bytes,
@@ -86,7 +86,7 @@ refuse <- function(status, lines, bytes, call) {
 
 # Returns the bytes of the game file of a quota and weights.
 format_game <- function(quota, weights, names, title) {
-  columns <- if (is.list(weights)) unname(as.list(weights)) else if (is.matrix(weights)) {
+  columns <- if (is.list(weights)) weights else if (is.matrix(weights)) {
     lapply(seq_len(ncol(weights)), function(rule) weights[, rule])
   } else {
     list(weights)
@@ -124,7 +124,7 @@ find_names <- function(weights, members) {
   } else if (!is.list(weights)) {
     names(weights)
   }
-  if (is.null(own)) as.character(seq_len(members)) else own
+  if (is.null(own)) seq_len(members) else own
 }
 
 # Writes whole numbers exactly; others with their decimals, and council says what is wrong with them.

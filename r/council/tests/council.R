@@ -14,14 +14,35 @@ stopifnot(
   identical(board$coalitions, c(2, 1, 1)),
   identical(board$deegan_packel_exact, c("1/2", "1/4", "1/4")),
   identical(board$public_good, c(0.5, 0.25, 0.25)),
-  identical(attr(board, "minimal"), 2)
+  identical(attributes(board)[c("title", "quota", "total", "minimal")], list(title = "", quota = 51, total = 100, minimal = 2)),
+  is.null(attr(board, "coalitions"))
+)
+
+# the two indices differ
+parties <- council(51, c(35, 20, 15, 15, 15), title = "T")
+stopifnot(
+  identical(parties$deegan_packel_exact, c("3/10", "3/20", rep("11/60", 3))), identical(parties$deegan_packel, c(3 / 10, 3 / 20, rep(11 / 60, 3))),
+  identical(parties$public_good_exact, c("4/15", "2/15", rep("1/5", 3))), identical(parties$public_good, c(4 / 15, 2 / 15, rep(1 / 5, 3))),
+  identical(attr(parties, "title"), "T")
 )
 
 # names of the weights, and 1, 2, .. without any
 stopifnot(
   identical(council(51, c(x = 50, y = 49, z = 1))$name, c("x", "y", "z")),
   identical(council(51, c(50, 49, 1))$name, c("1", "2", "3")),
-  identical(council(game = "[51; 50, 49, 1]")$public_good_exact, board$public_good_exact)
+  identical(council(51, cbind(c(x = 50, y = 49, z = 1)))$name, c("x", "y", "z")),
+  identical(council(51, data.frame(votes = c(50, 49, 1), row.names = c("x", "y", "z")))$name, c("x", "y", "z")),
+  identical(council(51, data.frame(votes = c(1, 50, 49, 1))[2:4, , drop = FALSE])$name, c("1", "2", "3")),
+  identical(council(c(2, 1), list(votes = c(1, 1), heads = c(1, 1)))$name, c("1", "2")),
+  identical(council(51, c(50, 49, 1), names = factor(c("z", "y", "x")))$name, c("z", "y", "x")),
+  identical(council(51L, c(50L, 49L, 1L), names = c(7, 8, 9))$name, c("7", "8", "9"))
+)
+
+# a game file, its text, or its lines
+lines <- c("title = \"\"", "quota = 100000 # all", "[[member]]", "name = \"A\"", "weight = 100000")
+stopifnot(
+  identical(council(game = "[51; 50, 49, 1]")$public_good_exact, board$public_good_exact),
+  identical(council(game = lines), council(1e5, 1e5, names = "A")), identical(council(game = paste(lines, collapse = "\n")), council(game = lines))
 )
 
 # several rules, as a matrix, a data frame and a list
@@ -31,12 +52,13 @@ stopifnot(
   identical(names(two)[2:3], c("weight_1", "weight_2")),
   identical(two, council(c(5, 3), as.data.frame(votes), names = LETTERS[1:4])),
   identical(two, council(c(5, 3), list(c(3, 2, 2, 1), rep(1, 4)), names = LETTERS[1:4])),
-  identical(attr(two, "quota"), c(5, 3))
+  identical(attr(two, "quota"), c(5, 3)), identical(attr(two, "total"), c(8, 4)), identical(two$weight_1, c(3, 2, 2, 1)), identical(two$weight_2, rep(1, 4)),
+  identical(council(c(1, 2), cbind(1, 2))$weight_2, 2)
 )
 
 # the coalitions
 listed <- council(51, c(A = 50, B = 49, C = 1), coalitions = TRUE)
-stopifnot(identical(attr(listed, "coalitions"), list(c("A", "B"), c("A", "C"))))
+stopifnot(identical(attr(listed, "coalitions"), list(c("A", "B"), c("A", "C"))), length(attr(council(4, rep(1, 10), coalitions = TRUE), "coalitions")) == choose(10, 4))
 
 # more than can be listed are counted
 many <- council(20, rep(1, 40))
@@ -45,28 +67,109 @@ stopifnot(identical(attr(many, "minimal"), 137846528820), identical(many$public_
 # names with quotes, backslashes, and letters of other scripts
 hard <- c("it's", "\"q\"", "a\\b", "=1+1", "\u4e2d\u6587", "e\u0301", " ", "#", "a|b", "NA")
 stopifnot(identical(council(6, rep(1, length(hard)), names = hard)$name, enc2utf8(hard)))
+latin <- c("\xe9", "name = \"\xe9\"")
+Encoding(latin) <- "latin1"
+spelled <- council(1, 1, names = latin[1], title = latin[1])
+stopifnot(
+  identical(c(spelled$name, attr(spelled, "title")), c("\u00e9", "\u00e9")),
+  identical(council(game = c("quota = 1", "[[member]]", latin[2], "weight = 1"))$name, "\u00e9")
+)
 
 # refused games are conditions with the fault, its line and the explanation
-refused <- function(...) tryCatch(council(...), council_refused = identity)
+refused <- function(...) {
+  tryCatch({
+    council(...)
+    stop("the game was not refused")
+  }, council_refused = identity)
+}
 bad <- refused(51, c(50, 16.5))
 stopifnot(
-  inherits(bad, "council_refused"), inherits(bad, "error"), bad$fault == "bad weight of member 2", bad$status == 3,
-  bad$line == 9L, any(grepl("16.5", bad$explanation, fixed = TRUE)), grepl("multiply", conditionMessage(bad))
+  inherits(bad, "council_refused"), inherits(bad, "error"), identical(bad$fault, "bad weight of member 2"), identical(bad$status, 3L), identical(bad$line, 9L),
+  identical(bad$explanation[1], "line 9: weight = 16.5"), length(bad$explanation) > 1, any(grepl("multiply", bad$explanation)),
+  conditionMessage(bad) == paste(c(bad$fault, bad$explanation), collapse = "\n"), identical(conditionCall(bad), quote(council(...))),
+  rawToChar(bad$game) == "quota = 51\n\n[[member]]\nname = \"1\"\nweight = 50\n\n[[member]]\nname = \"2\"\nweight = 16.5\n"
 )
 stopifnot(
-  refused(200, c(50, 49))$fault == "quota out of range",
-  refused(1, rep(1, 41))$fault == "bad member list",
-  refused(1, numeric(0))$status == 3,
-  refused(2, c(1, 1), names = c("A", "A"))$fault == "member 2 repeats a name",
-  refused(1, 1, names = "A\x7f")$fault == "bad name of member 1",
-  refused(20, rep(1, 40), coalitions = TRUE)$status == 4,
-  refused(game = "[51; 50, 49,, 1]")$fault == "bad bracket text"
+  identical(refused(200, c(50, 49))$fault, "quota out of range"),
+  identical(refused(1, rep(1, 41))$fault, "bad member list"),
+  identical(refused(1, numeric(0))$status, 3L),
+  identical(refused(2, c(1, 1), names = c("A", "A"))$fault, "member 2 repeats a name"),
+  identical(refused(1, 1, names = "A\x7f")$fault, "bad name of member 1"),
+  identical(refused(1, 1, names = "A\x1f")$fault, "bad name of member 1"),
+  identical(refused(20, rep(1, 40), coalitions = TRUE)[c("status", "line")], list(status = 4L, line = NA_integer_)),
+  identical(refused(game = "[51; 50, 49,, 1]")$fault, "bad bracket text"),
+  identical(refused(game = "\nquota = ")$line, 2L),
+  identical(refused(1, c(1, Inf))$fault, "bad weight of member 2"),
+  identical(refused(1, 1234567.5)$explanation[1], "line 5: weight = 1234567.5"),
+  identical(refused(1, 0.1)$explanation[1], "line 5: weight = 0.1"),
+  identical(refused(1, 1e15)$explanation[1], "line 5: weight = 1000000000000000")
 )
 
+# a file of the greatest length, and a longer one
+path <- tempfile()
+cat(formatC("[51; 50, 49, 1]", width = -65536), file = path)
+stopifnot(identical(council(file = path)$weight, board$weight))
+cat(" ", file = path, append = TRUE)
+stopifnot(identical(refused(file = path)$fault, "the game file is longer than 65536 bytes"))
+
 # what is no game at all is an ordinary error
-fails <- function(expr) inherits(tryCatch(expr, error = identity), "simpleError")
+said <- function(expr) tryCatch({ expr; "nothing" }, council_refused = function(it) "refused", error = conditionMessage)
+ways <- "give a quota and weights, or a file, or a game"
+parts <- "give a quota and weights"
+belong <- "names and a title belong to a quota and weights"
+uneven <- "the columns of weights are not equally long"
+absent <- "the program council was not found: put it on the PATH, or name it by program ="
 stopifnot(
-  fails(council(51)), fails(council(51, c(50, NA))), fails(council(51, c("50", "1"))), fails(council(c(1, 2), c(1, 2))),
-  fails(council(51, c(50, 1), names = "A")), fails(council(file = "no-such-file.toml")), fails(council()),
-  fails(council(51, c(50, 1), file = "x")), fails(council(51, c(50, 1), program = "no-such-program"))
+  said(council()) == ways, said(council(51, c(50, 1), file = "x")) == ways, said(council(51, file = "x")) == ways, said(council(weights = 1, file = "x")) == ways,
+  said(council(file = "x", game = "[1; 1]")) == ways, said(council(51)) == parts, said(council(weights = 1)) == parts,
+  said(council(game = "[1; 1]", names = "A")) == belong, said(council(game = "[1; 1]", title = "T")) == belong, said(council(file = "x", names = "A")) == belong,
+  said(council(51, c(50, NA))) == "a weight is NA", said(council(NA_real_, 1)) == "a quota is NA", said(council(1, c("1", "1"))) == "a weight is no number",
+  said(council("1", 1)) == "a quota is no number", said(council(1, TRUE)) == "a weight is no number",
+  said(council(c(1, 2), c(1, 2))) == "there are 2 quotas, and 1 columns of weights", said(council(1, cbind(1, 1))) == "there are 1 quotas, and 2 columns of weights",
+  said(council(c(1, 2), list(c(1, 2), 1))) == uneven, said(council(c(1, 2), list(1, c(1, 2)))) == uneven, said(council(numeric(0), list())) == uneven,
+  said(council(51, c(50, 1), names = "A")) == "there are 2 weights, and 1 names", said(council(1, 1, names = c("A", "B"))) == "there are 1 weights, and 2 names",
+  said(council(1, 1, names = NA)) == "a name is NA", said(council(file = "no-such-file.toml")) == "there is no file no-such-file.toml",
+  said(council(51, c(50, 1), program = "no-such-program")) == absent
 )
+
+# which program: the one that is named, that of the option, that of the variable, the one on the PATH
+script <- function(path, line) {
+  dir.create(dirname(path), showWarnings = FALSE, recursive = TRUE)
+  writeLines(c("#!/bin/sh", line), path)
+  Sys.chmod(path)
+  invisible(path)
+}
+here <- file.path(normalizePath(tempdir()), "programs")
+real <- council:::find_program()
+words <- script(file.path(here, "words"), "echo \"council: $*\" >&2; exit 1")
+silent <- script(file.path(here, "silent"), "exit 1")
+kept <- Sys.getenv(c("PATH", "COUNCIL_PROGRAM"))
+stopifnot(
+  grepl("^--explain --tally /", refused(1, 1, program = words)$fault),
+  grepl("^--explain --list --most 4000000 /", refused(1, 1, coalitions = TRUE, program = words)$fault),
+  identical(refused(1, 1, program = silent)$fault, "council ended with status 1"), identical(refused(1, 1, program = silent)$line, NA_integer_)
+)
+Sys.setenv(COUNCIL_PROGRAM = silent)
+stopifnot(identical(refused(1, 1)$status, 1L))
+options(council.program = real)
+stopifnot(council(1, 1)$weight == 1, identical(refused(1, 1, program = silent)$status, 1L))
+options(council.program = "")
+Sys.setenv(COUNCIL_PROGRAM = "", PATH = paste(here, kept["PATH"], sep = ":"))
+stopifnot(file.symlink(real, file.path(here, "council")), council(1, 1)$weight == 1)
+do.call(Sys.setenv, as.list(kept))
+options(council.program = NULL)
+
+# a launcher of a clone is never run: the program that it has built is
+launcher <- script(file.path(here, "clone", "council"), "exit 1")
+built <- file.path(here, "clone", "crates", "council", "out", "council")
+script(file.path(here, "clone", "tools", "built.sh"), "")
+stopifnot(
+  file.copy(real, file.path(here, "clone", "copy")), council(1, 1, program = file.path(here, "clone", "copy"))$weight == 1,
+  file.symlink(launcher, file.path(here, "link")),
+  said(council(1, 1, program = file.path(here, "link"))) ==
+    paste0("the program of ", here, "/clone was never built: run ", here, "/clone/council once, which takes 7 to 20 minutes"),
+  dir.create(dirname(built), recursive = TRUE), file.symlink(real, built), council(1, 1, program = file.path(here, "link"))$weight == 1
+)
+
+# nothing is left of the runs
+stopifnot(length(list.files(tempdir(), "^(game|out|err)")) == 0)
