@@ -83,7 +83,7 @@ def choose_columns(report: Report, kinds: Iterable[str]) -> Iterator[Column]:
             yield Column(kind)
 
 
-def write_csv(report: Report, columns: Sequence[Column], places: Optional[int], decimal: str = ".") -> Iterator[str]:
+def write_csv(report: Report, columns: Sequence[Column], places: Optional[int], decimal: str) -> Iterator[str]:
     """Yields the lines of CSV. Semicolons separate the columns if the decimal sign is a comma."""
     between = "," if decimal == "." else ";"
     yield between.join(it.heading() for it in columns)
@@ -91,7 +91,7 @@ def write_csv(report: Report, columns: Sequence[Column], places: Optional[int], 
         cells = []
         for it in columns:
             text = it.write(report, member, places)
-            if it.kind == "name" and text.lstrip()[:1] in tuple("=+-@\t\r＝＋－＠"):
+            if text.lstrip()[:1] in tuple("=+-@＝＋－＠"):
                 text = "'" + text
             if it.kind in DECIMALS:
                 text = text.replace(".", decimal)
@@ -194,7 +194,7 @@ def write_json(lines: Iterable[str], places: Optional[int]) -> None:
         return json.dumps(value, indent=1, ensure_ascii=False)
 
     between = itertools.chain(["\n  "], itertools.repeat(",\n  "))
-    with tempfile.TemporaryFile("w+", encoding="utf-8", newline="\n") as coalitions:
+    with tempfile.TemporaryFile("w+", encoding="utf-8") as coalitions:
 
         def take(it: Coalition) -> None:
             coalitions.write(next(between) + text({"members": it.members, "weights": it.weights}).replace("\n", "\n  "))
