@@ -50,7 +50,6 @@ def run(main: Callable[[list[str]], None], words: list[str]) -> int:
         sys.stderr = sys.stderr or open(os.devnull, "r+", encoding="utf-8")
         cast(io.TextIOWrapper, sys.stdin).reconfigure(encoding="utf-8-sig")
         cast(io.TextIOWrapper, sys.stdout).reconfigure(encoding="utf-8", newline="\n")
-        cast(io.TextIOWrapper, sys.stderr).reconfigure(errors="backslashreplace")
         if any("\ud800" <= letter <= "\udfff" for it in words for letter in it):
             raise Fault("the command line is not UTF-8", 2)
         main(words)
