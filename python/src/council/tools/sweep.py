@@ -135,7 +135,7 @@ class Axes:
         self.top = self.step * math.ceil(top / self.step)
         # (at least three of the longest numbers have room, so there is a round one)
         most = min(6, int(WIDE / (measure(unit.write(last), SMALL) + 14)))
-        self.quotas = [int(it) for it in find_ticks(first, last, most, whole=True)]
+        self.quotas = find_ticks(first, last, most)
 
     def find_x(self, quota: int) -> float:
         return LEFT + (WIDE * (quota - self.first) / (self.last - self.first) if self.last > self.first else WIDE / 2)
