@@ -47,7 +47,8 @@ case("council-tools compare: columns stand below each other", len({it.rindex(it.
 run = Run(TOOL, stored("eu-27-nice"), stored("eu-27-lisbon"), apart=True)
 case("council-tools compare: several rules, as a user runs it", run.status == 0 and run.err == "" and "255/620/14 of 345/1,000/27" in run.out, run.err)
 
-# under two rules A and the second win, or A and the last two: 5/12, 1/4, 1/6, 1/6 and 2/5, 1/5, 1/5, 1/5
+# under two rules A and the second win, or A and the last two: the indices are 5/12, 1/4, 1/6, 1/6
+# and 2/5, 1/5, 1/5, 1/5
 first = put("two", report(write_game(["A", "e\u0301", "中文", "D"], [5000, 2], [[3000, 1], [2000, 1], [1000, 1], [1000, 1]], "A \u202e game")))
 run = Run(TOOL, first, "-", game("one", "A"), input="\ufeff" + report(write_game(["A", "中文", "x"], [3], [[1]] * 3)))
 same("council-tools compare: letters of any width, members that are not in all", (run.status, run.err, run.out.split("\n")), (0, "", [

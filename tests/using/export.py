@@ -148,7 +148,8 @@ same("latex: two rules", Run(TOOL, "latex", "--mark", "--columns", "public_good_
     "$1/5$ & B & 2,000 & 1 & 0.2857 & 0.2500 & 1 & 0.2500 \\\\",
     *(f"$1/5$ & {it} & 1,000 & 1 & 0.1429 & 0.2500 & 1 & 0.1667 \\\\" for it in "CD"),
     "\\bottomrule", "\\end{tabular}", ""])
-# a name, and what prints it letter by letter: LaTeX makes one letter of -- and of ?`, and one blank of two
+# a name, and what prints it letter by letter: LaTeX makes one letter of -- and of ?`, and one blank
+# of two
 NAMES = [
     ("\\~^<>|", r"\textbackslash{}\textasciitilde{}\textasciicircum{}\textless{}\textgreater{}\textbar{}"),
     ("&%$#_{}", r"\&\%\$\#\_\{\}"),

@@ -12,6 +12,7 @@ import subprocess
 from html.parser import HTMLParser
 
 from cases import HOSTILE, PROGRAM, TEMP, TOP, Run, case, done, fault, hostile_game, report, same
+from council.game import write_game
 
 TOOL = "page"
 VOID = ["meta", "br"]
@@ -157,7 +158,7 @@ script = re.search(r"<script>(.*)</script>", whole.out, re.S)[1]
 hashed = base64.b64encode(hashlib.sha256(script.encode()).digest()).decode()
 case("council-tools page: only its own script may run", f"<meta http-equiv=\"Content-Security-Policy\" content=\"default-src 'none'; style-src 'unsafe-inline'; script-src 'sha256-{hashed}'\">" in whole.out)
 colors = re.findall(r"--(s[0-3]|dp|pg): (#[0-9a-f]{6});", whole.out)
-same("council-tools page: a color for each bar, in light and dark", ([it for it, _ in colors], len(set(colors))), (["s0", "s1", "s2", "s3", "dp", "pg"] * 2, 12))
+same("council-tools page: a color for each bar, in light and dark", ([it for it, _ in colors], len({it for _, it in colors})), (["s0", "s1", "s2", "s3", "dp", "pg"] * 2, 12))
 
 # ---- lists of up to 100 coalitions are open, and of 1,000 whole
 for number, wanted in [(100, "<h2>Minimal winning coalitions</h2>\n<details open><summary>100 c"), (101, "<h2>Minimal winning coalitions</h2>\n<details><summary>101 c"),
@@ -192,6 +193,13 @@ subprocess.run = be_late
 case("council-tools page: a program that does not answer", "this page cannot tell." in Run(TOOL, council).out)
 subprocess.run = ran
 
+path = put("version", "#!/bin/sh\necho noise >&2\ncat\necho council 9\n")
+run = Run(TOOL, "--program", path, council, input="noise", apart=True)
+case("council-tools page: the program reads nothing, and its noise is not shown", run.err == "" and "was made: council 9. " in run.out, run.err)
+footer = whole.out[whole.out.index("<footer>") :]
+same("council-tools page: headings of the footer", re.findall("<h2>(.*?)</h2>", footer), ["What the indices are", "How they were computed", "Sources"])
+same("council-tools page: sources", [it[:28] for it in re.findall("<li>(.*?)</li>", footer)], ["J. Deegan and E. W. Packel (", "M. J. Holler (1982): Forming", "M. J. Holler and E. W. Packe"])
+
 # ---- the words
 told = Run(TOOL, "--help").out
 wanted = ["REPORT a report of council", "--game FILE the game file", "--source TEXT where", "--program PROGRAM the program", "Makes one page of HTML"]
@@ -214,6 +222,8 @@ text = html.unescape(re.sub("<[^>]*>", "", run.out))
 case("council-tools page: --game shows the source", '<p class="source">Source of the data: a &amp; b</p>' in run.out)
 case("council-tools page: --game shows each comment", run.err == "" and all(it[2:] in text for it in game.split("\n") if it.startswith("#")), text)
 case("council-tools page: --game shows names and units", "at least 85.00% of 100.00% under rule 1 (Share held) and 2 of 3 (66.67%) under rule 2 (heads)" in text and ">16.50%</td>" in run.out, text)
+heads = re.findall(r"<th[^>]*><button[^>]*>(.*?)</button>", run.out)
+same("council-tools page: no share beside percentages of 100", heads[3:6], ["<bdi>Share held</bdi>", "<bdi>heads</bdi>", "<bdi>heads</bdi>, of all"])
 file = html.unescape(re.search(r"<pre>(.*?)</pre>", run.out, re.S)[1])
 same("council-tools page: its game file is the one of --game", file, game)
 run = Run(TOOL, "--program", PROGRAM, "--source", "c", "--game", f"{TOP}/examples/eec-1958.toml", f"{TOP}/examples/eec-1958.tsv")
@@ -223,6 +233,8 @@ low = put("low.tsv", report("[5; 4, 4, 2]"))
 run = Run(TOOL, "--program", PROGRAM, low)
 case("council-tools page: a quota of at most half is warned of", "two coalitions without a common member could both win.</b>" in run.out
      and run.err == "council-tools page: the quota 5 is at most half of the total, 10: two coalitions without a common member could both win\n", run.err)
+run = Run(TOOL, input=report(write_game("AB", [1, 2], [[1, 1], [1, 1]])))
+case("council-tools page: one quota of two is at most half", "At most half" not in run.out and run.err == "council-tools page: the quota 1 of rule 1 is at most half of the total, 2\n", run.err)
 fault("council-tools page: --game of another game", Run(TOOL, "--game", path, low), 1, f"{path}: this is not the game of the report")
 fault("council-tools page: --game for one of two", Run(TOOL, "--game", path, low, low), 2, "give --game once for each report: there are 2 reports, and 1 game files")
 long = put("long.toml", "#" * 65537)

@@ -47,7 +47,7 @@ points = drawn.findall("{*}polyline")[0].get("points").split()
 case("council-tools sweep: a point for each quota", len(points) == 17 and points[0].split(",")[0] == "60.00" and points[-1].split(",")[0] == "620.00", points)
 
 
-# ---- a picture, byte for byte: A has two votes of three, so 1/2, 1, 1/2 of the index at the quotas 1, 2, 3
+# ---- a picture, byte for byte: A has two votes of three, so 1/2, 1 and 1/2 of the index
 def text(x, y, it, size, anchor, more):
     return f'<text x="{x}.00" y="{y}.00" font-size="{size}" text-anchor="{anchor}" xml:space="preserve"{more}>{it}</text>'
 
@@ -73,7 +73,7 @@ picture("small.svg", "A game", 702, 454, [
     f'<path class="leader" d="M620.00 244.00L660 244.00h12" fill="none" {FIRST}/>', text(676, 248, "A", 12, "start", MEMBER),
     f'<polyline points="60.00,244.00 340.00,424.00 620.00,244.00" fill="none" {SECOND}/>',
     f'<path class="leader" d="M620.00 244.00L660 262.00h12" fill="none" {SECOND}/>', text(676, 266, "B", 12, "start", MEMBER)])
-# 100 letters t in bold are 952 wide, with 8 on each side; under the second rule the quota is 3 of 4 members: each has 1/4, of 0.25, and is in one label of two rows
+# 100 letters t in bold are 952 wide, with 8 on each side; each of four members has 1/4 of the index
 names = [it * 16 for it in "KLMN"]
 LONG = f"""# Rule 2: "heads", 1 decimal
 title = "{'t' * 100} u"
@@ -208,7 +208,7 @@ def count(number, out, err, times):
     return err.getvalue()
 
 
-# after 1.25 s for 2 of 2,000 it takes 1,248.75 s for the others; the last step is 13/64 s after the second
+# after 1.25 s for 2 of 2,000 the others take 1,248.75 s; the last step is 13/64 s after the second
 TIMES, LINE = [101, 101.25, 101.375, 101.453125], "\rcouncil-tools sweep: {} of 2,000 quotas, some {} s left\x1b[K"
 same("council-tools sweep: how far it is", count(2000, io.StringIO(), Screen(), TIMES), LINE.format(2, "1,249") + LINE.format(4, "725") + "\r\x1b[K")
 same("council-tools sweep: nothing in the first second", count(2000, io.StringIO(), Screen(), [100.5, 101]), "")

@@ -211,7 +211,7 @@ def write_json(lines: Iterable[str], places: Optional[int]) -> None:
 
 def main(args: list[str]) -> None:
     reader = Words("export", __doc__)
-    reader.add_argument("format", metavar="FORMAT", nargs="?", default="", help="csv, json, latex or markdown")
+    reader.add_argument("format", metavar="FORMAT", nargs="?", help="csv, json, latex or markdown")
     add_report(reader)
     reader.add_argument("--columns", metavar="NAME,..", help="the columns of a table, in this order")
     reader.add_argument("--decimals", metavar="N", type=int, choices=range(1, 31),

@@ -203,7 +203,7 @@ def main(args: list[str]) -> None:
     reader.add_argument("--step", metavar="N", type=int, default=1, help="from one quota to the next; else 1")
     reader.add_argument("--picture", metavar="FILE", help="also draw the sweep, as an SVG file")
     reader.add_argument("--index", choices=sorted(KINDS), default="public_good", help="the index that is drawn; else the public good index")
-    reader.add_argument("--program", metavar="PROGRAM", help="the program council; else the one of this clone or archive, or the one on the PATH")
+    reader.add_argument("--program", help="the program council; else the one of this clone or archive, or the one on the PATH")
     words = reader.parse_words(args)
     if words.game == "-":
         game = sys.stdin.buffer.read()
