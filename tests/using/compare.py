@@ -76,6 +76,7 @@ row = next(it.split() for it in run.out.split("\n") if it.startswith("Czechia"))
 case("council-tools compare: --same makes them one", run.err == "" and row[1:] == ["1", "0.250000", "0.250000", "1", "0.200000", "0.200000", "-0.050000", "-0.050000"], (run.err, row))
 for name, one, other, wanted in [
     ("accents, capitals and signs", "Côte d’Ivoire", "COTE D'IVOIRE", True),
+    ("two accents in three letters", "éáb", "eab", True),
     ("only signs", "--", "++", True),
     ("signs and letters", "--", "Abcd", False),
     ("a beginning of four letters", "Abcd efghijk", "Abcd", True),
@@ -83,7 +84,7 @@ for name, one, other, wanted in [
     ("a first word of five letters that grows", "Abcde uvwxyz", "Abcdefgh mnop", True),
     ("a first word of four letters that grows", "Abcd uvwxyz", "Abcdefgh mnop", False),
     ("a first word that does not grow", "Abcde uvwxyz", "Abcde mnop", False),
-    ("four of five letters, in their order", "vabcd", "abcdz", True),
+    ("four of six letters, and of four", "vabcdz", "abcd", True),
     ("four of six and five", "vabcd", "abcdzz", False),
     ("the same letters in another order", "abcdefgh", "efghabcd", False),
 ]:
@@ -92,6 +93,9 @@ three = [game("first", "Iceland", "Norge", "X1"), game("second", "Iceland (1)", 
 same("council-tools compare: each pair of names is told once", Run(TOOL, *three).err.split("\n"), [
     "council-tools compare: \"Iceland\" of report 1 and \"Iceland (1)\" of report 2 may be one member: --same 'Iceland' 'Iceland (1)' makes them one",
     "council-tools compare: \"Norge\" of report 1 and \"Norge.\" of report 3 may be one member: --same 'Norge' 'Norge.' makes them one", ""])
+both = game("both", "Iceland", "Iceland (1)")
+for words in [both, game("one", "Iceland")], [game("one", "Iceland"), both]:
+    same("council-tools compare: a name that both have", Run(TOOL, *words).err, "")
 for one, other in [("United Kingdom", "United States"), ("Slovakia", "Slovenia"), ("North Macedonia", "North Korea"), ("Alberta", "Belgium"), ("A", "B")]:
     run = Run(TOOL, game("one", one), game("other", other))
     case(f"council-tools compare: {one} and {other} are told apart", run.err == "", run.err)
