@@ -100,7 +100,7 @@ same("json: two rules and the coalitions, byte for byte", Run(TOOL, "json", inpu
 same("json: no title and no list, byte for byte", Run(TOOL, "json", input=of("Ł")).out, describe("Ł", None, [1], [1], [[1]], [1], ["1/1"], ["1/1"], []))
 same("json: rounded", [it["deegan_packel"] for it in json.loads(Run(TOOL, "json", "--decimals", "3", input=TWO).out)["members"]], [0.417, 0.25, 0.167, 0.167])
 os.environ.update(LC_ALL="C", PYTHONUTF8="0", PYTHONCOERCECLOCALE="0")
-same("json: a machine with another encoding", Run(TOOL, "json", input=TWO.replace("A\t", "Ł\t"), apart=True).out, wanted.replace('"A"', '"Ł"'))
+same("json: as a user runs it, on a machine with another encoding", Run(TOOL, "json", input=TWO.replace("A\t", "Ł\t"), apart=True).out, wanted.replace('"A"', '"Ł"'))
 del os.environ["PYTHONUTF8"], os.environ["PYTHONCOERCECLOCALE"]
 
 # ---- rounding, from the fractions: 2/3 up, 1/8 by a half
@@ -207,5 +207,4 @@ for name, words, data, status, text in [
     ("bytes that are no text", ["csv"], b"title\t\xff\n", 1, "what was read is not UTF-8"),
 ]:
     fault(f"council-tools export refuses {name}", Run(TOOL, *words, input=data), status, text)
-fault("council-tools export, as a user runs it, refuses another format", Run(TOOL, "excel", input=HARD, apart=True), 2, '"excel" is no format: csv, json, latex or markdown')
 done()

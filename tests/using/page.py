@@ -81,7 +81,6 @@ for name, words, status, text in [
     ("an empty standard input", [], 1, "there is no report: nothing was read (was the game refused?)"),
 ]:
     fault(f"council-tools page refuses {name}", Run(TOOL, *words), status, text)
-fault("council-tools page, as a user runs it, refuses a refused game", Run(TOOL, "-", apart=True), 1, "there is no report: nothing was read (was the game refused?)")
 
 
 # ---- a whole section: A and B win, or A, C and a
@@ -195,7 +194,7 @@ subprocess.run = ran
 
 path = put("version", "#!/bin/sh\necho noise >&2\ncat\necho council 9\n")
 run = Run(TOOL, "--program", path, council, input="noise", apart=True)
-case("council-tools page: the program reads nothing, and its noise is not shown", run.err == "" and "was made: council 9. " in run.out, run.err)
+case("council-tools page: as a user runs it, the program reads nothing, and its noise is not shown", run.err == "" and "was made: council 9. " in run.out, run.err)
 footer = whole.out[whole.out.index("<footer>") :]
 same("council-tools page: headings of the footer", re.findall("<h2>(.*?)</h2>", footer), ["What the indices are", "How they were computed", "Sources"])
 same("council-tools page: sources", [it[:28] for it in re.findall("<li>(.*?)</li>", footer)], ["J. Deegan and E. W. Packel (", "M. J. Holler (1982): Forming", "M. J. Holler and E. W. Packe"])
