@@ -191,9 +191,12 @@ shown = os.read(leader, 4096).decode()
 case("council-tools sweep: a terminal shows how far it is", re.search(r"\rcouncil-tools sweep: \d of 9 quotas, some \d s left\x1b\[K", shown) and shown.endswith("\r\x1b[K"), shown)
 
 # ---- how far it is, by a clock that the test sets
-class Screen(io.StringIO):
-    def isatty(self):
-        return True
+class Screen(io.TextIOWrapper):
+    """A terminal, or with `is_on` False a file, that shows only what was flushed."""
+
+    def __init__(self, is_on=True):
+        super().__init__(io.BytesIO(), encoding="utf-8")
+        self.isatty = lambda: is_on
 
 
 def count(number, out, err, times):
@@ -205,14 +208,14 @@ def count(number, out, err, times):
         progress.step()
     progress.end()
     sys.stdout, sys.stderr, time.monotonic = kept
-    return err.getvalue()
+    return err.buffer.getvalue().decode()
 
 
 # after 1.25 s for 2 of 2,000 the others take 1,248.75 s; the last step is 13/64 s after the second
 TIMES, LINE = [101, 101.25, 101.375, 101.453125], "\rcouncil-tools sweep: {} of 2,000 quotas, some {} s left\x1b[K"
-same("council-tools sweep: how far it is", count(2000, io.StringIO(), Screen(), TIMES), LINE.format(2, "1,249") + LINE.format(4, "725") + "\r\x1b[K")
-same("council-tools sweep: nothing in the first second", count(2000, io.StringIO(), Screen(), [100.5, 101]), "")
-for name, out, err in [("rows on a terminal", Screen(), Screen()), ("no terminal", io.StringIO(), io.StringIO())]:
+same("council-tools sweep: how far it is", count(2000, Screen(False), Screen(), TIMES), LINE.format(2, "1,249") + LINE.format(4, "725") + "\r\x1b[K")
+same("council-tools sweep: nothing in the first second", count(2000, Screen(False), Screen(), [100.5, 101]), "")
+for name, out, err in [("rows on a terminal", Screen(), Screen()), ("no terminal", Screen(False), Screen(False))]:
     same(f"council-tools sweep: nothing with {name}", count(2000, out, err, TIMES), "")
 
 # ---- the words
