@@ -93,6 +93,10 @@ picture("two rules and one decimal", Run(TOOL, "--decimals", "1", input=report(g
     *(line for at, (name, (one, two, dp, pg)) in enumerate(zip(names, VALUES)) for line in [
         text(134, 126 + 61 * at + 30, name, 12, "end"),
         *(part for row, (value, color) in enumerate([(one, GRAY), (two, GREEN), (dp, BLUE), (pg, ORANGE)]) for part in bar(142, 126 + 61 * at + 13 * row, value, color, 1))])])
+# a title has a row of 574.38 here; 59 letters t and a blank are 567.56 wide, and 60 are 577.08
+for last, rows in [(29, 1), (30, 2)]:
+    found = Run(TOOL, input=report(write_game(["A"], [1], [[1]], "t" * 30 + " " + "t" * last))).out
+    same(f"council-tools bars: a title of {rows} rows", found.count("font-weight"), rows)
 with open(f"{TEMP}/wide.toml", "w", encoding="utf-8") as it:
     it.write('# Rule 1: "' + "W" * 64 + '"\nquota = 1\nmember = [{name = "A", weight = 1}]\n')
 with open(f"{TEMP}/wide.toml", encoding="utf-8") as it:
