@@ -101,11 +101,12 @@ with open(f"{TEMP}/wide.toml", "w", encoding="utf-8") as it:
     it.write('# Rule 1: "' + "W" * 64 + '"\nquota = 1\nmember = [{name = "A", weight = 1}]\n')
 with open(f"{TEMP}/wide.toml", encoding="utf-8") as it:
     run = Run(TOOL, "--game", f"{TEMP}/wide.toml", input=report(it.read()))
-case("council-tools bars: the name of a rule has room", float(ElementTree.fromstring(run.out).get("width")) >= 22 + 64 * 11.4)
+# share of "W.."; quota 1 of 1 (100%)
+same("council-tools bars: the name of a rule has room", ElementTree.fromstring(run.out).get("width"), f"{30 + 12 * (64 * 1.05 + 19.53):.0f}")
 
 # ---- what pictures and pages share
-same("how wide letters are, in tenths of a line", [round(10 * measure(it, 1), 1) for it in ["mwMW@%—…中Ｗ\U0001f600", "iljI.,:;'|![]() ", "AÉ", "aé1-", "\u0301"]], [115.5, 67.2, 16, 27.2, 1])
-same("lines are at most so wide", wrap(["a", "a", "aaaaa", "a"], 17.81, 10), ["a a", "aaaaa", "a"])
+same("how wide letters are, in tenths of a line", [round(10 * measure(it, 1), 1) for it in ["mwMW@%—…中Ｗ\U00010000", "iljI.,:;'|![]() ", "AÉ", "aé1-", "\u0301"]], [115.5, 67.2, 16, 27.2, 1])
+same("lines are at most so wide", wrap(["a", "a", "aaaaa", "a", "a"], measure("a a", 10), 10), ["a a", "aaaaa", "a a"])
 same("no room for a blank", wrap(["a", "a"], 17.79, 10), ["a", "a"])
 same("a text as a page may hold it", escape_xml('<a b="&">\0\x85\u200e\u202e\ufdd0\ufffe\ud800\t\u00a0'), "&lt;a b=&quot;&amp;&quot;&gt;" + "\ufffd" * 7 + "\t\u00a0")
 for span in [1, 2, 4, 5, 6, 11, 12, 99, 100, 101, 60 * 10**12, *(Fraction(it) for it in ("1/3", "1/4", "1/6", "1/400", "2/7"))]:

@@ -164,7 +164,8 @@ case("council-tools sweep: lines that can be told apart", len(set(styles)) == le
 places = sorted(float(it.get("y")) - 4 for it in drawn.findall("{*}text") if it.get("class") == "member")
 case("council-tools sweep: labels do not touch", all(two - one > 17.99 for one, two in zip(places, places[1:])) and 64 <= places[0] and places[-1] + 18 <= float(drawn.get("height")) - 30, places)
 case("council-tools sweep: the picture is as high as its labels", float(drawn.get("height")) == 64 + 18 * len(styles) + 30, drawn.get("height"))
-case("council-tools sweep: the name of the rule has room", float(drawn.get("width")) >= 8 + 120 * 11.4, drawn.get("width"))
+# public good index, by the quota, "W.." (total 465)
+same("council-tools sweep: the name of the rule has room", drawn.get("width"), f"{24 + 12 * (120 * 1.05 + 27.8):.0f}")
 same("council-tools sweep: labels move down, and up from the end", spread([5, 5, 5], [2, 2, 2], 0, 10), [4, 6, 8])
 same("council-tools sweep: labels keep their order", spread([9, 0], [2, 3], 1, 10), [8, 1])
 
