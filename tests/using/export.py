@@ -99,9 +99,11 @@ wanted = describe("ABCD", "A & É", [5000, 2], [7000, 4], [[3000, 1], [2000, 1],
 same("json: two rules and the coalitions, byte for byte", Run(TOOL, "json", input=TWO).out, wanted)
 same("json: no title and no list, byte for byte", Run(TOOL, "json", input=of("Ł")).out, describe("Ł", None, [1], [1], [[1]], [1], ["1/1"], ["1/1"], []))
 same("json: rounded", [it["deegan_packel"] for it in json.loads(Run(TOOL, "json", "--decimals", "3", input=TWO).out)["members"]], [0.417, 0.25, 0.167, 0.167])
+kept = os.environ.copy()
 os.environ.update(LC_ALL="C", PYTHONUTF8="0", PYTHONCOERCECLOCALE="0")
 same("json: as a user runs it, on a machine with another encoding", Run(TOOL, "json", input=TWO.replace("A\t", "Ł\t"), apart=True).out, wanted.replace('"A"', '"Ł"'))
-del os.environ["PYTHONUTF8"], os.environ["PYTHONCOERCECLOCALE"]
+os.environ.clear()
+os.environ.update(kept)
 
 # ---- rounding, from the fractions: 2/3 up, 1/8 by a half
 same("a half is rounded upwards", Run(TOOL, "csv", "--columns", "deegan_packel", "--decimals", "2", input=report("[7; 2, 2, 2, 2]")).out, "deegan_packel\n" + "0.25\n" * 4)
