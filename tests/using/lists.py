@@ -10,7 +10,7 @@ import subprocess
 import sys
 
 from cases import HOSTILE, PROGRAM, TEMP, TOOLS, TOP, Run, case, done, fault, hostile_game, report, same
-from council.engine import Refused
+from council.engine import NotFound, Refused
 from council.game import write_game
 from council.tools import command, table
 
@@ -62,11 +62,13 @@ for words in ["-V"], ["--version"]:
 run = Run("excel")
 same("a tool that is not there", (run.status, run.err.split(": ")[:2]), (2, ["council-tools", "there is no tool excel"]))
 for letter in "\ud800\udfff":
-    same("a word that is no text", Run("table", f"a{letter}").err, "council-tools: the command line is not UTF-8\n")
+    run = Run("table", f"a{letter}")
+    same("a word that is no text", (run.status, run.err), (2, "council-tools: the command line is not UTF-8\n"))
 for letter in "\ud7ff\ue000":
     fault("a word that is a text", Run("table", f"{TEMP}/{letter}"), 1, f"{TEMP}/ : No such file or directory")
 for it, status, text in [
     (MemoryError(), 5, "out of memory"),
+    (NotFound("no program"), 1, "no program"),
     (Refused(3, "quota out of range"), 3, "council: quota out of range"),
     (Refused(3, "quota out of range", "line 1: quota = 9\nmore"), 3, "council: quota out of range; line 1: quota = 9; more"),
 ]:
