@@ -87,9 +87,14 @@ table.read_report = interrupt
 run = Run("table")
 same("council-tools, interrupted", (run.status, run.out, run.err), (130, "", ""))
 table.read_report = command.read_report
-for end, status, text in [("<&-", 1, "council-tools table: there is no report: nothing was read (was the game refused?)\n"), (f"<'{TOP}/examples/eec-1958.tsv' >&-", 0, "")]:
+GIVEN = f"<'{TOP}/examples/eec-1958.tsv'"
+for end, status, text in [
+    ("<&-", 1, "council-tools table: there is no report: nothing was read (was the game refused?)\n"),
+    (f"{GIVEN} >&-", 0, ""),
+    *[(f"{GIVEN} >/dev/full", 1, "council-tools table: output failed\n")] * os.path.exists("/dev/full"),
+]:
     ran = subprocess.run(["bash", "-c", f'exec "$@" {end}', "bash", sys.executable, TOOLS, "table"], capture_output=True)
-    same(f"council-tools table {end[-3:]}", (ran.returncode, ran.stdout, ran.stderr.decode()), (status, b"", text))
+    same(f"council-tools table {end.split(' ')[-1]}", (ran.returncode, ran.stdout, ran.stderr.decode()), (status, b"", text))
 for quotas, totals, texts in [
     ([1000], [2000], ["the quota 1,000 is at most half of the total, 2,000: two coalitions without a common member could both win"]),
     ([1001], [2001], []),
