@@ -62,10 +62,10 @@ same("csv: two rules", run.out.split("\n"), [
     *(f'"{it}",1000,1,0.142857,0.250000,1,0.166666,"1/5"' for it in "CD"), ""])
 same("csv: a share is rounded", Run(TOOL, "csv", "--columns", "share,public_good", input=of(*"ABCDEF")).out, "share,public_good\n" + "0.166667,0.166666\n" * 6)
 with open(f"{TEMP}/report.tsv", "w", encoding="utf-8") as it:
-    it.write(HARD)
+    it.write("\ufeff" + HARD)
 for form in ("csv", "json"):
     wanted = Run(TOOL, form, input=HARD).out
-    same(f"{form}: a file instead of standard input", Run(TOOL, form, "--decimal", ".", f"{TEMP}/report.tsv").out, wanted)
+    same(f"{form}: a file instead of standard input, with a byte order mark", Run(TOOL, form, "--decimal", ".", f"{TEMP}/report.tsv").out, wanted)
     same(f"{form}: standard input as -, with a byte order mark", Run(TOOL, form, "-", input="\ufeff" + HARD).out, wanted)
 
 # ---- json
