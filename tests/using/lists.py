@@ -95,6 +95,20 @@ for end, status, text in [
 ]:
     ran = subprocess.run(["bash", "-c", f'exec "$@" {end}', "bash", sys.executable, TOOLS, "table"], capture_output=True)
     same(f"council-tools table {end.split(' ')[-1]}", (ran.returncode, ran.stdout, ran.stderr.decode()), (status, b"", text))
+
+# ---- the game file of a report: 65,536 letters, and of the same game
+GAME = "\nquota = 2\nmember = [{name = 'A', weight = 2}]\n"
+for name, game, text in [
+    ("as long as it may be", "#" * (65536 - len(GAME)) + GAME, ""),
+    ("too long", "#" * (65537 - len(GAME)) + GAME, "the game file is longer than 65536 bytes"),
+    ("of another game", GAME.replace("quota = 2", "quota = 1"), "this is not the game of the report"),
+]:
+    with open(f"{TEMP}/game.toml", "w", encoding="utf-8") as it:
+        it.write(game)
+    run = Run("bars", "--game", f"{TEMP}/game.toml", input=report("[2; 2]").replace("member\t1\t", "member\tA\t"))
+    same(f"--game {name}", (run.status, run.err), (1, f"council-tools bars: {TEMP}/game.toml: {text}\n") if text else (0, ""))
+
+# ---- quotas of at most half
 for quotas, totals, texts in [
     ([1000], [2000], ["the quota 1,000 is at most half of the total, 2,000: two coalitions without a common member could both win"]),
     ([1001], [2001], []),
