@@ -201,23 +201,25 @@ class Screen(io.TextIOWrapper):
 
 
 def count(number, out, err, times):
-    """Returns what a sweep of this number of quotas shows if these are the seconds of its steps."""
+    """Returns what a sweep of this number of quotas shows, and its end, if these are the seconds of
+    its steps."""
     kept, clock = (sys.stdout, sys.stderr, time.monotonic), iter([100.0, *times])
     sys.stdout, sys.stderr, time.monotonic = out, err, lambda: next(clock)
     progress = Progress(number)
     for _ in times:
         progress.step()
+    steps = err.buffer.getvalue()
     progress.end()
     sys.stdout, sys.stderr, time.monotonic = kept
-    return err.buffer.getvalue().decode()
+    return steps.decode(), err.buffer.getvalue()[len(steps) :].decode()
 
 
 # after 1.25 s for 2 of 2,000 the others take 1,248.75 s; the last step is 13/64 s after the second
 TIMES, LINE = [101, 101.25, 101.375, 101.453125], "\rcouncil-tools sweep: {} of 2,000 quotas, some {} s left\x1b[K"
-same("council-tools sweep: how far it is", count(2000, Screen(False), Screen(), TIMES), LINE.format(2, "1,249") + LINE.format(4, "725") + "\r\x1b[K")
-same("council-tools sweep: nothing in the first second", count(2000, Screen(False), Screen(), [100.5, 101]), "")
+same("council-tools sweep: how far it is", count(2000, Screen(False), Screen(), TIMES), (LINE.format(2, "1,249") + LINE.format(4, "725"), "\r\x1b[K"))
+same("council-tools sweep: nothing in the first second", count(2000, Screen(False), Screen(), [100.5, 101]), ("", ""))
 for name, out, err in [("rows on a terminal", Screen(), Screen()), ("no terminal", Screen(False), Screen(False))]:
-    same(f"council-tools sweep: nothing with {name}", count(2000, out, err, TIMES), "")
+    same(f"council-tools sweep: nothing with {name}", count(2000, out, err, TIMES), ("", ""))
 
 # ---- the words
 told = Run(TOOL, "--help").out
