@@ -14,6 +14,7 @@ import time
 from xml.etree import ElementTree
 
 from cases import HOSTILE, PROGRAM, TEMP, TOOLS, TOP, Run, case, done, fault, hostile_game, same
+from council.game import write_game
 from council.tools.sweep import Progress, find_quotas, spread
 
 TOOL = "sweep"
@@ -166,6 +167,21 @@ case("council-tools sweep: labels do not touch", all(two - one > 17.99 for one, 
 case("council-tools sweep: the picture is as high as its labels", float(drawn.get("height")) == 64 + 18 * len(styles) + 30, drawn.get("height"))
 # public good index, by the quota, "W.." (total 465)
 same("council-tools sweep: the name of the rule has room", drawn.get("width"), f"{24 + 12 * (120 * 1.05 + 27.8):.0f}")
+# a label of four rows is 63 high; both lines end at 1/5, of 0.25
+path = put("five.toml", write_game([it * 16 for it in "KLMN"] + ["z"], [9], [[2]] * 4 + [[1]], "t" * 43 + " " + "t" * 43))
+sweep(path, "--from", "8", "--picture", f"{TEMP}/five.svg")
+drawn = ElementTree.parse(f"{TEMP}/five.svg").getroot()
+same("council-tools sweep: a label under one of four rows", [it.get("y") for it in drawn.findall("{*}text") if it.get("class") == "member"], ["158.00", "173.00", "188.00", "203.00", "221.00"])
+# the widest, MM..MM and a comma, takes 206.64 from 676 on
+same("council-tools sweep: the longest label has room", drawn.get("width"), "899")
+# a title has rows of 820, of which 86 letters t take 824.6; a label has 260, and 31 take 263
+for last, rows_of_label in [(15, 1), (16, 2)]:
+    sweep(put("two_names.toml", write_game(["t" * 15, "u" * last], [2], [[1], [1]], "t" * 43 + " " + "t" * (27 + last))), "--picture", f"{TEMP}/two.svg")
+    texts = ElementTree.parse(f"{TEMP}/two.svg").getroot().findall("{*}text")
+    same(f"council-tools sweep: {rows_of_label} rows", [sum(it.get(key) == value for it in texts) for key, value in (("class", "member"), ("font-weight", "bold"))], [rows_of_label, rows_of_label])
+sweep("-", "--from", "9", "--picture", f"{TEMP}/nine.svg", input="[9; 1, 1, 1, 1, 1, 1, 1, 1, 1]")
+same("council-tools sweep: at most five steps to the greatest index, 1/9", axis(ElementTree.parse(f"{TEMP}/nine.svg").getroot(), "index"), ["0.00", "0.05", "0.10", "0.15"])
+same("council-tools sweep: a rule of three is above half", sweep(put("three.toml", write_game("AB", [1, 2, 1], [[1, 1, 1]] * 2)), "--to", "1").err, "")
 same("council-tools sweep: labels move down, and up from the end", spread([5, 5, 5], [2, 2, 2], 0, 10), [4, 6, 8])
 same("council-tools sweep: labels keep their order", spread([9, 0], [2, 3], 1, 10), [8, 1])
 
@@ -238,6 +254,7 @@ for name, words, status, text in [
     ("a quota above the total", [COUNCIL, "--to", "18"], 3, "quota 18: council: quota out of range"),
     ("a quota of 0", [COUNCIL, "--from", "0"], 3, "quota 0: council: quota out of range"),
     ("a rule that is not there", [COUNCIL, "--rule", "2"], 2, "there is no rule 2: the game has 1"),
+    ("a rule of 0", [COUNCIL, "--rule", "0"], 2, "there is no rule 0: the game has 1"),
     ("a range of none", [COUNCIL, "--from", "5", "--to", "4"], 2, "there is no quota from 5 to 4 in steps of 1"),
     ("a step of 0", [COUNCIL, "--step", "0"], 2, "there is no quota from 1 to 17 in steps of 0"),
     ("a range without end", [COUNCIL, "--to", "99999999"], 2, "from 1 to 99999999 there are 99999999 quotas, and 20000 are the most: --from, --to and --step choose some"),
