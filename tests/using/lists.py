@@ -93,7 +93,7 @@ for end, status, text in [
     (f"{GIVEN} >&-", 0, ""),
     *[(f"{GIVEN} >/dev/full", 1, "council-tools table: output failed\n")] * os.path.exists("/dev/full"),
 ]:
-    ran = subprocess.run(["bash", "-c", f'exec "$@" {end}', "bash", sys.executable, TOOLS, "table"], capture_output=True)
+    ran = subprocess.run(["bash", "-c", f'exec "$@" {end}', "bash", sys.executable, TOOLS, "table"], capture_output=True, env={**os.environ, "PYTHONUNBUFFERED": ""})
     same(f"council-tools table {end.split(' ')[-1]}", (ran.returncode, ran.stdout, ran.stderr.decode()), (status, b"", text))
 
 # ---- the game file of a report: 65,536 letters, and of the same game
