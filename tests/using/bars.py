@@ -7,9 +7,12 @@ import os
 import re
 import subprocess
 import sys
+from fractions import Fraction
 from xml.etree import ElementTree
 
 from cases import HOSTILE, TEMP, TOOLS, TOP, Run, case, done, fault, hostile_game, report, same
+from council.game import write_game
+from council.tools.drawing import escape_xml, find_round_step, find_ticks, measure, wrap, write_percent
 
 TOOL = "bars"
 
@@ -49,6 +52,69 @@ same("council-tools bars: a file instead of standard input", Run(TOOL, f"{TOP}/e
 run = Run(TOOL, input=report("[5; 4, 4, 2]"))
 same("council-tools bars: a quota of at most half is warned of", (run.status, run.err), (0, "council-tools bars: the quota 5 is at most half of the total, 10: two coalitions without a common member could both win\n"))
 
+# ---- a picture, byte for byte: A and B win, or A and the other two; the greatest share is 3/7
+def text(x, y, it, size, anchor="start", more=""):
+    return f'<text x="{x:.2f}" y="{y:.2f}" font-size="{size}" text-anchor="{anchor}" xml:space="preserve"{more}>{it}</text>'
+
+
+def key(y, color, it):
+    return f'<rect class="key" x="8" y="{y - 9}" width="10" height="10" fill="{color}"/>' + text(22, y, it, 12)
+
+
+def bar(left, y, value, color, places):
+    """Returns the bar of a value, of which 3/7 is 460 long, and its number; a half is rounded
+    upwards."""
+    long = float(Fraction(value) * 7 / 3 * 460)
+    return [f'<rect class="bar" x="{left:.2f}" y="{y + 2.5:.2f}" width="{long:.2f}" height="8" fill="{color}"/>',
+            text(left + long + 4, y + 9.5, f"{float(Fraction(value)) + 1e-9:.{places}f}", 9)]
+
+
+def picture(name, found, title, wide, high, parts):
+    same(f"council-tools bars: {name}, byte for byte", found.split("\n"), [
+        f'<svg xmlns="http://www.w3.org/2000/svg" width="{wide}" height="{high}" viewBox="0 0 {wide} {high}" font-family="Helvetica, Arial, sans-serif" role="img">',
+        f"<title>{title}</title>", f'<rect width="{wide}" height="{high}" fill="white"/>', *parts, "</svg>", ""])
+
+
+GRAY, GREEN, BLUE, ORANGE, BOLD = "#858585", "#3f8f5b", "#33557f", "#c06a2b", ' font-weight="bold"'
+VALUES = [("3/7", "2/5", "5/12", "2/5"), ("2/7", "1/5", "1/4", "1/5"), *[("1/7", "1/5", "1/6", "1/5")] * 2]
+# the bars are from 76, 16 beside at least 60 for the names; 34.38 is for a number of four decimals
+picture("one rule", Run(TOOL, input=report("[5; 3, 2, 1, 1]")).out, "A game", 590, 292, [
+    text(8, 22, "A game", 14, more=BOLD), key(40, GRAY, "share of the votes; quota 5 of 7 (71.43%)"), key(56, BLUE, "Deegan-Packel index"), key(72, ORANGE, "public good index"),
+    *(line for at, (share, _, dp, pg) in enumerate(VALUES) for line in [
+        text(68, 92 + 48 * at + 23.5, at + 1, 12, "end"),
+        *(part for row, (value, color) in enumerate([(share, GRAY), (dp, BLUE), (pg, ORANGE)]) for part in bar(76, 92 + 48 * at + 13 * row, value, color, 4))])])
+# 100 letters t in bold are 952 wide, and a name of ten letters W is 126
+names, title = ["W" * 10, "B", "C", "D"], "t" * 100 + " u"
+game = write_game(names, [5, 3], [[3, 2], [2, 1], [1, 1], [1, 1]], title)
+picture("two rules and one decimal", Run(TOOL, "--decimals", "1", input=report(game)).out, title, 968, 378, [
+    text(8, 22, "t" * 100, 14, more=BOLD), text(8, 40, "u", 14, more=BOLD),
+    key(58, GRAY, "share of the votes, rule 1; quota 5 of 7 (71.43%)"), key(74, GREEN, "share of the votes, rule 2; quota 3 of 5 (60%)"),
+    key(90, BLUE, "Deegan-Packel index"), key(106, ORANGE, "public good index"),
+    *(line for at, (name, (one, two, dp, pg)) in enumerate(zip(names, VALUES)) for line in [
+        text(134, 126 + 61 * at + 30, name, 12, "end"),
+        *(part for row, (value, color) in enumerate([(one, GRAY), (two, GREEN), (dp, BLUE), (pg, ORANGE)]) for part in bar(142, 126 + 61 * at + 13 * row, value, color, 1))])])
+# a title has a row of 574.38 here; 59 letters t and a blank are 567.56 wide, and 60 are 577.08
+for last, rows in [(29, 1), (30, 2)]:
+    found = Run(TOOL, input=report(write_game(["A"], [1], [[1]], "t" * 30 + " " + "t" * last))).out
+    same(f"council-tools bars: a title of {rows} rows", found.count("font-weight"), rows)
+with open(f"{TEMP}/wide.toml", "w", encoding="utf-8") as it:
+    it.write('# Rule 1: "' + "W" * 64 + '"\nquota = 1\nmember = [{name = "A", weight = 1}]\n')
+with open(f"{TEMP}/wide.toml", encoding="utf-8") as it:
+    run = Run(TOOL, "--game", f"{TEMP}/wide.toml", input=report(it.read()))
+# share of "W.."; quota 1 of 1 (100%)
+same("council-tools bars: the name of a rule has room", ElementTree.fromstring(run.out).get("width"), f"{30 + 12 * (64 * 1.05 + 19.53):.0f}")
+
+# ---- what pictures and pages share
+same("how wide letters are, in tenths of a line", [round(10 * measure(it, 1), 1) for it in ["mwMW@%—…中Ｗ\U00010000", "iljI.,:;'|![]() ", "AÉ", "aé1-", "\u0301"]], [115.5, 67.2, 16, 27.2, 1])
+same("lines are at most so wide", wrap(["a", "a", "aaaaa", "a", "a"], measure("a a", 10), 10), ["a a", "aaaaa", "a a"])
+same("no room for a blank", wrap(["a", "a"], 17.79, 10), ["a", "a"])
+same("a text as a page may hold it", escape_xml('<a b="&">\0\x85\u200e\u202e\ufdd0\ufffe\ud800\t\u00a0'), "&lt;a b=&quot;&amp;&quot;&gt;" + "\ufffd" * 7 + "\t\u00a0")
+for span in [1, 2, 4, 5, 6, 11, 12, 99, 100, 101, 60 * 10**12, *(Fraction(it) for it in ("1/3", "1/4", "1/6", "1/400", "2/7"))]:
+    steps = [Fraction(it) * Fraction(10) ** power for power in range(-6, 16) for it in (1, 2, 5)]
+    same(f"round steps of {span}", [find_round_step(span, most) for most in range(1, 7)], [next(it for it in steps if it * most >= span) for most in range(1, 7)])
+same("round numbers", [find_ticks(*it) for it in [(7, 7, 3), (7, 9, 6), (1, 17, 6), (5, 20, 3), (99, 201, 6)]], [[7], [7, 8, 9], [5, 10, 15], [5, 10, 15, 20], [100, 120, 140, 160, 180, 200]])
+same("percentages", [write_percent(*it) for it in [(1, 1), (1, 2), (1, 10), (501, 1000), (12, 17), (1, 10**6)]], ["100%", "50%", "10%", "50.1%", "70.59%", "0%"])
+
 # the longest names of the examples, and any others, have room
 for name, data in [("the Bundesrat", stored("de-bundesrat")), ("hostile names", report(hostile_game(4)))]:
     root, texts = drawn(data)
@@ -62,6 +128,15 @@ case("council-tools bars: 64 letters W have room", wide >= 64 * 11.4, wide)
 same("council-tools bars: hostile names", [it.text for it in ends], [re.sub("[\ufffe\u202e\u0085]", "\ufffd", it) for it in HOSTILE])
 text = Run(TOOL, input=report(hostile_game(4))).out
 case("council-tools bars: no letter that SVG refuses, and no element of a name", not re.search("[\ufffe\uffff\u202e\x80-\x9f]", text) and "<script" not in text)
+
+# ---- the words
+told = Run(TOOL, "--help").out
+wanted = ["REPORT a report of council", "--decimals N decimals beside", "--game FILE the game file", "Draws both indices"]
+case("council-tools bars: --help", " ".join(told.split()).startswith("usage: council-tools bars [-h] [--decimals N] [--game FILE] [REPORT] ") and all(it in " ".join(told.split()) for it in wanted), told)
+case("council-tools bars: twelve decimals", ">0.416666666667</text>" in Run(TOOL, "--decimals", "12", input=report("[5; 3, 2, 1, 1]")).out)
+for number in "0", "13":
+    run = Run(TOOL, "--decimals", number, input=report("[1; 1]"))
+    case(f"council-tools bars: {number} decimals are refused", run.status == 2 and run.err.startswith(f"council-tools bars: argument --decimals: invalid choice: {number} (choose from "), run.err)
 
 # ---- what is refused
 for name, data, text in [

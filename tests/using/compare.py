@@ -10,7 +10,11 @@ import random
 import subprocess
 import sys
 
+from fractions import Fraction
+
 from cases import HOSTILE, TEMP, TOOLS, TOP, Run, case, done, fault, hostile_game, report, same
+from council.game import write_game
+from council.tools.compare import is_near, write_signed
 
 TOOL = "compare"
 
@@ -43,6 +47,25 @@ case("council-tools compare: columns stand below each other", len({it.rindex(it.
 run = Run(TOOL, stored("eu-27-nice"), stored("eu-27-lisbon"), apart=True)
 case("council-tools compare: several rules, as a user runs it", run.status == 0 and run.err == "" and "255/620/14 of 345/1,000/27" in run.out, run.err)
 
+# under two rules A and the second win, or A and the last two: the indices are 5/12, 1/4, 1/6, 1/6
+# and 2/5, 1/5, 1/5, 1/5
+first = put("two", report(write_game(["A", "e\u0301", "中文", "D"], [5000, 2], [[3000, 1], [2000, 1], [1000, 1], [1000, 1]], "A \u202e game")))
+run = Run(TOOL, first, "-", game("one", "A"), input="\ufeff" + report(write_game(["A", "中文", "x"], [3], [[1]] * 3)))
+same("council-tools compare: letters of any width, members that are not in all", (run.status, run.err, run.out.split("\n")), (0, "", [
+    "1  A   game: 5,000/2 of 7,000/4, minimal winning coalitions: 2",
+    "2  A game: 3 of 3, minimal winning coalitions: 1",
+    "3  A game: 1 of 1, minimal winning coalitions: 1",
+    "",
+    "                                 1                            2                  2 - 1                            3                  3 - 1",
+    "        weight        DP        PG   weight        DP        PG          DP         PG   weight        DP        PG          DP         PG",
+    "A      3,000/1  0.416666  0.400000        1  0.333333  0.333333   -0.083333  -0.066667        1  1.000000  1.000000   +0.583333  +0.600000",
+    "e\u0301      2,000/1  0.250000  0.200000        -         -         -           -          -        -         -         -           -          -",
+    "中文   1,000/1  0.166666  0.200000        1  0.333333  0.333333   +0.166667  +0.133333        -         -         -           -          -",
+    "D      1,000/1  0.166666  0.200000        -         -         -           -          -        -         -         -           -          -",
+    "x            -         -         -        1  0.333333  0.333333           -          -        -         -         -           -          -", ""]))
+for value, wanted in [(Fraction(0), "0.000000"), (Fraction(-1, 3 * 10**6), "0.000000"), (Fraction(1, 2 * 10**6), "+0.000001"), (Fraction(-1), "-1.000000")]:
+    same(f"council-tools compare: a difference of {value}", write_signed(value), wanted)
+
 # ---- names that look like one
 old, new = game("old", "Czech Republic", "Germany (West)", "Iceland", "Türkiye"), game("new", "Czechia", "Germany", "Norway", "turkiye", "x")
 run = Run(TOOL, old, new)
@@ -51,6 +74,28 @@ case("council-tools compare: names that look like one are told", run.status == 0
 run = Run(TOOL, old, new, "--same", "Czechia", "Czech Republic", "--same", "Germany", "Germany (West)", "--same", "Türkiye", "turkiye")
 row = next(it.split() for it in run.out.split("\n") if it.startswith("Czechia"))
 case("council-tools compare: --same makes them one", run.err == "" and row[1:] == ["1", "0.250000", "0.250000", "1", "0.200000", "0.200000", "-0.050000", "-0.050000"], (run.err, row))
+for name, one, other, wanted in [
+    ("accents, capitals and signs", "Côte d’Ivoire", "COTE D'IVOIRE", True),
+    ("two accents in three letters", "éáb", "eab", True),
+    ("only signs", "--", "++", True),
+    ("signs and letters", "--", "Abcd", False),
+    ("a beginning of four letters", "Abcd efghijk", "Abcd", True),
+    ("a beginning of three letters", "Abc defghijk", "Abc", False),
+    ("a first word of five letters that grows", "Abcde uvwxyz", "Abcdefgh mnop", True),
+    ("a first word of four letters that grows", "Abcd uvwxyz", "Abcdefgh mnop", False),
+    ("a first word that does not grow", "Abcde uvwxyz", "Abcde mnop", False),
+    ("four of six letters, and of four", "vabcdz", "abcd", True),
+    ("four of six and five", "vabcd", "abcdzz", False),
+    ("the same letters in another order", "abcdefgh", "efghabcd", False),
+]:
+    same(f"council-tools compare: {name}", (is_near(one, other), is_near(other, one)), (wanted, wanted))
+three = [game("first", "Iceland", "Norge", "X1"), game("second", "Iceland (1)", "X1"), game("third", "Iceland (1)", "Norge.", "Y2")]
+same("council-tools compare: each pair of names is told once", Run(TOOL, *three).err.split("\n"), [
+    "council-tools compare: \"Iceland\" of report 1 and \"Iceland (1)\" of report 2 may be one member: --same 'Iceland' 'Iceland (1)' makes them one",
+    "council-tools compare: \"Norge\" of report 1 and \"Norge.\" of report 3 may be one member: --same 'Norge' 'Norge.' makes them one", ""])
+both = game("both", "Iceland", "Iceland (1)")
+for words in [both, game("one", "Iceland")], [game("one", "Iceland"), both]:
+    same("council-tools compare: a name that both have", Run(TOOL, *words).err, "")
 for one, other in [("United Kingdom", "United States"), ("Slovakia", "Slovenia"), ("North Macedonia", "North Korea"), ("Alberta", "Belgium"), ("A", "B")]:
     run = Run(TOOL, game("one", one), game("other", other))
     case(f"council-tools compare: {one} and {other} are told apart", run.err == "", run.err)
@@ -81,6 +126,12 @@ for name in (it for it in names if len(it.encode()) <= 60 and sum(map(str.isalnu
     found = subprocess.run(["bash", "-c", f"printf '%s\\0' {option}"], cwd=TEMP, capture_output=True, check=False)
     same(f"council-tools compare: {name!r} in a shell", found.stdout.decode().split("\0")[:-1], ["--same", name, f"{name} 2"])
 case("council-tools compare: a shell runs none of it", not os.path.exists(f"{TEMP}/x"))
+
+# ---- the words
+told = Run(TOOL, "--help").out
+wanted = ["REPORT a report of council", "--same NAME OTHER two names", "Shows two games or more side by side"]
+case("council-tools compare: --help", " ".join(told.split()).startswith("usage: council-tools compare [-h] [--same NAME OTHER] REPORT [REPORT ...] ") and all(it in " ".join(told.split()) for it in wanted), told)
+case("council-tools compare: --same of a name that no report has", Run(TOOL, old, new, "--same", "Iceland", "nobody").status == 0)
 
 # ---- what is refused
 for name, words, text in [

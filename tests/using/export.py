@@ -12,6 +12,7 @@ import subprocess
 from fractions import Fraction
 
 from cases import HOSTILE, TEMP, TOP, Run, case, done, fault, hostile_game, needs, report, same, skipped
+from council.game import write_game
 
 TOOL = "export"
 
@@ -21,7 +22,14 @@ def stored(name):
         return it.read()
 
 
+def of(*names, title="", weight=1, words=()):
+    """Returns the report of a game in which members of these names decide together."""
+    return report(write_game(names, [len(names) * weight], [[weight]] * len(names), title), *words)
+
+
 HARD, SEVERAL = report(hostile_game()), report(hostile_game(3))
+# under two rules A and B win, or A, C and D: 5/12, 1/4, 1/6, 1/6 and 2/5, 1/5, 1/5, 1/5
+TWO = report(write_game("ABCD", [5000, 2], [[3000, 1], [2000, 1], [1000, 1], [1000, 1]], "A & É"), "--list")
 
 # ---- csv
 rows = list(csv.DictReader(io.StringIO(Run(TOOL, "csv", input=stored("eu-27-lisbon")).out)))
@@ -30,8 +38,9 @@ same("csv: a column of weights for each rule", [rows[0]["weight_1"], rows[0]["we
 run = Run(TOOL, "csv", input=HARD)
 rows = list(csv.DictReader(io.StringIO(run.out)))
 cells = [it["name"] for it in rows]
-same("csv: hostile names", [it[1:] if it[:1] == "'" else it for it in cells], HOSTILE)
-case("csv: no name is a formula", not any(it.lstrip()[:1] in "=+-@＝＋－＠" for it in cells if it.strip()), cells)
+# the first nine are formulas
+same("csv: hostile names, of which no one is a formula", cells, ["'" + it for it in HOSTILE[:9]] + HOSTILE[9:])
+same("csv: a blank in front of a formula", Run(TOOL, "csv", "--columns", "name", input=of(" =1", " 1")).out, "name\n\"' =1\"\n\" 1\"\n")
 case("csv: names and fractions stand in quotes", all(re.match(r'".*",\d+,\d+,0\.\d{6},0\.\d{6},"\d+/\d+","\d+/\d+"$', it) for it in run.out.split("\n")[1:-1]))
 same("csv: a mark in front", Run(TOOL, "csv", "--mark", input=HARD).out, "\ufeff" + run.out)
 run = Run(TOOL, "csv", "--columns", "public_good,name,share", "--decimals", "2", input=stored("ec-1973"))
@@ -43,10 +52,21 @@ hard = list(csv.DictReader(io.StringIO(Run(TOOL, "csv", "--decimal", ",", input=
 same("csv: a decimal comma, hostile names", [it["name"] for it in hard], cells)
 same("csv: the columns", Run(TOOL, "csv", input=stored("eec-1958")).out.split("\n")[:2],
      ["name,weight,coalitions,deegan_packel,public_good,deegan_packel_exact,public_good_exact", '"Germany",4,3,0.208333,0.200000,"5/24","1/5"'])
+same("csv: the last line, of a member without power", Run(TOOL, "csv", input=stored("eec-1958")).out.split("\n")[-2:], ['"Luxembourg",1,0,0.000000,0.000000,"0/1","0/1"', ""])
+# an index is cut off as in the report, and a share is rounded
+run = Run(TOOL, "csv", "--columns", "name,weight,share,coalitions,deegan_packel,public_good_exact", input=TWO)
+same("csv: two rules", run.out.split("\n"), [
+    "name,weight_1,weight_2,share_1,share_2,coalitions,deegan_packel,public_good_exact",
+    '"A",3000,1,0.428571,0.250000,2,0.416666,"2/5"',
+    '"B",2000,1,0.285714,0.250000,1,0.250000,"1/5"',
+    *(f'"{it}",1000,1,0.142857,0.250000,1,0.166666,"1/5"' for it in "CD"), ""])
+same("csv: a share is rounded", Run(TOOL, "csv", "--columns", "share,public_good", input=of(*"ABCDEF")).out, "share,public_good\n" + "0.166667,0.166666\n" * 6)
 with open(f"{TEMP}/report.tsv", "w", encoding="utf-8") as it:
-    it.write(HARD)
+    it.write("\ufeff" + HARD)
 for form in ("csv", "json"):
-    same(f"{form}: a file instead of standard input", Run(TOOL, form, f"{TEMP}/report.tsv").out, Run(TOOL, form, input=HARD).out)
+    wanted = Run(TOOL, form, input=HARD).out
+    same(f"{form}: a file instead of standard input, with a byte order mark", Run(TOOL, form, "--decimal", ".", f"{TEMP}/report.tsv").out, wanted)
+    same(f"{form}: standard input as -, with a byte order mark", Run(TOOL, form, "-", input="\ufeff" + HARD).out, wanted)
 
 # ---- json
 whole = json.loads(Run(TOOL, "json", input=stored("eu-27-nice")).out)
@@ -58,6 +78,32 @@ for key in ("deegan_packel", "public_good"):
 whole = json.loads(Run(TOOL, "json", input=report(hostile_game(), "--list")).out)
 same("json: hostile names", [it["name"] for it in whole["members"]], HOSTILE)
 case("json: the coalitions", len(whole["coalitions"]) == whole["minimal"] and set(whole["coalitions"][0]["members"]) <= set(HOSTILE))
+
+
+def describe(names, title, quotas, totals, weights, coalitions, dp, pg, listed):
+    """Returns the JSON of a report. Decimals are cut off after six."""
+    members = []
+    for name, weight, number, *exact in zip(names, weights, coalitions, dp, pg):
+        decimals = [int(Fraction(it) * 10**6) / 10**6 for it in exact]
+        pairs = [list(map(int, it.split("/"))) for it in exact]
+        members.append({"name": name, "weights": weight, "coalitions": number, "deegan_packel": decimals[0], "public_good": decimals[1],
+                        "deegan_packel_exact": pairs[0], "public_good_exact": pairs[1]})
+    value = {"title": title, "quotas": quotas, "totals": totals, "minimal": 2 if listed else 1, "members": members}
+    if listed:
+        value["coalitions"] = [{"members": list(its), "weights": weight} for its, weight in listed]
+    return json.dumps(value, indent=1, ensure_ascii=False) + "\n"
+
+
+wanted = describe("ABCD", "A & É", [5000, 2], [7000, 4], [[3000, 1], [2000, 1], [1000, 1], [1000, 1]], [2, 1, 1, 1],
+                  ["5/12", "1/4", "1/6", "1/6"], ["2/5", "1/5", "1/5", "1/5"], [("AB", [5000, 2]), ("ACD", [5000, 3])])
+same("json: two rules and the coalitions, byte for byte", Run(TOOL, "json", input=TWO).out, wanted)
+same("json: no title and no list, byte for byte", Run(TOOL, "json", input=of("Ł")).out, describe("Ł", None, [1], [1], [[1]], [1], ["1/1"], ["1/1"], []))
+same("json: rounded", [it["deegan_packel"] for it in json.loads(Run(TOOL, "json", "--decimals", "3", input=TWO).out)["members"]], [0.417, 0.25, 0.167, 0.167])
+kept = os.environ.copy()
+os.environ.update(LC_ALL="C", PYTHONUTF8="0", PYTHONCOERCECLOCALE="0")
+same("json: as a user runs it, on a machine with another encoding", Run(TOOL, "json", input=TWO.replace("A\t", "Ł\t"), apart=True).out, wanted.replace('"A"', '"Ł"'))
+os.environ.clear()
+os.environ.update(kept)
 
 # ---- rounding, from the fractions: 2/3 up, 1/8 by a half
 same("a half is rounded upwards", Run(TOOL, "csv", "--columns", "deegan_packel", "--decimals", "2", input=report("[7; 2, 2, 2, 2]")).out, "deegan_packel\n" + "0.25\n" * 4)
@@ -72,6 +118,17 @@ lines = run.out.split("\n")[:-1]
 case("markdown: each row has the same cells", all(len(re.findall(r"(?<!\\)\|", it.replace("\\\\", ""))) == 7 for it in lines), lines)
 plain = [re.sub(r"\\(.)", r"\1", it.split(" | ")[0][2:]) for it in (re.sub(r"\\\|", "\\\\\u0001", line) for line in lines[2:])]
 same("markdown: hostile names", [it.replace("\u0001", "|") for it in plain], HOSTILE)
+same("markdown: two rules, as fractions and rounded to four decimals", Run(TOOL, "markdown", "--columns", "name,weight,deegan_packel,public_good_exact", input=TWO).out.split("\n"), [
+    "| Member | Weight, rule 1 | Weight, rule 2 | Deegan-Packel | Public good |",
+    "| :-- | --: | --: | --: | --: |",
+    "| A | 3,000 | 1 | 0.4167 | 2/5 |",
+    "| B | 2,000 | 1 | 0.2500 | 1/5 |",
+    *(f"| {it} | 1,000 | 1 | 0.1667 | 1/5 |" for it in "CD"), ""])
+signs = "".join(it for it in map(chr, range(33, 127)) if not it.isalnum())
+same("markdown: the columns, and a name of all signs", Run(TOOL, "markdown", input=of(f"a {signs}")).out.split("\n"), [
+    "| Member | Weight | Deegan-Packel | Public good |",
+    "| :-- | --: | --: | --: |",
+    "| a " + "".join("\\" + it for it in signs) + " | 1 | 1.0000 | 1.0000 |", ""])
 
 # ---- commas between thousands, only where people read
 union = stored("eu-27-lisbon")
@@ -82,6 +139,32 @@ for form, wanted in [("markdown", "| Germany | 834 | 4,048,337 |"), ("latex", "G
 # ---- latex
 run = Run(TOOL, "latex", "--decimals", "3", input=stored("eec-1958"))
 case("latex: a table", "Germany & 4 & 0.208 & 0.200 \\\\\n" in run.out and run.out.endswith("\\bottomrule\n\\end{tabular}\n"), run.out)
+PACKAGES = "% \\usepackage{booktabs}, and \\usepackage[T1]{fontenc} for letters with accents"
+same("latex: two rules", Run(TOOL, "latex", "--mark", "--columns", "public_good_exact,name,weight,share,coalitions,deegan_packel", input=TWO).out.split("\n"), [
+    "% A & É", PACKAGES,
+    "\\begin{tabular}{rlrrrrrr}",
+    "\\toprule",
+    "Public good & Member & Weight, rule 1 & Weight, rule 2 & Share, rule 1 & Share, rule 2 & Coalitions & Deegan-Packel \\\\",
+    "\\midrule",
+    "$2/5$ & A & 3,000 & 1 & 0.4286 & 0.2500 & 2 & 0.4167 \\\\",
+    "$1/5$ & B & 2,000 & 1 & 0.2857 & 0.2500 & 1 & 0.2500 \\\\",
+    *(f"$1/5$ & {it} & 1,000 & 1 & 0.1429 & 0.2500 & 1 & 0.1667 \\\\" for it in "CD"),
+    "\\bottomrule", "\\end{tabular}", ""])
+# a name, and what prints it letter by letter: LaTeX makes one letter of -- and of ?`, and one blank
+# of two
+NAMES = [
+    ("\\~^<>|", r"\textbackslash{}\textasciitilde{}\textasciicircum{}\textless{}\textgreater{}\textbar{}"),
+    ("&%$#_{}", r"\&\%\$\#\_\{\}"),
+    ('"a" [b]*', r"{\char34}a{\char34} {[}b{]}{*}"),
+    (" a  b", r"\ a \ b"),
+    ("c ", "c\\ "),
+    ("-- '' `` ,, ?` !` d-", "-{}- '{}' `{}` ,{}, ?{}` !{}` d-"),
+    ("e\u0301\u0180\u0142\x9f\xa0\u017f\u0180", "é\u0180\u0142\x9f\xa0\u017f\u0180"),
+]
+NUMBERS = [f"\\ifcsname u8:\\detokenize{{{it}}}\\endcsname\\else\\expandafter\\def\\csname u8:\\detokenize{{{it}}}\\endcsname{{[U+{number}]}}\\fi"
+           for it, number in [("\x9f", "009F"), ("\u0180", "0180")]]
+same("latex: names, letter by letter", Run(TOOL, "latex", "--columns", "name", input=of(*(it for it, _ in NAMES))).out.split("\n"), [
+    PACKAGES, *NUMBERS, "\\begin{tabular}{l}", "\\toprule", "Member \\\\", "\\midrule", *(f"{it} \\\\" for _, it in NAMES), "\\bottomrule", "\\end{tabular}", ""])
 names = "latex: pdflatex prints hostile names", "latex: several rules and fractions"
 if needs("pdflatex", *names):
     hard = Run(TOOL, "latex", input=HARD).out
@@ -98,6 +181,19 @@ if needs("pdflatex", *names):
         else:
             case(name, ran.returncode == 0 and not told, told or ran.returncode)
 
+# ---- the words
+run = Run(TOOL, "--help")
+told = " ".join(run.out.split())
+wanted = ["Writes a report of council as CSV", "FORMAT csv, json", "REPORT a report of council", "--columns NAME,.. the columns", "--decimals N decimals", "--decimal {.,,} the decimal sign", "--mark a byte order mark"]
+case("export: --help", run.status == 0 and told.startswith("usage: council-tools export [-h] [--columns NAME,..] [--decimals N] [--decimal {.,,}] [--mark] [FORMAT] [REPORT] ")
+     and "\n    csv       A line for each member" in run.out and all(it in told for it in wanted), run.out)
+for number, wanted in [("1", "0.2"), ("30", "0.1" + "6" * 28 + "7")]:
+    same(f"export: --decimals {number}", Run(TOOL, "csv", "--columns", "public_good", "--decimals", number, input=of(*"ABCDEF")).out.split("\n")[1], wanted)
+for option, value in [("--decimals", "0"), ("--decimals", "31"), ("--decimal", ";")]:
+    run = Run(TOOL, "csv", option, value, input=HARD)
+    case(f"export: {option} {value} is refused", (run.status, run.out) == (2, "") and re.fullmatch(rf"council-tools export: argument {option}: invalid choice: '?{value}'? \(.*\(--help says more\)\n", run.err), run.err)
+fault("export: no option is cut short", Run(TOOL, "csv", "--col=name"), 2, "unrecognized arguments: --col=name (--help says more)")
+
 # ---- faults
 for name, words, data, status, text in [
     ("another format", ["xml"], HARD, 2, '"xml" is no format: csv, json, latex or markdown'),
@@ -113,5 +209,4 @@ for name, words, data, status, text in [
     ("bytes that are no text", ["csv"], b"title\t\xff\n", 1, "what was read is not UTF-8"),
 ]:
     fault(f"council-tools export refuses {name}", Run(TOOL, *words, input=data), status, text)
-fault("council-tools export, as a user runs it, refuses another format", Run(TOOL, "excel", input=HARD, apart=True), 2, '"excel" is no format: csv, json, latex or markdown')
 done()

@@ -3,11 +3,16 @@
 
     tests/using/council-tools page PROGRAM
 """
+import base64
+import hashlib
 import html
+import os
 import re
+import subprocess
 from html.parser import HTMLParser
 
 from cases import HOSTILE, PROGRAM, TEMP, TOP, Run, case, done, fault, hostile_game, report, same
+from council.game import write_game
 
 TOOL = "page"
 VOID = ["meta", "br"]
@@ -45,6 +50,11 @@ def put(name, text):
     return f"{TEMP}/{name}"
 
 
+def body(run):
+    """Returns the lines of a page between its head and its footer."""
+    return run.out[run.out.index("<main>") : run.out.index("<footer>")].split("\n")[1:-1]
+
+
 council, hard = put("council.tsv", report(open(f"{TOP}/examples/eec-1958.toml").read(), "--list")), put("hard.tsv", report(hostile_game(2), "--list"))
 one = Run(TOOL, "--program", PROGRAM, council)
 found = Page(one.out)
@@ -58,6 +68,8 @@ case("council-tools page: the indices, their sources, the version", all(it in on
 file = html.unescape(re.search(r"<pre>(.*?)</pre>", one.out, re.S)[1])
 same("council-tools page: its game file gives the report again", report(file), "".join(it for it in open(council) if not it.startswith("coalition")))
 two = Run(TOOL, "--program", PROGRAM, council, "-", input=open(hard, encoding="utf-8").read())
+case("council-tools page: a list of two games", "<title>2 games: power indices</title>" in two.out and '<main>\n<h1>Power indices of 2 games</h1><ul>\n<li><a href="#game1">Council of the European Economic Community, 1958</a></li><li><a href="#game2">A &lt;title&gt;' in two.out
+     and '</a></li></ul>\n<section id="game1"><h2>Council' in two.out and '<section id="game2"><h2>A &lt;title&gt;' in two.out)
 found = Page(two.out)
 case("council-tools page: two games, one of them from standard input", found.good and found.links == ["#game1", "#game2"] and found.all.count("section") == 2, found.links)
 case("council-tools page: hostile names are text", found.all.count("script") == 1 and set(SHOWN) <= set(found.texts["bdi"]), set(SHOWN) - set(found.texts["bdi"]))
@@ -69,8 +81,129 @@ for name, words, status, text in [
     ("an empty standard input", [], 1, "there is no report: nothing was read (was the game refused?)"),
 ]:
     fault(f"council-tools page refuses {name}", Run(TOOL, *words), status, text)
-fault("council-tools page, as a user runs it, refuses a refused game", Run(TOOL, "-", apart=True), 1, "there is no report: nothing was read (was the game refused?)")
 
+
+# ---- a whole section: A and B win, or A, C and a
+GAME = """# Votes & heads
+# Rule 1: "Votes", 1 decimal; column 2
+# source: nobody
+# Source: a book
+# Source: another
+title = "A & B"
+quotas = [50, 3]
+
+[[member]]
+name = "<A>"
+weights = [30, 2]
+
+[[member]]
+name = "B"
+weights = [20, 1]
+
+[[member]]
+name = "C"
+weights = [10, 1]
+
+[[member]]
+name = "a"
+weights = [10, 1]
+"""
+whole = Run(TOOL, "--program", PROGRAM, "--game", put("whole.toml", GAME), input=report(GAME, "--list"))
+HEADS = ["Member", "Deegan-Packel", "Public good", "<bdi>Votes</bdi>", "<bdi>Votes</bdi>, of all", "Weight, rule&nbsp;2", "Share, rule&nbsp;2", "Coalitions",
+         "Deegan-Packel, exactly", "Public good, exactly"]
+SHARES = ["share of &quot;Votes&quot;, rule 1", "share of the votes, rule 2", "Deegan-Packel index", "public good index"]
+COLORS = ["s0", "s1", "dp", "pg"]
+# of each member its place by name, DP, PG and the votes, then the numbers; the longest bar is 3/7
+ROWS = [
+    ("&lt;A&gt;", 0, 2, 1, 2, "0.416667", "0.400000", "3.0", "0.4286", 1, 2, "0.4000", 1, 2, "5/12", "2/5", ["1.0000", "0.9333", "0.9722", "0.9333"], ["0.4286", "0.4000", "0.4167", "0.4000"]),
+    ("B", 2, 1, 0, 1, "0.250000", "0.200000", "2.0", "0.2857", 0, 1, "0.2000", 0, 1, "1/4", "1/5", ["0.6667", "0.4667", "0.5833", "0.4667"], ["0.2857", "0.2000", "0.2500", "0.2000"]),
+    *((name, at, 0, 0, 0, "0.166667", "0.200000", "1.0", "0.1429", 0, 1, "0.2000", 0, 1, "1/6", "1/5", ["0.3333", "0.4667", "0.3889", "0.4667"], ["0.1429", "0.2000", "0.1667", "0.2000"])
+      for name, at in (("C", 3), ("a", 1))),
+]
+
+
+def lines_of(name, by_name, by_dp, by_pg, by_votes, dp, pg, votes, share, by_heads, heads, share_of_heads, by_number, number, dp_exact, pg_exact, *_):
+    dp_exact, pg_exact = ('<span class="fraction">{}<u>/</u><i>{}</i></span>'.format(*it.split("/")) for it in (dp_exact, pg_exact))
+    cells = [(by_name, f"<bdi>{name}</bdi>"), (by_dp, dp), (by_pg, pg), (by_votes, votes), (by_votes, share), (by_heads, heads), (by_heads, share_of_heads), (by_number, number),
+             (by_dp, dp_exact), (by_pg, pg_exact)]
+    return "<tr>" + "".join(f'<td data-key="{key}">{it}</td>' for key, it in cells) + "</tr>"
+
+
+def bars_of(name, longs, values):
+    tracks = (f'<div class="track" title="{what}"><span class="bar" style="width: calc((100% - 3.4rem) * {long}); background: var(--{color})"></span><span class="value">{value}</span></div>'
+              for what, long, color, value in zip(SHARES, longs, COLORS, values))
+    return [f"<div><bdi>{name}</bdi></div><div>", *tracks, "</div>"]
+
+
+same("council-tools page: a whole section", body(whole), [
+    '<section id="game1"><h1>A &amp; B</h1>',
+    "<p>A coalition wins with a weight of at least 5.0 of 7.0 (71.43%) under rule 1 (<bdi>Votes</bdi>) and 3 of 5 (60%) under rule 2. Members: 4. Minimal winning coalitions: 2.</p>",
+    '<p class="source">Source of the data: a book; another</p>',
+    '<div class="wide" tabindex="0" role="region" aria-label="Members"><table class="members"><thead><tr>',
+    "".join(f'<th scope="col"><button type="button">{it}</button></th>' for it in HEADS), "</tr></thead><tbody>",
+    *(lines_of(*it) for it in ROWS), "</tbody></table></div>",
+    "<h2>Both indices beside the shares of the votes</h2>",
+    '<ul class="keys">' + "".join(f'<li><span class="key" style="background: var(--{color})"></span>{what}</li>' for what, color in zip(SHARES, COLORS)) + "</ul>",
+    '<div class="bars">', *(line for it in ROWS for line in bars_of(it[0], *it[-2:])), "</div>",
+    "<h2>Minimal winning coalitions</h2>",
+    '<details open><summary>2 coalitions, with their weights</summary><ol class="coalitions">',
+    "<li><bdi>&lt;A&gt;</bdi>, <bdi>B</bdi> <small>(5.0 / 3)</small></li>",
+    "<li><bdi>&lt;A&gt;</bdi>, <bdi>C</bdi>, <bdi>a</bdi> <small>(5.0 / 4)</small></li>", "</ol></details>",
+    "<h2>About the data</h2>", "<p>Votes &amp; heads</p>",
+    "<ul><li>Rule 1: &quot;Votes&quot;, 1 decimal; column 2</li><li>source: nobody</li><li>Source: a book</li><li>Source: another</li></ul>",
+    "<h2>The game</h2><p>This file, put in as <code>council --tally FILE</code>, gives the numbers above again:</p>",
+    *("<details><summary>the game file</summary><pre>" + html.escape(GAME) + "</pre></details></section>").split("\n")])
+script = re.search(r"<script>(.*)</script>", whole.out, re.S)[1]
+hashed = base64.b64encode(hashlib.sha256(script.encode()).digest()).decode()
+case("council-tools page: only its own script may run", f"<meta http-equiv=\"Content-Security-Policy\" content=\"default-src 'none'; style-src 'unsafe-inline'; script-src 'sha256-{hashed}'\">" in whole.out)
+colors = re.findall(r"--(s[0-3]|dp|pg): (#[0-9a-f]{6});", whole.out)
+same("council-tools page: a color for each bar, in light and dark", ([it for it, _ in colors], len({it for _, it in colors})), (["s0", "s1", "s2", "s3", "dp", "pg"] * 2, 12))
+
+# ---- lists of up to 100 coalitions are open, and of 1,000 whole
+for number, wanted in [(100, "<h2>Minimal winning coalitions</h2>\n<details open><summary>100 c"), (101, "<h2>Minimal winning coalitions</h2>\n<details><summary>101 c"),
+                       (1000, "<h2>Minimal winning coalitions</h2>\n<details><summary>1,000 c"), (1001, "<h2>Minimal winning coalitions, the first 1,000 of 1,001</h2>\n<details><summary>1,000 c")]:
+    run = Run(TOOL, input=f"members\t1\nquota\t1\ntotal\t1\nminimal\t{number}\n" + "coalition\t1\t1\tA\n" * number + f"member\tA\t1\t{number}\t1/1\t1.000000\t1/1\t1.000000\n")
+    case(f"council-tools page: {number} coalitions", wanted in run.out and run.out.count("<small>(1)</small>") == min(number, 1000), run.err)
+run = Run(TOOL, f"{TOP}/examples/eec-1958.tsv")
+case("council-tools page: no list, no comments, no source", not re.search("coalitions<|About the data|Source of the data|At most half", run.out))
+
+# ---- the version of the program
+for name, text, wanted in [
+    ("of several lines", "echo 'council 9 <'\necho\necho x", "The program at hand when this page was made: council 9 &lt;, x. "),
+    ("that fails", "echo council 9\nexit 1", "Which version of it made the report this page cannot tell. "),
+    ("of another program", "echo counsel 9", "Which version of it made the report this page cannot tell. "),
+]:
+    path = put("version", f"#!/bin/sh\n{text}\n")
+    os.chmod(path, 0o755)
+    case(f"council-tools page: a version {name}", wanted in Run(TOOL, "--program", path, council).out)
+os.environ["COUNCIL_PROGRAM"] = f"{TEMP}/none"
+case("council-tools page: no program", "this page cannot tell." in Run(TOOL, council).out)
+fault("council-tools page: no program of that name", Run(TOOL, "--program", "no-such", council), 1, "no-such: no program of that name was found")
+os.environ["COUNCIL_PROGRAM"] = PROGRAM
+case("council-tools page: the program at hand", "The program at hand when this page was made: council " in Run(TOOL, council).out)
+ran = subprocess.run
+
+
+def be_late(words, **more):
+    raise subprocess.TimeoutExpired(words, more["timeout"])
+
+
+subprocess.run = be_late
+case("council-tools page: a program that does not answer", "this page cannot tell." in Run(TOOL, council).out)
+subprocess.run = ran
+
+path = put("version", "#!/bin/sh\necho noise >&2\ncat\necho council 9\n")
+run = Run(TOOL, "--program", path, council, input="noise", apart=True)
+case("council-tools page: as a user runs it, the program reads nothing, and its noise is not shown", run.err == "" and "was made: council 9. " in run.out, run.err)
+footer = whole.out[whole.out.index("<footer>") :]
+same("council-tools page: headings of the footer", re.findall("<h2>(.*?)</h2>", footer), ["What the indices are", "How they were computed", "Sources"])
+same("council-tools page: sources", [it[:28] for it in re.findall("<li>(.*?)</li>", footer)], ["J. Deegan and E. W. Packel (", "M. J. Holler (1982): Forming", "M. J. Holler and E. W. Packe"])
+
+# ---- the words
+told = Run(TOOL, "--help").out
+wanted = ["REPORT a report of council", "--game FILE the game file", "--source TEXT where", "--program PROGRAM the program", "Makes one page of HTML"]
+case("council-tools page: --help", " ".join(told.split()).startswith("usage: council-tools page [-h] [--game FILE] [--source TEXT] [--program PROGRAM] [REPORT ...] ")
+     and all(it in " ".join(told.split()) for it in wanted), told)
 
 # ---- the columns, and numbers as people read them
 heads = re.findall(r"<th[^>]*><button[^>]*>(.*?)</button>", one.out)
@@ -88,6 +221,8 @@ text = html.unescape(re.sub("<[^>]*>", "", run.out))
 case("council-tools page: --game shows the source", '<p class="source">Source of the data: a &amp; b</p>' in run.out)
 case("council-tools page: --game shows each comment", run.err == "" and all(it[2:] in text for it in game.split("\n") if it.startswith("#")), text)
 case("council-tools page: --game shows names and units", "at least 85.00% of 100.00% under rule 1 (Share held) and 2 of 3 (66.67%) under rule 2 (heads)" in text and ">16.50%</td>" in run.out, text)
+heads = re.findall(r"<th[^>]*><button[^>]*>(.*?)</button>", run.out)
+same("council-tools page: no share beside percentages of 100", heads[3:6], ["<bdi>Share held</bdi>", "<bdi>heads</bdi>", "<bdi>heads</bdi>, of all"])
 file = html.unescape(re.search(r"<pre>(.*?)</pre>", run.out, re.S)[1])
 same("council-tools page: its game file is the one of --game", file, game)
 run = Run(TOOL, "--program", PROGRAM, "--source", "c", "--game", f"{TOP}/examples/eec-1958.toml", f"{TOP}/examples/eec-1958.tsv")
@@ -97,6 +232,8 @@ low = put("low.tsv", report("[5; 4, 4, 2]"))
 run = Run(TOOL, "--program", PROGRAM, low)
 case("council-tools page: a quota of at most half is warned of", "two coalitions without a common member could both win.</b>" in run.out
      and run.err == "council-tools page: the quota 5 is at most half of the total, 10: two coalitions without a common member could both win\n", run.err)
+run = Run(TOOL, input=report(write_game("AB", [1, 2], [[1, 1], [1, 1]])))
+case("council-tools page: one quota of two is at most half", "At most half" not in run.out and run.err == "council-tools page: the quota 1 of rule 1 is at most half of the total, 2\n", run.err)
 fault("council-tools page: --game of another game", Run(TOOL, "--game", path, low), 1, f"{path}: this is not the game of the report")
 fault("council-tools page: --game for one of two", Run(TOOL, "--game", path, low, low), 2, "give --game once for each report: there are 2 reports, and 1 game files")
 long = put("long.toml", "#" * 65537)

@@ -3,6 +3,8 @@
 
     tests/using/council-tools sweep PROGRAM
 """
+import argparse
+import io
 import os
 import pty
 import re
@@ -12,6 +14,8 @@ import time
 from xml.etree import ElementTree
 
 from cases import HOSTILE, PROGRAM, TEMP, TOOLS, TOP, Run, case, done, fault, hostile_game, same
+from council.game import write_game
+from council.tools.sweep import Progress, find_quotas, spread
 
 TOOL = "sweep"
 
@@ -34,6 +38,7 @@ def rows(run):
 COUNCIL = f"{TOP}/examples/eec-1958.toml"
 run = sweep(COUNCIL, "--picture", f"{TEMP}/council.svg")
 case("council-tools sweep: all quotas of 1958", len(rows(run)) == 17 * 6 and "\n12\tGermany\t0.208333\t0.200000\t5/24\t1/5\n" in run.out, run.err)
+same("council-tools sweep: in the order of the quotas", [it[0] for it in rows(run)[::6]], [str(it) for it in range(1, 18)])
 same("council-tools sweep: its heading", run.out.split("\n")[0], "quota\tname\tdeegan_packel\tpublic_good\tdeegan_packel_exact\tpublic_good_exact")
 drawn = ElementTree.parse(f"{TEMP}/council.svg").getroot()
 same("council-tools sweep: one line for members with the same index", len(drawn.findall("{*}polyline")), 3)
@@ -41,6 +46,52 @@ legend = [it.text for it in drawn.findall("{*}text")]
 case("council-tools sweep: a legend", {"Germany, France, Italy", "Belgium, Netherlands", "Luxembourg"} <= set(legend), legend)
 points = drawn.findall("{*}polyline")[0].get("points").split()
 case("council-tools sweep: a point for each quota", len(points) == 17 and points[0].split(",")[0] == "60.00" and points[-1].split(",")[0] == "620.00", points)
+
+
+# ---- a picture, byte for byte: A has two votes of three, so 1/2, 1 and 1/2 of the index
+def text(x, y, it, size, anchor, more):
+    return f'<text x="{x}.00" y="{y}.00" font-size="{size}" text-anchor="{anchor}" xml:space="preserve"{more}>{it}</text>'
+
+
+def picture(name, title, wide, high, parts):
+    head = (f'<svg xmlns="http://www.w3.org/2000/svg" width="{wide}" height="{high}" viewBox="0 0 {wide} {high}" font-family="Helvetica, Arial, sans-serif" role="img">',
+            f"<title>{title}</title>", f'<rect width="{wide}" height="{high}" fill="white"/>')
+    with open(f"{TEMP}/{name}", encoding="utf-8", newline="") as it:
+        same(f"council-tools sweep: {name}, byte for byte", it.read().split("\n"), [*head, *parts, "</svg>", ""])
+
+
+BOLD, MEMBER = ' font-weight="bold"', ' class="member"'
+FIRST, SECOND = ('stroke="#33557f" stroke-width="2" stroke-dasharray=""', 'stroke="#c06a2b" stroke-width="2" stroke-dasharray=""')
+# the index 0 is at 424, and 1 at 64; label B is 18 below A
+sweep("-", "--picture", f"{TEMP}/small.svg", input='quota = 2\nmember = [{name = "A", weight = 2}, {name = "B", weight = 1}]\n')
+picture("small.svg", "A game", 702, 454, [
+    text(8, 22, "A game", 14, "start", BOLD), text(8, 42, "public good index, by the quota (total 3)", 12, "start", ""),
+    *(line for at in range(6) for line in (
+        f'<path d="M60 {424 - 72 * at}.00h560" stroke="#dddddd"/>', text(54, 428 - 72 * at, f"{at * 0.2:.1f}", 10, "end", ' class="index"'))),
+    *(line for quota, x in [(1, 60), (2, 340), (3, 620)] for line in (
+        f'<path d="M{x}.00 424.00v5" stroke="#777777"/>', text(x, 441, quota, 10, "middle", ' class="quota"'))),
+    f'<polyline points="60.00,244.00 340.00,64.00 620.00,244.00" fill="none" {FIRST}/>',
+    f'<path class="leader" d="M620.00 244.00L660 244.00h12" fill="none" {FIRST}/>', text(676, 248, "A", 12, "start", MEMBER),
+    f'<polyline points="60.00,244.00 340.00,424.00 620.00,244.00" fill="none" {SECOND}/>',
+    f'<path class="leader" d="M620.00 244.00L660 262.00h12" fill="none" {SECOND}/>', text(676, 266, "B", 12, "start", MEMBER)])
+# 100 letters t in bold are 952 wide, with 8 on each side; each of four members has 1/4 of the index
+names = [it * 16 for it in "KLMN"]
+LONG = f"""# Rule 2: "heads", 1 decimal
+title = "{'t' * 100} u"
+quotas = [1, 3]
+member = [{", ".join(f'{{name = "{it}", weights = [1, 1]}}' for it in names)}]
+"""
+sweep("-", "--rule", "2", "--from", "3", "--to", "3", "--picture", f"{TEMP}/long.svg", "--index", "deegan_packel", input="\ufeff" + LONG)
+picture("long.svg", "t" * 100 + " u", 968, 472, [
+    text(8, 22, "t" * 100, 14, "start", BOLD), text(8, 40, "u", 14, "start", BOLD),
+    text(8, 60, 'Deegan-Packel index, by the quota of rule 2, &quot;heads&quot; (total 0.4)', 12, "start", ""),
+    *(line for at in range(6) for line in (
+        f'<path d="M60 {442 - 72 * at}.00h560" stroke="#dddddd"/>', text(54, 446 - 72 * at, f"{at * 0.05:.2f}", 10, "end", ' class="index"'))),
+    '<path d="M340.00 442.00v5" stroke="#777777"/>', text(340, 459, "0.3", 10, "middle", ' class="quota"'),
+    '<circle cx="340.00" cy="82.00" r="4" fill="#33557f"/>',
+    f'<polyline points="340.00,82.00" fill="none" {FIRST}/>',
+    f'<path class="leader" d="M340.00 82.00L660 82.00h12" fill="none" {FIRST}/>',
+    *(text(676, y, it, 12, "start", MEMBER) for y, it in [(86, f"{names[0]},"), (101, f"{names[1]},"), (116, f"{names[2]},"), (131, names[3])])])
 
 
 # ---- round numbers at the axes, a label at the end of each line
@@ -105,6 +156,35 @@ run = sweep(blank, "--picture", f"{TEMP}/blank.svg")
 drawn = ElementTree.parse(f"{TEMP}/blank.svg").getroot()
 same("council-tools sweep: a title of blanks", (run.status, [it[0] for it in rows(run)], drawn.find("{*}title").text), (0, ["1"], "A game"))
 
+# ---- lines that can be told apart, labels that do not touch, and room for each text
+thirty = put("thirty.toml", '# Rule 1: "' + "W" * 120 + '"\nquota = 40\n' + "".join(f'[[member]]\nname = "{it}"\nweight = {it}\n' for it in range(1, 31)))
+sweep(thirty, "--from", "440", "--to", "460", "--picture", f"{TEMP}/thirty.svg")
+drawn = ElementTree.parse(f"{TEMP}/thirty.svg").getroot()
+styles, leads = ([(it.get("stroke"), it.get("stroke-dasharray")) for it in drawn.findall("{*}" + kind) if it.get("fill")] for kind in ("polyline", "path"))
+case("council-tools sweep: lines that can be told apart", len(set(styles)) == len(styles) > 20 and leads == styles and {it for _, it in styles[:10]} == {""}, styles)
+places = sorted(float(it.get("y")) - 4 for it in drawn.findall("{*}text") if it.get("class") == "member")
+case("council-tools sweep: labels do not touch", all(two - one > 17.99 for one, two in zip(places, places[1:])) and 64 <= places[0] and places[-1] + 18 <= float(drawn.get("height")) - 30, places)
+case("council-tools sweep: the picture is as high as its labels", float(drawn.get("height")) == 64 + 18 * len(styles) + 30, drawn.get("height"))
+# public good index, by the quota, "W.." (total 465)
+same("council-tools sweep: the name of the rule has room", drawn.get("width"), f"{24 + 12 * (120 * 1.05 + 27.8):.0f}")
+# a label of four rows is 63 high; both lines end at 1/5, of 0.25
+path = put("five.toml", write_game([it * 16 for it in "KLMN"] + ["z"], [9], [[2]] * 4 + [[1]], "t" * 43 + " " + "t" * 43))
+sweep(path, "--from", "8", "--picture", f"{TEMP}/five.svg")
+drawn = ElementTree.parse(f"{TEMP}/five.svg").getroot()
+same("council-tools sweep: a label under one of four rows", [it.get("y") for it in drawn.findall("{*}text") if it.get("class") == "member"], ["158.00", "173.00", "188.00", "203.00", "221.00"])
+# the widest, MM..MM and a comma, takes 206.64 from 676 on
+same("council-tools sweep: the longest label has room", drawn.get("width"), "899")
+# a title has rows of 820, of which 86 letters t take 824.6; a label has 260, and 31 take 263
+for last, rows_of_label in [(15, 1), (16, 2)]:
+    sweep(put("two_names.toml", write_game(["t" * 15, "u" * last], [2], [[1], [1]], "t" * 43 + " " + "t" * (27 + last))), "--picture", f"{TEMP}/two.svg")
+    texts = ElementTree.parse(f"{TEMP}/two.svg").getroot().findall("{*}text")
+    same(f"council-tools sweep: {rows_of_label} rows", [sum(it.get(key) == value for it in texts) for key, value in (("class", "member"), ("font-weight", "bold"))], [rows_of_label, rows_of_label])
+sweep("-", "--from", "9", "--picture", f"{TEMP}/nine.svg", input="[9; 1, 1, 1, 1, 1, 1, 1, 1, 1]")
+same("council-tools sweep: at most five steps to the greatest index, 1/9", axis(ElementTree.parse(f"{TEMP}/nine.svg").getroot(), "index"), ["0.00", "0.05", "0.10", "0.15"])
+same("council-tools sweep: a rule of three is above half", sweep(put("three.toml", write_game("AB", [1, 2, 1], [[1, 1, 1]] * 2)), "--to", "1").err, "")
+same("council-tools sweep: labels move down, and up from the end", spread([5, 5, 5], [2, 2, 2], 0, 10), [4, 6, 8])
+same("council-tools sweep: labels keep their order", spread([9, 0], [2, 3], 1, 10), [8, 1])
+
 # ---- on a terminal no name moves it; a file gets the name as it is
 moves = put("moves.toml", 'quota = 1\nmember = [{name = "A\\u009b2JB", weight = 1}]\n')
 same("council-tools sweep: a name that could move a terminal, to a file", rows(sweep(moves))[0][1], "A\x9b2JB")
@@ -127,11 +207,54 @@ case("council-tools sweep: rows are written as they are computed", first.split(b
 shown = os.read(leader, 4096).decode()
 case("council-tools sweep: a terminal shows how far it is", re.search(r"\rcouncil-tools sweep: \d of 9 quotas, some \d s left\x1b\[K", shown) and shown.endswith("\r\x1b[K"), shown)
 
+# ---- how far it is, by a clock that the test sets
+class Screen(io.TextIOWrapper):
+    """A terminal, or with `is_on` False a file, that shows only what was flushed."""
+
+    def __init__(self, is_on=True):
+        super().__init__(io.BytesIO(), encoding="utf-8")
+        self.isatty = lambda: is_on
+
+
+def count(number, out, err, times):
+    """Returns what a sweep of this number of quotas shows, and its end, if these are the seconds of
+    its steps."""
+    kept, clock = (sys.stdout, sys.stderr, time.monotonic), iter([100.0, *times])
+    sys.stdout, sys.stderr, time.monotonic = out, err, lambda: next(clock)
+    progress = Progress(number)
+    for _ in times:
+        progress.step()
+    steps = err.buffer.getvalue()
+    progress.end()
+    sys.stdout, sys.stderr, time.monotonic = kept
+    return steps.decode(), err.buffer.getvalue()[len(steps) :].decode()
+
+
+# after 1.25 s for 2 of 2,000 the others take 1,248.75 s; the last step is 13/64 s after the second
+TIMES, LINE = [101, 101.25, 101.375, 101.453125], "\rcouncil-tools sweep: {} of 2,000 quotas, some {} s left\x1b[K"
+same("council-tools sweep: how far it is", count(2000, Screen(False), Screen(), TIMES), (LINE.format(2, "1,249") + LINE.format(4, "725"), "\r\x1b[K"))
+same("council-tools sweep: nothing in the first second", count(2000, Screen(False), Screen(), [100.5, 101]), ("", ""))
+for name, out, err in [("rows on a terminal", Screen(), Screen()), ("no terminal", Screen(False), Screen(False))]:
+    same(f"council-tools sweep: nothing with {name}", count(2000, out, err, TIMES), ("", ""))
+
+# ---- the words
+told = Run(TOOL, "--help").out
+wanted = ["GAME a game file", "--rule N the rule", "--from QUOTA the first", "--to QUOTA the last", "--step N from one", "--picture FILE also draw", "--index {deegan_packel,public_good} the index", "--program PROGRAM the program", "Computes both indices"]
+head = ("usage: council-tools sweep [-h] [--rule N] [--from QUOTA] [--to QUOTA] [--step N] [--picture FILE] [--index {deegan_packel,public_good}] "
+        "[--program PROGRAM] [GAME] ")
+case("council-tools sweep: --help", " ".join(told.split()).startswith(head) and all(it in " ".join(told.split()) for it in wanted), told)
+with open(COUNCIL, "rb") as it:
+    same("council-tools sweep: the program at hand, and standard input without a word", len(rows(Run(TOOL, "--from", "16", input=it.read()))), 12)
+run = sweep(COUNCIL, "--index", "power")
+case("council-tools sweep: an index that is not there", run.status == 2 and run.err.startswith("council-tools sweep: argument --index: invalid choice: 'power' (choose from "), run.err)
+same("council-tools sweep: as many quotas as there may be", len(find_quotas(argparse.Namespace(first=None, last=40000, step=2), 5)), 20000)
+
 # ---- what is refused
 for name, words, status, text in [
     ("a quota above the total", [COUNCIL, "--to", "18"], 3, "quota 18: council: quota out of range"),
     ("a quota of 0", [COUNCIL, "--from", "0"], 3, "quota 0: council: quota out of range"),
     ("a rule that is not there", [COUNCIL, "--rule", "2"], 2, "there is no rule 2: the game has 1"),
+    ("a rule of 0", [COUNCIL, "--rule", "0"], 2, "there is no rule 0: the game has 1"),
     ("a range of none", [COUNCIL, "--from", "5", "--to", "4"], 2, "there is no quota from 5 to 4 in steps of 1"),
     ("a step of 0", [COUNCIL, "--step", "0"], 2, "there is no quota from 1 to 17 in steps of 0"),
     ("a range without end", [COUNCIL, "--to", "99999999"], 2, "from 1 to 99999999 there are 99999999 quotas, and 20000 are the most: --from, --to and --step choose some"),

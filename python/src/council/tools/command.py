@@ -45,12 +45,11 @@ def run(main: Callable[[list[str]], None], words: list[str]) -> int:
     """Runs a tool on its words, and returns the exit status. Each fault is one line and a status,
     never a traceback."""
     try:
-        sys.stdin = sys.stdin or open(os.devnull, encoding="utf-8")
-        sys.stdout = sys.stdout or open(os.devnull, "r+", encoding="utf-8")
+        sys.stdin = sys.stdin or open(os.devnull)
+        sys.stdout = sys.stdout or open(os.devnull, "r+")
         sys.stderr = sys.stderr or open(os.devnull, "r+", encoding="utf-8")
         cast(io.TextIOWrapper, sys.stdin).reconfigure(encoding="utf-8-sig")
         cast(io.TextIOWrapper, sys.stdout).reconfigure(encoding="utf-8", newline="\n")
-        cast(io.TextIOWrapper, sys.stderr).reconfigure(errors="backslashreplace")
         if any("\ud800" <= letter <= "\udfff" for it in words for letter in it):
             raise Fault("the command line is not UTF-8", 2)
         main(words)

@@ -47,9 +47,9 @@ def is_near(one: str, other: str) -> bool:
     """Returns whether two names may be of one member, as Czechia and Czech Republic."""
     its, others = fold(one), fold(other)
     short, long = sorted((" ".join(its), " ".join(others)), key=len)
-    if not short or short == long:
-        return short == long
-    first, grown = sorted((its[0], others[0]), key=len)
+    if not short:
+        return not long
+    first, grown = sorted((its[0], others[0]))
     begins = len(short) >= 4 and long.startswith(short)
     grows = 5 <= len(first) < len(grown) and grown.startswith(first)
     if begins or grows:
@@ -101,7 +101,7 @@ def measure(text: str) -> int:
 
 def write_table(games: Games) -> Iterator[str]:
     """Yields the lines of the table, with a heading over each group."""
-    names = list(dict.fromkeys(name for members in games for name in members))
+    names = dict.fromkeys(name for members in games for name in members)
     over = ["1"]
     for at in range(2, len(games) + 1):
         over += [str(at), f"{at} - 1"]

@@ -72,17 +72,16 @@ def write_picture(wide: float, high: float, lines: Iterable[str], title: str) ->
 def find_round_step(span: Fraction | int, most: int) -> Fraction:
     """Returns the least of 1, 2, 5, 10, .. and 0.5, 0.2, 0.1, .. of which `most` make the span or
     more."""
-    power = Fraction(10) ** (math.floor(math.log10(span / most)) - 1)
-    return next(it for it in (power * factor * ten for ten in (1, 10, 100) for factor in (1, 2, 5)) if it * most >= span)
+    power = Fraction(10) ** math.floor(math.log10(span / most))
+    return next(it for it in (power * factor for factor in (1, 2, 5, 10)) if it * most >= span)
 
 
-def find_ticks(first: int, last: int, most: int, whole: bool = False) -> list[Fraction]:
-    """Returns the round numbers from `first` to `last`, at most one more than `most`."""
+def find_ticks(first: int, last: int, most: int) -> list[int]:
+    """Returns the round whole numbers from `first` to `last`, at most one more than `most`."""
     if last == first:
-        return [Fraction(first)]
-    step = find_round_step(last - first, most)
-    step = max(step, Fraction(1)) if whole else step
-    return [step * it for it in range(math.ceil(first / step), math.floor(last / step) + 1)]
+        return [first]
+    step = math.ceil(find_round_step(last - first, most))
+    return list(range(-(-first // step) * step, last + 1, step))
 
 
 def write_percent(part: int, whole: int) -> str:

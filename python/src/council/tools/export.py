@@ -83,7 +83,7 @@ def choose_columns(report: Report, kinds: Iterable[str]) -> Iterator[Column]:
             yield Column(kind)
 
 
-def write_csv(report: Report, columns: Sequence[Column], places: Optional[int], decimal: str = ".") -> Iterator[str]:
+def write_csv(report: Report, columns: Sequence[Column], places: Optional[int], decimal: str) -> Iterator[str]:
     """Yields the lines of CSV. Semicolons separate the columns if the decimal sign is a comma."""
     between = "," if decimal == "." else ";"
     yield between.join(it.heading() for it in columns)
@@ -91,7 +91,7 @@ def write_csv(report: Report, columns: Sequence[Column], places: Optional[int], 
         cells = []
         for it in columns:
             text = it.write(report, member, places)
-            if it.kind == "name" and text.lstrip()[:1] in tuple("=+-@\t\r＝＋－＠"):
+            if text.lstrip()[:1] in tuple("=+-@＝＋－＠"):
                 text = "'" + text
             if it.kind in DECIMALS:
                 text = text.replace(".", decimal)
@@ -194,7 +194,7 @@ def write_json(lines: Iterable[str], places: Optional[int]) -> None:
         return json.dumps(value, indent=1, ensure_ascii=False)
 
     between = itertools.chain(["\n  "], itertools.repeat(",\n  "))
-    with tempfile.TemporaryFile("w+", encoding="utf-8", newline="\n") as coalitions:
+    with tempfile.TemporaryFile("w+", encoding="utf-8") as coalitions:
 
         def take(it: Coalition) -> None:
             coalitions.write(next(between) + text({"members": it.members, "weights": it.weights}).replace("\n", "\n  "))
@@ -211,7 +211,7 @@ def write_json(lines: Iterable[str], places: Optional[int]) -> None:
 
 def main(args: list[str]) -> None:
     reader = Words("export", __doc__)
-    reader.add_argument("format", metavar="FORMAT", nargs="?", default="", help="csv, json, latex or markdown")
+    reader.add_argument("format", metavar="FORMAT", nargs="?", help="csv, json, latex or markdown")
     add_report(reader)
     reader.add_argument("--columns", metavar="NAME,..", help="the columns of a table, in this order")
     reader.add_argument("--decimals", metavar="N", type=int, choices=range(1, 31),

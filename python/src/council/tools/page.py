@@ -284,9 +284,9 @@ def read(path: str, game: Optional[str], source: Optional[str]) -> Section:
 def main(args: list[str]) -> None:
     reader = Words("page", __doc__)
     reader.add_argument("reports", metavar="REPORT", nargs="*", help="a report of council; without one, or as -, standard input")
-    reader.add_argument("--game", metavar="FILE", action="append", default=[], help="the game file of a report, once for each in their order")
+    reader.add_argument("--game", metavar="FILE", action="append", help="the game file of a report, once for each in their order")
     reader.add_argument("--source", metavar="TEXT", help="where the data come from")
-    reader.add_argument("--program", metavar="PROGRAM", help="the program whose version the page names; else the one of this clone or archive, or the one on the PATH")
+    reader.add_argument("--program", help="the program whose version the page names; else the one of this clone or archive, or the one on the PATH")
     words = reader.parse_words(args)
     words.reports = words.reports or ["-"]
     if words.game and len(words.game) != len(words.reports):

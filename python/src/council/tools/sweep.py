@@ -133,8 +133,9 @@ class Axes:
         self.first, self.last, self.high, self.up, self.unit = first, last, high, 0.0, unit
         self.step = find_round_step(top, 5)
         self.top = self.step * math.ceil(top / self.step)
-        most = max(1, min(6, int(WIDE / (measure(unit.write(last), SMALL) + 14))))
-        self.quotas = [int(it) for it in find_ticks(first, last, most, whole=True)] or [first]
+        # (at least three of the longest numbers have room, so there is a round one)
+        most = min(6, int(WIDE / (measure(unit.write(last), SMALL) + 14)))
+        self.quotas = find_ticks(first, last, most)
 
     def find_x(self, quota: int) -> float:
         return LEFT + (WIDE * (quota - self.first) / (self.last - self.first) if self.last > self.first else WIDE / 2)
@@ -179,7 +180,7 @@ def draw(start: Report, rule: int, reports: Sequence[tuple[int, Report]], kind: 
     quotas, right = [quota for quota, _ in reports], LEFT + WIDE + 60.0
     ends = [axes.find_y(values[-1]) for values in lines]
     for at, (values, label, end, y) in enumerate(zip(lines, labels, ends, spread(ends, heights, axes.up, axes.up + axes.high))):
-        style = f'stroke="{COLORS[at % len(COLORS)]}" stroke-width="2" stroke-dasharray="{DASHES[at // len(COLORS) % len(DASHES)]}"'
+        style = f'stroke="{COLORS[at % len(COLORS)]}" stroke-width="2" stroke-dasharray="{DASHES[at // len(COLORS)]}"'
         points = [axes.find_point(quota, it) for quota, it in zip(quotas, values)]
         x = axes.find_x(quotas[-1])
         if len(points) == 1:
@@ -202,7 +203,7 @@ def main(args: list[str]) -> None:
     reader.add_argument("--step", metavar="N", type=int, default=1, help="from one quota to the next; else 1")
     reader.add_argument("--picture", metavar="FILE", help="also draw the sweep, as an SVG file")
     reader.add_argument("--index", choices=sorted(KINDS), default="public_good", help="the index that is drawn; else the public good index")
-    reader.add_argument("--program", metavar="PROGRAM", help="the program council; else the one of this clone or archive, or the one on the PATH")
+    reader.add_argument("--program", help="the program council; else the one of this clone or archive, or the one on the PATH")
     words = reader.parse_words(args)
     if words.game == "-":
         game = sys.stdin.buffer.read()
