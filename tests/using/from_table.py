@@ -91,6 +91,7 @@ gives("a first line sep= with a quote", ["3"], 'sep="\nA,1\nB,2\n', "3", ["1", "
 gives("another separator after sep=", ["3"], "sep=|\r\nA, x|1\r\nB, y|2\r\n", "3", ["1", "2"])
 gives("the total below", [">50%", "--no-total"], "A,1\nB,2\nTotal,3\n", "2", ["1", "2"])
 gives("a member that is named as a total", ["4", "--all-rows"], "A,1\nB,2\nTotal,3\n", "4", ["1", "2", "3"])
+gives("a decimal sign that a later number tells", ["3", "--round", "0"], "A;1,000\nB;2.5\n", "3", ["1000", "3"])
 gives("a decimal sign that is told", ["1", "--decimal", ","], 'A,"1,000"\nB,2\n', "1", ["1", "2"])
 gives("columns by their headings", ["3", "--name", "who", "--weight", "votes"], "no,who,share,votes\n1,A,0.3,1\n2,B,0.7,2\n", "3", ["1", "2"])
 gives("columns by their numbers", ["3", "--name", "2", "--weight", "1"], "1,A\n2,B\n", "3", ["1", "2"])
@@ -134,6 +135,7 @@ gives("--no-total, below", ["60%", "--no-total"], "A,5\nB,3\nC,1\nRazem,9\n", "6
 gives("--no-total, above", ["60%", "--no-total"], "World,9\nA,5\nB,3\nC,1\n", "6", ["5", "3", "1"])
 gives("--all-rows", ["60%", "--all-rows"], "A,5\nB,3\nC,1\nWorld,9\n", "11", ["5", "3", "1", "9"])
 gives("a total above in one column of two", ["60%", "60%", "--no-total"], "All votes,9,\nA,5,1\nB,3,1\nC,1,2\n", "[6, 3]", ["[5, 1]", "[3, 1]", "[1, 2]"])
+gives("a total in one column of two, below a heading", ["4", "1", "--no-total"], "Name,Votes,Seats\nA,3,1\nB,2,1\nTotal,5,\n", "[4, 1]", ["[3, 1]", "[2, 1]"])
 gives("a total in one column of two", ["60%", "60%", "--no-total"], "A,5,1\nB,3,1\nC,1,2\nAll votes,9,\n", "[6, 3]", ["[5, 1]", "[3, 1]", "[1, 2]"])
 fault("a total in one column of two is asked about", game("60%", "60%", table="A,5,1\nB,3,1\nC,1,2\nx,9,\n"), 1, f'line 4, "x", is the sum of all others: {ASKS}')
 for name, table in [("percent", "A,33%\nB,33%\nC,33%\nx,100%\n"), ("decimals", "A,33.33\nB,33.33\nC,33.33\nx,100.00\n"), ("large numbers", "A,33333\nB,33333\nC,33333\nx,100000\n")]:

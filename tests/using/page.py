@@ -237,6 +237,7 @@ case("council-tools page: one quota of two is at most half", "At most half" not 
 fault("council-tools page: --game of another game", Run(TOOL, "--game", path, low), 1, f"{path}: this is not the game of the report")
 fault("council-tools page: --game for one of two", Run(TOOL, "--game", path, low, low), 2, "give --game once for each report: there are 2 reports, and 1 game files")
 long = put("long.toml", "#" * 65537)
+fault("council-tools page: two --game for one", Run(TOOL, "--game", path, "--game", path, low), 2, "give --game once for each report: there are 1 reports, and 2 game files")
 fault("council-tools page: --game that is too long", Run(TOOL, "--game", long, low), 1, f"{long}: the game file is longer than 65536 bytes")
 case("council-tools page: --game in brackets", Run(TOOL, "--program", PROGRAM, "--game", put("game.txt", "[5; 4, 4, 2]"), low).status == 0)
 done()
