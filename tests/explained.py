@@ -3,8 +3,8 @@
 
     explained.py PROGRAM NUMBER SEED
 
-makes games in TOML in every way to write their headers, keys and texts, with comments and titles that look like
-headers and keys, and one fault in a line that is known. --explain must name that line, or none if a header or a key
+makes games of one rule or two in TOML, in every way to write their headers, keys, texts and arrays, with comments and
+titles that look like headers and keys, and one fault in a line that is known. --explain must name that line, or none if a header or a key
 is written with escapes. Prints `ok NAME` or `FAILED NAME: why`.
 """
 import os
@@ -57,6 +57,13 @@ class File:
         else:
             self.add(f"'{text}'")
 
+    def array(self, *values):
+        """Adds an array, sometimes with line ends in it."""
+        self.add("[" + self.chance.choice(["", "", "\n", " # ]\n"]))
+        for at, value in enumerate(values):
+            self.add(value + self.chance.choice(["", " ", "\n"]) + ("," if at < len(values) - 1 else "") + self.chance.choice(["", "", "\n"]))
+        self.add("]")
+
     def long_text(self, rows):
         """Adds a text in three quotes, on so many lines."""
         quote = self.chance.choice(['"""', "'''"])
@@ -79,6 +86,8 @@ def member(file, pairs, wrong, escaped, after):
         file.add(file.blanks() + "=" + file.blanks())
         if key == "name" and key != wrong:
             file.value(value)
+        elif key == "weights":
+            file.array(*value)
         else:
             file.add(str(value))
         after(at == len(pairs) - 1)
@@ -99,17 +108,28 @@ def make(chance):
         file.add(" = ")
         file.long_text(chance.randrange(2, 4) if wrong == "title" else 1)
         file.end()
-    file.key("quota", False)
-    file.add("=1")
+    several = chance.random() < 0.4
+    file.key("quotas" if several else "quota", False)
+    file.add("=")
+    if several:
+        file.array("1", "1")
+    else:
+        file.add("1")
     file.end()
     inline = chance.random() < 0.4
+    # a weight that is a table of its own, under a header
+    headed = wrong == "weight" and not inline and chance.random() < 0.3
+    heading = "weights" if several else "weight"
     if inline:
         file.key("member", True)
         file.add(" = [" + chance.choice(["", "\n", " # [[member]] {\n"]))
     for at in range(count):
-        pairs = [("name", f"{at} {file.decoy()}"), ("weight", at + 1)]
-        if at == bad and wrong in ("name", "weight"):
-            pairs = [(key, {"name": "5", "weight": chance.choice(["1.5", '"3"', "{weight = 1}", '"""\n\'"""'])}[key] if key == wrong else value) for key, value in pairs]
+        bad_weight = chance.choice(["1.5", '"3"', "{weight = 1}", '"""\n\'"""'])
+        pairs = [("name", f"{at} {file.decoy()}"), ("weights", [str(at + 1), "1"]) if several else ("weight", at + 1)]
+        if at == bad and wrong == "name":
+            pairs[0] = "name", "5"
+        if at == bad and wrong == "weight":
+            pairs[1:] = [] if headed else [("weights", ["1", bad_weight]) if several else ("weight", bad_weight)]
         if at == bad and wrong == "odd":
             pairs.append(("odd", chance.choice(["1", "{name = 1, odd = {weight = 2}}", '[1,\n {name = "["}]', "'''\n[[member]]\nit's'''"])))
         if chance.random() < 0.5:
@@ -118,7 +138,7 @@ def make(chance):
         def after_inline(last):
             file.add(file.blanks() + ("" if last else "," + chance.choice(["", "\n", " # , {\n"])))
 
-        here = wrong if at == bad else None
+        here = (heading if wrong == "weight" else wrong) if at == bad else None
         if inline:
             file.add("{")
             found = member(file, pairs, here, True, after_inline)
@@ -129,6 +149,10 @@ def make(chance):
             file.add(file.blanks() + "]]")
             file.end()
             found = member(file, pairs, here, True, lambda _: file.end())
+            if headed and at == bad:
+                found = file.line()
+                brackets = chance.choice(["[]", "[]", ["[[", "]]"]])
+                file.add(f"{brackets[0]}member.{heading}{brackets[1]}\nx = 1\n")
         if at == bad and wrong != "title":
             line = found
     if inline:

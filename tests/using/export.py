@@ -198,6 +198,8 @@ fault("export: no option is cut short", Run(TOOL, "csv", "--col=name"), 2, "unre
 for name, words, data, status, text in [
     ("another format", ["xml"], HARD, 2, '"xml" is no format: csv, json, latex or markdown'),
     ("no format", [], HARD, 2, "say a format: csv, json, latex or markdown"),
+    ("an empty list of columns", ["csv", "--columns", ""], HARD, 2,
+     '"" is no column: name, weight, share, coalitions, deegan_packel, public_good, deegan_packel_exact, public_good_exact'),
     ("a column that is not there", ["csv", "--columns", "name,power"], HARD, 2,
      '"power" is no column: name, weight, share, coalitions, deegan_packel, public_good, deegan_packel_exact, public_good_exact'),
     ("a refused game", ["csv"], "", 1, "there is no report: nothing was read (was the game refused?)"),

@@ -396,6 +396,7 @@ for name, words, table, status, text in [
     ("a column of weights twice", ["1", "1", "--weight", "2", "--weight", "2"], "A,1,1\n", 2, "a column is named twice"),
     ("a column of names and weights", ["1", "--weight", "1"], "A,1\n", 2, "a column is named twice"),
     ("quotes that do not end", ["1"], 'A,1\n"B,2\n', 1, "line 2: this is no row of a table: unexpected end of data"),
+    ("a weight below empty lines", ["1"], "A,1\n\n,\nB,x\n", 1, 'line 4, column 2: "x" is no number (--heading, --name and --weight say which cell is what)'),
     ("quotes that do not end, after sep=", ["1"], 'sep=;\n"A\nB";1\n"B;2\n', 1, "line 4: this is no row of a table: unexpected end of data"),
     ("a weight that is no number, after sep=", ["1"], 'sep=;\n"A\nB";1\nB;x\n', 1, 'line 4, column 2: "x" is no number (--heading, --name and --weight say which cell is what)'),
     ("bytes of another encoding", ["1"], b"A,1\n\xc5,2\n", 1, "line 2 is not utf-8-sig: export the table as UTF-8, or say --encoding cp1252 or what it is"),
