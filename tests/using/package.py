@@ -84,7 +84,7 @@ shutil.copy(PROGRAM, f"{TEMP}/beside/council")
 shutil.copy(f"{TEMP}/zipapp", f"{TEMP}/beside/tools")
 os.symlink("beside/tools", f"{TEMP}/by-link")
 ran = subprocess.run([sys.executable, f"{TEMP}/by-link", "sweep", "-"], input="[1; 1]", capture_output=True, text=True, env={**env, "PATH": "/nowhere"})
-same("by a link, the program beside the tools", (ran.returncode, ran.stdout.split("\n")[1]), (0, "1\t1\t1.000000\t1.000000\t1/1\t1/1"))
+same("by a link, the program beside the tools", (ran.returncode, ran.stdout.split("\n")[1:]), (0, ["1\t1\t1.000000\t1.000000\t1/1\t1/1", ""]))
 
 # ---- council-tools itself
 TOOLS = f"{TOP}/tools/council-tools"
