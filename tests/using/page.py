@@ -197,7 +197,12 @@ run = Run(TOOL, "--program", path, council, input="noise", apart=True)
 case("council-tools page: as a user runs it, the program reads nothing, and its noise is not shown", run.err == "" and "was made: council 9. " in run.out, run.err)
 footer = whole.out[whole.out.index("<footer>") :]
 same("council-tools page: headings of the footer", re.findall("<h2>(.*?)</h2>", footer), ["What the indices are", "How they were computed", "Sources"])
-same("council-tools page: sources", [it[:28] for it in re.findall("<li>(.*?)</li>", footer)], ["J. Deegan and E. W. Packel (", "M. J. Holler (1982): Forming", "M. J. Holler and E. W. Packe"])
+sources = re.findall("<li>(.*?)</li>", footer)
+same("council-tools page: sources", [it[:28] for it in sources], ["J. Deegan and E. W. Packel (", "M. J. Holler (1982): Forming", "M. J. Holler and E. W. Packe"])
+with open(f"{TOP}/README.md", encoding="utf-8") as it:
+    readme = " ".join(it.read().split())
+same("council-tools page: sources as in README.md", [it for it in sources if re.sub("</?i>", "*", it) not in readme], [])
+case("council-tools page: a title with angle brackets", "<title>A &lt;title&gt; " in Run(TOOL, "--program", PROGRAM, hard).out)
 
 # ---- the words
 told = Run(TOOL, "--help").out

@@ -108,6 +108,12 @@ leaders = [re.fullmatch(r"M(\S+ \S+)L\S+ (\S+)h12", it.get("d")) for it in drawn
 same("council-tools sweep: each line is led to a label", [it[1] for it in leaders], ends)
 labels = [it for it in drawn.findall("{*}text") if it.get("class") == "member"]
 same("council-tools sweep: the label is where it is led to", [f"{float(it.get('y')) - 4:.2f}" for it in labels], [it[2] for it in leaders])
+for column, kind in [(2, "deegan_packel"), (3, "public_good")]:
+    run_of_kind = sweep(COUNCIL, "--from", "12", "--to", "12", "--picture", f"{TEMP}/kind.svg", "--index", kind)
+    root = ElementTree.parse(f"{TEMP}/kind.svg").getroot()
+    bottom, *_, top = [float(it.get("d").split()[1].split("h")[0]) for it in root.findall("{*}path") if it.get("d").endswith("h560")]
+    heights = [float(axis(root, "index")[-1]) * (bottom - float(it.get("cy"))) / (bottom - top) for it in root.findall("{*}circle")]
+    same(f"council-tools sweep: the picture has the {kind} index", sorted(f"{it:.3f}" for it in heights), sorted({f"{float(it[column]):.3f}" for it in rows(run_of_kind)}))
 for first, last, wanted in [("1", "17", ["5", "10", "15"]), ("12", "17", ["12", "13", "14", "15", "16", "17"]), ("12", "12", ["12"])]:
     sweep(COUNCIL, "--from", first, "--to", last, "--picture", f"{TEMP}/range.svg")
     same(f"council-tools sweep: round quotas from {first} to {last}", axis(ElementTree.parse(f"{TEMP}/range.svg").getroot(), "quota"), wanted)
@@ -132,6 +138,8 @@ two = put("two.toml", 'quotas = [5, 3]\nmember = [{name = "A", weights = [3, 1]}
 run = sweep("--rule", "2", two)
 # one head or two: AB, AC, BCD; three heads: each three of the four; four: all of them
 same("council-tools sweep: the second rule", [(it[0], it[5]) for it in rows(run) if it[1] == "A"], [("1", "2/7"), ("2", "2/7"), ("3", "1/4"), ("4", "1/4")])
+same("council-tools sweep: the first rule", rows(sweep("--rule", "1", "--from", "5", "--to", "5", two)), [["5", *it[1:]] for it in rows(run) if it[0] == "3"])
+same("council-tools sweep: indices of 1 and 0", rows(sweep("-", "--from", "2", input="[2; 2, 0]")), [["2", "1", *["1.000000"] * 2, *["1/1"] * 2], ["2", "2", *["0.000000"] * 2, *["0/1"] * 2]])
 
 same("council-tools sweep: a rule above half keeps two coalitions from winning", run.err, "")
 run = sweep("--rule", "2", put("low.toml", 'quotas = [1, 2]\nmember = [{name = "A", weights = [1, 1]}, {name = "B", weights = [1, 1]}]\n'))
@@ -256,6 +264,8 @@ for name, words, status, text in [
     ("a rule that is not there", [COUNCIL, "--rule", "2"], 2, "there is no rule 2: the game has 1"),
     ("a rule of 0", [COUNCIL, "--rule", "0"], 2, "there is no rule 0: the game has 1"),
     ("a range of none", [COUNCIL, "--from", "5", "--to", "4"], 2, "there is no quota from 5 to 4 in steps of 1"),
+    ("a range that ends at 0", [COUNCIL, "--to", "0"], 2, "there is no quota from 1 to 0 in steps of 1"),
+    ("a range in steps without end", [COUNCIL, "--from", "2", "--to", "50001", "--step", "2"], 2, "from 2 to 50001 there are 25000 quotas, and 20000 are the most: --from, --to and --step choose some"),
     ("a step of 0", [COUNCIL, "--step", "0"], 2, "there is no quota from 1 to 17 in steps of 0"),
     ("a range without end", [COUNCIL, "--to", "99999999"], 2, "from 1 to 99999999 there are 99999999 quotas, and 20000 are the most: --from, --to and --step choose some"),
     ("a range of twenty digits", [COUNCIL, "--to", "9" * 20], 2, f"from 1 to {'9' * 20} there are {'9' * 20} quotas, and 20000 are the most: --from, --to and --step choose some"),
