@@ -233,6 +233,8 @@ same("council-tools page: its game file is the one of --game", file, game)
 run = Run(TOOL, "--program", PROGRAM, "--source", "c", "--game", f"{TOP}/examples/eec-1958.toml", f"{TOP}/examples/eec-1958.tsv")
 case("council-tools page: comments that run over lines are one text", "<p>The votes of the six founding members under the Treaty of Rome of 1957, article 148: 12 of 17 pass a proposal" in run.out)
 case("council-tools page: --source", "Source of the data: c</p>" in run.out)
+run = Run(TOOL, "--program", PROGRAM, "--source", "c", "--game", path, f"{TEMP}/game.tsv")
+case("council-tools page: --source goes before that of the game file", "Source of the data: c</p>" in run.out)
 low = put("low.tsv", report("[5; 4, 4, 2]"))
 run = Run(TOOL, "--program", PROGRAM, low)
 case("council-tools page: a quota of at most half is warned of", "two coalitions without a common member could both win.</b>" in run.out
