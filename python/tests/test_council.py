@@ -81,6 +81,7 @@ class Reports(unittest.TestCase):
         self.assertEqual((report.quotas, report.totals, report.minimal, report.title), ((51,), (100,), 2, ""))
         a, b, _ = report.members
         self.assertEqual(a, ("A", (50,), 2, 0.5, 0.5, Fraction(1, 2), Fraction(1, 2)))
+        self.assertEqual([type(it) for it in a[3:]], [float, float, Fraction, Fraction])
         self.assertEqual(b, ("B", (49,), 1, 0.25, 0.25, Fraction(1, 4), Fraction(1, 4)))
         self.assertIsNone(report.coalitions)
 

@@ -242,12 +242,18 @@ for name, pad in [("alone", ""), ("with the commas of a spreadsheet", ","), ("wi
     told = [f"council-tools from-table: line {line} has a single cell and is left out: {text}" for line, text in [(1, '"Votes of 2019"'), (7, '"Source: a book"'), (8, '"*) estimated"')]]
     same(f"titles and sources {name} are told", run.err, "\n".join([told[0], *(it + " (if it is a member, write 0 as its weight)" for it in told[1:]), ""]))
     case(f"titles and sources {name} are in comments", '# Left out: line 1, "Votes of 2019"\n# Left out: line 7, "Source: a book"\n' in run.out, run.out)
+run = game("60%", table="A report\n Votes of 2019\nholder,votes\nA,5\nB,3\nC,1\nSource: a book\n")
+same("two titles and one source are told", run.err, "".join(f"council-tools from-table: line {it}\n" for it in [
+    '1 has a single cell and is left out: "A report"', '2 has a single cell and is left out: "Votes of 2019"',
+    '7 has a single cell and is left out: "Source: a book" (if it is a member, write 0 as its weight)']))
+gives("a heading that begins with a year", ["60%"], "holder,2019 votes\nA,5\nB,3\nC,1\n", "6", ["5", "3", "1"])
 gives("titles above columns that are chosen", ["60%", "--weight", "votes"], NOTES.format(""), "6", ["5", "3", "1"])
 fault("a single cell beside heads", game("heads:2", table="who,votes\nA,5\nB,3\nSource: a book\n"), 1,
       'line 4 has a single cell, "Source: a book", and others have more: delete the line, or say --all-rows if it is a member')
 gives("a single cell of a member", ["heads:2", "--all-rows"], "who,votes\nA,5\nB,3\nC,\n", "2", ["1", "1", "1"])
 SINGLE = "and others have more: delete the line, or say --all-rows if it is a member"
 fault("the last of several single cells", game("heads:2", table="Title\nwho,votes\nA,5\nB,3\nsource\n" + "x" * 61 + "\n"), 1, f'line 6 has a single cell, "{"x" * 60}", {SINGLE}')
+fault("a source in the second column", game("heads:2", table="who,votes\nA,5\nB,3\n,source\n"), 1, f'line 4 has a single cell, "source", {SINGLE}')
 fault("a title beside heads", game("heads:2", table="Title\nA,5\nB,3\n"), 1, f'line 1 has a single cell, "Title", {SINGLE}')
 fault("a source under a heading of heads", game("heads:2", "--heading", table="Title\nA,5\nB,3\nsource\n"), 1, f'line 4 has a single cell, "source", {SINGLE}')
 run = game("60%", table="x" * 201 + "\nA,5\nB,3\n")
@@ -333,6 +339,7 @@ for name, words, table, status, text in [
     ("no quota", [], "A,1\n", 2, "say a quota for each rule, 1 to 4 of them, as 65% or '>50%' in quotes"),
     ("five quotas", ["1"] * 5, "A,1\n", 2, "say a quota for each rule, 1 to 4 of them, as 65% or '>50%' in quotes"),
     ("a quota that is no number", ["half"], "A,1\n", 2, no_quota("half")),
+    ("a quota with a word", ["2/3 of all"], "A,1\n", 2, no_quota("2/3 of all")),
     ("a quota over zero", ["1/0"], "A,1\n", 2, no_quota("1/0")),
     ("a quota of nothing over one", ["0/1"], "A,1\n", 2, no_quota("0/1")),
     ("a fraction in digits of another script", ["\u0661/\u0662"], "A,1\n", 2, no_quota("\u0661/\u0662")),
@@ -352,6 +359,7 @@ for name, words, table, status, text in [
     ("digits of another script", ["1"], "A,1\nB,٣\n", 1, f'{AT}: "٣" is no number (--heading, --name and --weight say which cell is what)'),
     ("a number without end", ["1"], "A,1\nB," + "9" * 5000 + "\n", 1, f'{AT}: "{"9" * 40}.." is no number (--heading, --name and --weight say which cell is what)'),
     ("a weight below zero", ["1"], "A,1\nB,-2\n", 1, f'{AT}: "-2" is negative'),
+    ("a weight below zero after a blank", ["1"], "A,1\nB, -2\n", 1, f'{AT}: "-2" is negative'),
     ("a long minus", ["1"], "A,1\nB,−2\n", 1, f'{AT}: "−2" is negative'),
     ("a dash before a number", ["1"], "A,1\nB,– 2\n", 1, f'{AT}: "– 2" is negative'),
     ("no weight", ["1"], "A,1\nB,\nC,2\n", 1, f'{AT} is empty: write 0 if "B" is a member without weight'),
