@@ -278,8 +278,11 @@ class Reports(unittest.TestCase):
         self.assertEqual((taken, it.coalitions, it.listed), ([(("1", "2"), (99,)), (("1", "3"), (51,))], None, 2))
         for collects in (False, True):
             (gc.enable if collects else gc.disable)()
-            kept = Report.from_text(LISTED).coalitions
+            report = Report.from_text(LISTED)
+            kept = report.coalitions
             self.assertEqual(gc.isenabled(), collects)
+            # a list that is sorted, say, stays so
+            self.assertIs(report.coalitions, kept)
         self.assertIs(kept[0].members[0], kept[1].members[0])
 
     def test_threads_at_once(self):
