@@ -105,7 +105,7 @@ with open(f"{TEMP}/wide.toml", encoding="utf-8") as it:
 same("council-tools bars: the name of a rule has room", ElementTree.fromstring(run.out).get("width"), f"{30 + 12 * (64 * 1.05 + 19.53):.0f}")
 
 # ---- what pictures and pages share
-same("how wide letters are, in tenths of a line", [round(10 * measure(it, 1), 1) for it in ["mwMW@%—…中Ｗ\U00010000", "iljI.,:;'|![]() ", "AÉ", "aé1-", "\u0301"]], [115.5, 67.2, 16, 27.2, 1])
+same("how wide letters are, in tenths of a line", [round(10 * measure(it, 1), 1) for it in ["mwMW@%—…中Ｗ\U00010000", "iljI.,:;'|![]() ", "AÉ", "aé1-", "Aé", "\u0301"]], [115.5, 67.2, 16, 27.2, 14.8, 1])
 same("lines are at most so wide", wrap(["a", "a", "aaaaa", "a", "a"], measure("a a", 10), 10), ["a a", "aaaaa", "a a"])
 same("no room for a blank", wrap(["a", "a"], 17.79, 10), ["a", "a"])
 same("a text as a page may hold it", escape_xml('<a b="&">\0\x85\u200e\u202e\ufdd0\ufffe\ud800\t\u00a0'), "&lt;a b=&quot;&amp;&quot;&gt;" + "\ufffd" * 7 + "\t\u00a0")
