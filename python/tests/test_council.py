@@ -571,6 +571,8 @@ class Parts(unittest.TestCase):
         ]:
             self.assertEqual([(it.name, it.percent, it.places) for it in game.read_units(comments, 2)], units)
         self.assertEqual([it.percent for it in game.read_units(["Rule 4: percent"], 4)], [False, False, False, True])
+        # a comment that only begins as one of a rule
+        self.assertEqual([it.percent for it in game.read_units(["Rule 1: percent", "Rule 1: see below"], 1)], [True])
 
     def test_the_game_of_a_report(self):
         if sys.version_info < (3, 11):
