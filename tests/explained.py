@@ -4,8 +4,8 @@
     explained.py PROGRAM NUMBER SEED
 
 makes games of one rule or two in TOML, in every way to write their headers, keys, texts and arrays, with comments and
-titles that look like headers and keys, and one fault in a line that is known. --explain must name that line, or none if a header or a key
-is written with escapes. Prints `ok NAME` or `FAILED NAME: why`.
+titles that look like headers and keys, and one fault in a line that is known. --explain must name that line, or none
+if a header or a key is written with escapes. Prints `ok NAME` or `FAILED NAME: why`.
 """
 import os
 import random
@@ -109,6 +109,8 @@ def make(chance):
         file.long_text(chance.randrange(2, 4) if wrong == "title" else 1)
         file.end()
     several = chance.random() < 0.4
+    weight = "weights" if several else "weight"
+    wrong = weight if wrong == "weight" else wrong
     file.key("quotas" if several else "quota", False)
     file.add("=")
     if several:
@@ -118,18 +120,17 @@ def make(chance):
     file.end()
     inline = chance.random() < 0.4
     # a weight that is a table of its own, under a header
-    headed = wrong == "weight" and not inline and chance.random() < 0.3
-    heading = "weights" if several else "weight"
+    headed = wrong == weight and not inline and chance.random() < 0.3
     if inline:
         file.key("member", True)
         file.add(" = [" + chance.choice(["", "\n", " # [[member]] {\n"]))
     for at in range(count):
         bad_weight = chance.choice(["1.5", '"3"', "{weight = 1}", '"""\n\'"""'])
-        pairs = [("name", f"{at} {file.decoy()}"), ("weights", [str(at + 1), "1"]) if several else ("weight", at + 1)]
+        pairs = [("name", f"{at} {file.decoy()}"), (weight, [str(at + 1), "1"] if several else at + 1)]
         if at == bad and wrong == "name":
             pairs[0] = "name", "5"
-        if at == bad and wrong == "weight":
-            pairs[1:] = [] if headed else [("weights", ["1", bad_weight]) if several else ("weight", bad_weight)]
+        if at == bad and wrong == weight:
+            pairs[1:] = [] if headed else [(weight, ["1", bad_weight] if several else bad_weight)]
         if at == bad and wrong == "odd":
             pairs.append(("odd", chance.choice(["1", "{name = 1, odd = {weight = 2}}", '[1,\n {name = "["}]', "'''\n[[member]]\nit's'''"])))
         if chance.random() < 0.5:
@@ -138,7 +139,7 @@ def make(chance):
         def after_inline(last):
             file.add(file.blanks() + ("" if last else "," + chance.choice(["", "\n", " # , {\n"])))
 
-        here = (heading if wrong == "weight" else wrong) if at == bad else None
+        here = wrong if at == bad else None
         if inline:
             file.add("{")
             found = member(file, pairs, here, True, after_inline)
@@ -152,7 +153,7 @@ def make(chance):
             if headed and at == bad:
                 found = file.line()
                 brackets = chance.choice(["[]", "[]", ["[[", "]]"]])
-                file.add(f"{brackets[0]}member.{heading}{brackets[1]}\nx = 1\n")
+                file.add(f"{brackets[0]}member.{weight}{brackets[1]}\nx = 1\n")
         if at == bad and wrong != "title":
             line = found
     if inline:

@@ -207,7 +207,7 @@ if [ -x "$temp/report_c" ] && (ulimit -v 1500000) 2>/dev/null; then
     fits "$name"
 fi
 
-# ---- games of every number of members and rules, from C; it knows neither workers nor bits
+# ---- games of every number of members and rules, from C, whose call has neither workers nor bits
 cat >"$temp/as_program" <<'END'
 #!/usr/bin/env bash
 words=()

@@ -171,7 +171,7 @@ END
     then ok "a game from a terminal"; else failed "a game from a terminal" "$(tail -n 1 "$temp/told")"; fi
 fi
 
-# ---- 16 threads list the coalitions of that game, and then 15 count them beside the first one
+# ---- 16 threads list those 393212 coalitions, and then 15 count them beside the first one
 name="threads of 393212 coalitions with 16 workers"
 compile_preloaded few_threads
 # started THREADS: the run with no more threads than that

@@ -1,6 +1,4 @@
-/* Lets as many threads of a program start as THREADS says, one after the other or at once, and no
- * other: it is loaded before the C library.
- */
+/* Lets as many threads of a program start as THREADS says, and no other: it is loaded before the C library. */
 #define _GNU_SOURCE
 #include <dlfcn.h>
 #include <errno.h>
