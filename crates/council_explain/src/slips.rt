@@ -1,5 +1,6 @@
 //! What helps where a game file in TOML breaks off at a common slip.
 use crate::explanation::{Explanation, short};
+use crate::source::is_bare;
 use crate::values::is_digit;
 
 /// How each member begins.
@@ -38,10 +39,28 @@ fn separators(number: &str) -> (usize, bool) {
     (count, is_thousands)
 }
 
+/// Which sign separates the decimals of a number that has a comma.
+fn decimal_sign(number: &str) -> char {
+    match number.rsplit_once(',') {
+        Some((_, decimals)) if decimals.contains('.') => '.',
+        _ => ',',
+    }
+}
+
 /// The first line of a text, without a comment.
 fn first_row(text: &str) -> &str {
     let (row, _) = text.split_once(['\n', '#']).unwrap_or((text, ""));
     row
+}
+
+/// Whether a value in braces is complete, and only a comma or a bracket is missing: its member ends
+/// before this place, or the next member or key begins.
+fn is_complete(front: &str, rest: &str) -> bool {
+    let (key, _) = rest.split_once('=').unwrap_or(("", ""));
+    let key = key.trim_start_matches(';').trim();
+    let is_key = !key.is_empty() && key.chars().all(is_bare);
+    let front = front.trim();
+    front.ends_with('}') || !front.is_empty() && (is_key || rest.starts_with(['{', ']']))
 }
 
 impl Explanation<'_> {
@@ -50,7 +69,10 @@ impl Explanation<'_> {
         let (count, is_thousands) = separators(number);
         if number.contains(',') && (count == 1 || !is_thousands) {
             self.line("a number may have no comma");
-            self.explain_factor(self.text, ',');
+            let sign = decimal_sign(number);
+            if number.matches(sign).count() == 1 {
+                self.explain_factor(self.text, sign);
+            }
         } else if is_thousands {
             self.line("write a number without separators between thousands, as in 1200000");
         } else {
@@ -68,7 +90,7 @@ impl Explanation<'_> {
                 digits => digits,
             };
             self.line(format_args!("a number has no leading zero: write {}", short(digits)));
-        } else if after.starts_with(['%', '/', ';']) {
+        } else if after.starts_with(['%', '/', ';', '_']) {
             // said with the place, or by the message
         } else if number.is_empty() {
             self.line("a quota or a weight is a whole number, in digits, without quotes");
@@ -116,10 +138,24 @@ impl Explanation<'_> {
             self.line("a line ends without a comma");
         } else if rest.contains('=') && !key.contains('{') {
             self.line("each key begins a line of its own");
+        } else if key.contains('{') && is_complete(front, rest) {
+            // said by the message
         } else if key.ends_with("name") || key.ends_with("title") {
             self.explain_text_slip(front, rest);
         } else if key.ends_with("quota") || key.ends_with("weight") {
             self.explain_number_slip(front, place);
+        }
+    }
+
+    /// Says what helps if the key of a header or a line was there before.
+    fn explain_second_key(&mut self, rest: &str) {
+        let key = rest.trim_start_matches(['[', ' ']);
+        let is_header = rest.starts_with('[') && key.starts_with("member");
+        if is_header && self.bare.lines().any(|row| row.starts_with("member=")) {
+            self.line("write all members in member = [..], or each under a line [[member]]");
+        } else if key.starts_with("member") || key.starts_with("name") || key.starts_with("weight")
+        {
+            self.line(MEMBERS);
         }
     }
 
@@ -138,10 +174,7 @@ impl Explanation<'_> {
         } else if let Some((key, front)) = row.rsplit_once('=') {
             self.explain_value_slip(key, front, place);
         } else if message == "duplicate key" && row.trim().is_empty() {
-            let key = rest.trim_start_matches(['[', ' ']);
-            if key.starts_with("member") || key.starts_with("name") || key.starts_with("weight") {
-                self.line(MEMBERS);
-            }
+            self.explain_second_key(rest);
         }
     }
 }

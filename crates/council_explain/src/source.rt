@@ -60,8 +60,8 @@ fn pass(within: Within, letter: char) -> Within {
     }
 }
 
-/// Whether a letter may be in a key without quotes, or is not of ASCII.
-fn is_bare(letter: char) -> bool {
+/// Returns whether a letter may be in a key without quotes, or is not of ASCII.
+pub fn is_bare(letter: char) -> bool {
     !letter.is_ascii() || letter.is_ascii_alphanumeric() || "-_".contains(letter)
 }
 

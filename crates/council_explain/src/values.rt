@@ -33,10 +33,14 @@ pub fn is_digit(letter: char) -> bool {
 }
 
 /// How many digits a text begins with; zeros at the end of these count only if they are wanted.
+/// Digits before an exponent count as none.
 fn digits_in_front(text: &str, zeros: bool) -> usize {
     let rest = text.trim_start_matches(is_digit);
     let digits = text.strip_suffix(rest).unwrap_or("");
-    if zeros {
+    let power = rest.trim_start_matches(['e', 'E', '+', '-']);
+    if rest.starts_with(['e', 'E']) && power.starts_with(is_digit) {
+        0
+    } else if zeros {
         digits.len()
     } else {
         digits.trim_end_matches('0').len()
@@ -93,7 +97,7 @@ impl Explanation<'_> {
     fn explain_float(&mut self, number: f64) {
         let is_whole = number.fract() == 0.0 && 0.0 <= number && number <= 1e12;
         if is_whole && most_decimals(self.bare, '.', false) == 0 {
-            self.line(format_args!("write {number}"));
+            self.line(format_args!("write {}", number.abs()));
         }
         self.explain_factor(self.bare, '.');
     }
