@@ -5,7 +5,8 @@
 
 makes games of one rule or two in TOML, in every way to write their headers, keys, texts and arrays, with comments and
 titles that look like headers and keys, and one fault in a line that is known. --explain must name that line, or none
-if a header or a key is written with escapes. Prints `ok NAME` or `FAILED NAME: why`.
+if a header or a key is written with escapes. And it must know each quote that is none in TOML, and each letter that
+people write between thousands. Prints `ok NAME` or `FAILED NAME: why`.
 """
 import os
 import random
@@ -16,6 +17,11 @@ import tempfile
 
 # what a text may have, that looks like something else
 DECOYS = ["it's", "[[member]]", "quota = 7", "weight = 1.5", "{", "}", "# no", '"', "name", "]", ",", "\\\\", "é"]
+
+# what helps if a text is in other quotes, or a number has other letters between its digits
+STRAIGHT, THOUSANDS = "write straight quotes: \" or '", "write a number without separators between thousands, as in 1200000"
+LETTERS = [(f"title = {it}A{it}", STRAIGHT) for it in "‘’‚‛“”„‟‹›«»´`"]
+LETTERS += [(f"quota = 1{it}234{it}567", THOUSANDS) for it in ",.'’ \u00a0\u2009\u202f"]
 
 
 class File:
@@ -161,6 +167,15 @@ def make(chance):
     return file, line
 
 
+def find_unknown(program):
+    """Returns a line with such a letter, and what is said of it, if that is not what helps."""
+    for row, wanted in LETTERS:
+        ran = subprocess.run([program, "--explain"], input=f"{row}\n".encode(), capture_output=True, check=False, timeout=60)
+        if ran.stderr.decode().split("\n")[-2:] != [f"  {wanted}", ""]:
+            return f"{row}: {ran.stderr.decode()!r}"
+    return None
+
+
 def main(words):
     if len(words) != 3:
         sys.exit("usage: explained.py PROGRAM NUMBER SEED")
@@ -180,7 +195,9 @@ def main(words):
         print(f"FAILED lines that --explain names: {len(failed)} of {number}, the first is {failed[0]}")
     else:
         print(f"ok lines that --explain names: {number} files, {none} without a line")
-    return int(bool(failed))
+    unknown = find_unknown(program)
+    print(f"FAILED letters that --explain knows: {unknown}" if unknown else "ok letters that --explain knows")
+    return int(bool(failed or unknown))
 
 
 if __name__ == "__main__":

@@ -150,11 +150,10 @@ impl Explanation<'_> {
     /// Says what helps if the key of a header or a line was there before.
     fn explain_second_key(&mut self, rest: &str) {
         let key = rest.trim_start_matches(['[', ' ']);
-        let is_header = rest.starts_with('[') && key.starts_with("member");
-        if is_header && self.bare.lines().any(|row| row.starts_with("member=")) {
+        let is_member = key.starts_with("member");
+        if is_member && self.bare.lines().any(|row| row.starts_with("member=")) {
             self.line("write all members in member = [..], or each under a line [[member]]");
-        } else if key.starts_with("member") || key.starts_with("name") || key.starts_with("weight")
-        {
+        } else if is_member || key.starts_with("name") || key.starts_with("weight") {
             self.line(MEMBERS);
         }
     }
