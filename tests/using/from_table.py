@@ -109,6 +109,8 @@ gives("a decimal sign of one column of two", ["1", "1"], "A;1,5;1,000\nB;2;2\n",
 gives("a percentage below 1", ["0.5%"], "A,600\nB,400\n", "5", ["600", "400"])
 gives("the last column that there may be", ["1", "--weight", "1000", "--no-heading"], "A" + "," * 999 + "1\n", "1", ["1"])
 gives("names after the weights", ["3", "2", "--name", "3", "--weight", "2", "--weight", "1"], "1,2,A\n1,4,B\n3,4,C\n", "[3, 2]", ["[2, 1]", "[4, 1]", "[4, 3]"])
+gives("a column by a number that begins with zeros", ["3", "--weight", "0000000002"], "A,1\nB,2\n", "3", ["1", "2"])
+gives("a column of names by its heading of nothing", ["5", "--name", ""], "no,,2019\n1,A,5\n2,B,3\n", "5", ["5", "3"])
 gives("headings with blanks round them", ["3", "--name", "who", "--weight", "votes"], " who , votes \nA,1\nB,2\n", "3", ["1", "2"])
 gives("two rules", ["65%", "55%"], "name,people,states\nA,5.5,1\nB,3,1\nC,1,1\n", "[62, 2]", ["[55, 1]", "[30, 1]", "[10, 1]"])
 gives("heads", ["65%", "heads:55%"], "name,people\nA,5.5\nB,3\nC,1\n", "[62, 2]", ["[55, 1]", "[30, 1]", "[10, 1]"])
@@ -120,12 +122,16 @@ TABLE = "A,40\nB,35\nC,26\n"
 for quota, wanted, *how in [(">50%", 51), ("50%", 51), ("1/2", 51), (">1/2", 51), ("2/3", 68, "at least 2/3 of 101, which is 67.333333.., so 68"),
                             (">2/3", 68, "more than 2/3 of 101, which is 67.333333.., so 68"), ("100%", 101, "at least 1/1 of 101, which is 101"), ("51", 51), (">50", 51, "more than 50, so 51"),
                             ("49.5", 50), (">=49,5", 50), ("≥49.5", 50), ("66.67%", 68), (" > 2 / 3 ", 68), ("1", 1), ("101", 101), (">100", 101), ("200/200", 101),
-                            ("heads:2", 2, "at least 2"), ("heads:>1/3", 2, "more than 1/3 of 3, which is 1, so 2"), (" heads: > 1/3 ", 2), ("heads:>=2", 2), ("heads:100%", 3)]:
+                            ("heads:2", 2, "at least 2"), ("heads:>1/3", 2, "more than 1/3 of 3, which is 1, so 2"), (" heads: > 1/3 ", 2), ("heads:>=2", 2), ("heads:100%", 3),
+                            (">0%", 1, "more than 0/1 of 101, which is 0, so 1")]:
     run = game(quota, table=TABLE)
     same(f"a quota: {quota} of 101", read(run.out or "quota = none")[0], str(wanted))
     if how:
         what = '"heads"; each member weighs 1' if "heads" in quota else "column 2"
         same(f"a quota in a comment: {quota}", find_comments(run.out)[1:2], [f'Rule 1: {what}; the quota "{quota}" is {how[0]}'])
+
+run = game(">2/3", table=TABLE.replace(",", ",10"))
+same("a quota in a comment: thousands", find_comments(run.out)[1], 'Rule 1: column 2; the quota ">2/3" is more than 2/3 of 3,101, which is 2,067.333333.., so 2,068')
 
 # ---- a row that has the sum of all others is a total or a member: the user says which
 ASKS = "say --no-total to leave it out, or --all-rows if it is a member"
@@ -153,7 +159,7 @@ for cells in ["1", "1", "1", ""], ["0", "0", "0", "0"]:
     table = "A,33%,{}\nB,33%,{}\nC,33%,{}\nx,100%,{}\n".format(*cells)
     fault(f"a sum beside {cells[3] or 'an empty cell'}", game("1", "1", table=table), 1, f'line 4, "x", is nearly the sum of all others: {ASKS}')
 fault("one exact sum of two", game("1", "1", table="A,33%,1\nB,33%,2\nC,33%,3\nx,100%,6\n"), 1, f'line 4, "x", is the sum of all others: {ASKS}')
-for table, line, label in [("A,5\nB,3\n TOTAL: ,1\n", 3, "TOTAL:"), ("Total,1\nA,5\nB,3\n", 1, "Total"), ("Sum,1\nA,5\nTotal.,3\n", 3, "Total.")]:
+for table, line, label in [("A,5\nB,3\n TOTAL: ,1\n", 3, "TOTAL:"), ("A,5\nB,3\nTotal :,1\n", 3, "Total :"), ("Total,1\nA,5\nB,3\n", 1, "Total"), ("Sum,1\nA,5\nTotal.,3\n", 3, "Total.")]:
     fault(f"a total by its name, {label}", game("60%", table=table), 1, f'line {line}, "{label}", is a total by its name, but not the sum of all others: {ASKS}')
 gives("one member is no total", ["1"], "Totals and more,1\n", "1", ["1"])
 same("a sum is left out silently", game("60%", "--no-total", table="A,5\nB,3\nx,8\n").err, "")
@@ -197,8 +203,9 @@ fault("a first row Name of heads beside numbers", game("heads:2", table="Name,4\
 fault("a first row of heads over names that are numbers", game("heads:2", "--name", "1", table="Nummer,Land\n1,x\n2,y\n"), 1, f'line 1, "Nummer", {MAY}')
 fault("a long first row is cut", game("heads:2", table="F" * 41 + "\nA\nB\n"), 1, f'line 1, "{"F" * 40}", {MAY}')
 gives("a heading of heads over some numbers", ["heads:2"], 'Fraktion,Land,Sitze\nA,x\nB,y, \nC,z,"5\n"\n', "2", ["1", "1", "1"])
+gives("a heading of heads over numbers before other columns", ["heads:2"], "Fraktion,Sitze,Land\nA,5,x\nB,,y\nC,6\n", "2", ["1", "1", "1"])
 gives("a heading of heads over a single cell", ["heads:2", "--heading"], "Fraktion\nA,5\nB,3\n", "2", ["1", "1"])
-for name, heading in [("a short word after Name", "NAME,x1"), ("a letter that means weight", "x,w"), ("a percent sign", "x,%"), ("a word of three letters", "x,Abc")]:
+for name, heading in [("a short word after Name", "NAME,x1"), *((f"the letter {it}", f"x,{it}") for it in "wWqQ"), ("a percent sign", "x,%"), ("a word of three letters", "x,Abc")]:
     gives(f"a heading: {name}", ["60%"], f"{heading}\nA,5\nB,3\n", "5", ["5", "3"])
 NUMBERED = "is no number (--heading, --name and --weight say which cell is what)"
 for heading, told in [("x,w1", "w1"), ("x,z", "z"), ("x,NaN", "NaN"), ("x,None", "None"), ("x,null", "null"), ("x,votes,5", "votes"), ("Name,w1,5", "w1"), ("x,w,", "w"), ("Name,w1,", "w1"), ("Name,w1", "w1")]:
@@ -346,6 +353,8 @@ for name, words, table, status, text in [
     ("a quota with another decimal sign", ["1.5"], "A;2,5\nB;1\n", 2, 'the quota "1.5" is no number with "," before its decimals'),
     ("a quota of two readings", ["1,000"], "A,2000\n", 2, 'the quota "1,000" may have decimals or thousands: say --decimal . or --decimal ,'),
     ("a quota above the total", ["120%"], "A,1\nB,2\n", 2, 'the quota "120%" comes to 4, and must be from 1 to 3, the total'),
+    ("a quota above a total of thousands", ["101%"], "A,1000\nB,2000\n", 2, 'the quota "101%" comes to 3,030, and must be from 1 to 3,000, the total'),
+    ("heads without a colon", ["heads 2"], "A,1\nB,2\n", 2, no_quota("heads 2")),
     ("more than all", [">100%"], "A,1\nB,2\n", 2, 'the quota ">100%" comes to 4, and must be from 1 to 3, the total'),
     ("a quota of nothing", ["0"], "A,1\nB,2\n", 2, 'the quota "0" comes to 0, and must be from 1 to 3, the total'),
     ("no table", ["1"], "", 1, "there is no table: nothing was read"),
@@ -396,6 +405,7 @@ for name, words, table, status, text in [
     ("a column 0", ["1", "--weight", "0"], "A,1\n", 2, "there is no column 0: they are counted from 1"),
     ("a column 1001", ["1", "--weight", "1001"], "A,1\n", 2, "there is no column 1001: they are counted from 1"),
     ("a column of many digits", ["1", "--weight", "123456789" + "0" * 5000], "A,1\n", 2, "there is no column 123456789: they are counted from 1"),
+    ("a column of zeros and many digits", ["1", "--weight", "000000001" + "0" * 5000], "A,1\n", 2, "there is no column 100000000: they are counted from 1"),
     ("a column beyond the table", ["1", "--weight", "4"], "A,1\nB,1,2\n", 1, "the table has no column 4: commas, semicolons or TABs separate the columns"),
     ("a column of names beyond the table", ["1", "--name", "3", "--weight", "2"], "A,1\n", 1, "the table has no column 3: commas, semicolons or TABs separate the columns"),
     ("a column by a digit that is none", ["1", "--weight", "²"], "A,1\n", 2, 'there is no column "²", or two of them; the first row has "A", "1"'),
