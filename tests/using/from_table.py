@@ -111,6 +111,7 @@ gives("the last column that there may be", ["1", "--weight", "1000", "--no-headi
 gives("names after the weights", ["3", "2", "--name", "3", "--weight", "2", "--weight", "1"], "1,2,A\n1,4,B\n3,4,C\n", "[3, 2]", ["[2, 1]", "[4, 1]", "[4, 3]"])
 gives("a column by a number that begins with zeros", ["3", "--weight", "0000000002"], "A,1\nB,2\n", "3", ["1", "2"])
 gives("a column of names by its heading of nothing", ["5", "--name", ""], "no,,2019\n1,A,5\n2,B,3\n", "5", ["5", "3"])
+gives("a column of names by its heading of nothing, of heads", ["heads:2", "--name", ""], ",holder\n0,A\n1,B\n", "2", ["1", "1"])
 gives("headings with blanks round them", ["3", "--name", "who", "--weight", "votes"], " who , votes \nA,1\nB,2\n", "3", ["1", "2"])
 gives("two rules", ["65%", "55%"], "name,people,states\nA,5.5,1\nB,3,1\nC,1,1\n", "[62, 2]", ["[55, 1]", "[30, 1]", "[10, 1]"])
 gives("heads", ["65%", "heads:55%"], "name,people\nA,5.5\nB,3\nC,1\n", "[62, 2]", ["[55, 1]", "[30, 1]", "[10, 1]"])
@@ -218,6 +219,7 @@ fault("a heading of a year", game("60%", table="EU,2019\nA,5\nB,3\n"), 1, 'line 
 fault("a heading that is a number", game("60%", table="Member,1\nA,5\nB,3\n"), 1, 'line 1, "Member", may be a heading or a member: say --heading or --no-heading')
 gives("a member with as many votes as a year", ["60%", "--no-heading"], "A,2019\nB,500\n", "1512", ["2019", "500"])
 fault("--heading and --no-heading", game("60%", "--heading", "--no-heading", table="A,5\n"), 2, "argument --no-heading: not allowed with argument --heading (--help says more)")
+fault("--all-rows and --no-total", game("60%", "--all-rows", "--no-total", table="A,5\n"), 2, "argument --no-total: not allowed with argument --all-rows (--help says more)")
 fault("--no-heading and a column by its heading", game("60%", "--no-heading", "--name", "who", "--weight", "votes", table="who,votes\nA,5\n"), 2, '--no-heading: the column "who" is chosen by its heading')
 
 # ---- a quota below 1 is a share that lacks its sign; one of at most half is doubtful
@@ -381,6 +383,7 @@ for name, words, table, status, text in [
     ("thousands or decimals", ["1"], 'A,1\nB,"1,000"\n', 1, f'{AT}: "1,000" may have decimals or thousands: say --decimal . or --decimal ,'),
     ("two decimal signs", ["1"], 'A;1\nB;1.5\nC;2.5\nD;1,5\n', 1, f'line 4, column 2: "1,5" is no number with "." before its decimals; {AT}: "1.5" has another'),
     ("percent signs here and there", ["1"], "A,2%\nB,1\n", 1, f'{AT}: "1": some weights of this column have a percent sign, and some have none'),
+    ("percent signs here and there in one column of three", ["1"] * 3, "A,5,2%,7\nB,6,1,8\n", 1, 'line 2, column 3: "1": some weights of this column have a percent sign, and some have none'),
     ("a percent sign after a zero", ["1"], "A,0\nB,2\nC,0%\nD,1%\n", 1, 'line 4, column 2: "1%": some weights of this column have a percent sign, and some have none'),
     ("a total that is none", ["1"], "A,1\nB,2\nTotal,4\n", 1,
      'line 3, "Total", is a total by its name, but not the sum of all others: say --no-total to leave it out, or --all-rows if it is a member'),
@@ -402,6 +405,7 @@ for name, words, table, status, text in [
     ("a column without a quota", ["1"], "A,1,3\nB,2,4\n", 1,
      "column 3 has numbers too, and there is no quota for it: give one more, or choose columns by --weight"),
     ("a column that is not there", ["1", "--weight", "x"], "a,b\nA,1\n", 2, 'there is no column "x", or two of them; the first row has "a", "b"'),
+    ("a column that is not there, beside row numbers", ["1", "--weight", "x"], "no,a,b\n1,A,5\n2,B,3\n", 2, 'there is no column "x", or two of them; the first row has "no", "a", "b"'),
     ("a column 0", ["1", "--weight", "0"], "A,1\n", 2, "there is no column 0: they are counted from 1"),
     ("a column 1001", ["1", "--weight", "1001"], "A,1\n", 2, "there is no column 1001: they are counted from 1"),
     ("a column of many digits", ["1", "--weight", "123456789" + "0" * 5000], "A,1\n", 2, "there is no column 123456789: they are counted from 1"),
@@ -468,8 +472,13 @@ for option, value in [("--round", "13"), ("--round", "-1"), ("--decimal", ";")]:
 os.environ["COLUMNS"] = "100"
 run = game("--help", table="")
 told = " ".join(run.out.partition("show this help message and exit")[2].split())
-options = ["--title TEXT", "--source TEXT", "--name COLUMN", "--weight COLUMN", "--heading", "--no-heading", "--all-rows", "--no-total", "--sum", "--decimal {.,,}", "--round N", "--encoding NAME"]
-same("--help explains each option", [it for it in options if not re.search(rf"(^| ){re.escape(it)} [a-z]", told)], [])
+same("--help explains each option", told, " ".join([
+    "--title TEXT the title of the game", "--source TEXT where the table comes from, for a comment",
+    "--name COLUMN the column of the names, by its heading or its number; else the first", "--weight COLUMN a column of weights, once for each rule; else those after the names",
+    "--heading the first row is a heading", "--no-heading the first row is a member", "--all-rows a row that looks like a total is a member",
+    "--no-total leave out a first or last row that is the sum of all others", "--sum add the weights of rows that have the same name",
+    "--decimal {.,,} the decimal sign, if the table does not tell", "--round N round weights to N decimals, a half upwards",
+    "--encoding NAME the encoding of the table, as cp1252; else UTF-8 or UTF-16"]))
 case("--help explains the quotas", re.search(r"\n  QUOTA +a quota for each rule, and the file of the table\n", run.out) and "\nMakes a game file from a table: " in run.out, run.out)
 case("--help succeeds", run.out.startswith("usage: council-tools from-table [") and (run.status, run.err) == (0, ""), run.err)
 for name, table, wanted in [("a longer row", "A,1\nB,2,x,\nC,4,, \n", ["column 3"]), ("numbers and words", "A,1,5\nB,2,x\n", ["column 3"]), ("two columns", "A,1,x,y\nB,2,z,3\n", ["column 3", "column 4"]), ("none", "A,1, \nB,2,,\n", [])]:
