@@ -111,7 +111,7 @@ gives("the last column that there may be", ["1", "--weight", "1000", "--no-headi
 gives("names after the weights", ["3", "2", "--name", "3", "--weight", "2", "--weight", "1"], "1,2,A\n1,4,B\n3,4,C\n", "[3, 2]", ["[2, 1]", "[4, 1]", "[4, 3]"])
 gives("a column by a number that begins with zeros", ["3", "--weight", "0000000002"], "A,1\nB,2\n", "3", ["1", "2"])
 gives("a column of names by its heading of nothing", ["5", "--name", ""], "no,,2019\n1,A,5\n2,B,3\n", "5", ["5", "3"])
-gives("a column of names by its heading of nothing, of heads", ["heads:2", "--name", ""], ",holder\n0,A\n1,B\n", "2", ["1", "1"])
+gives("a column of names by its heading of nothing, of heads", ["heads:2", "--name", ""], ",holder,seat\n0,A,x\n1,B,y\n", "2", ["1", "1"])
 gives("headings with blanks round them", ["3", "--name", "who", "--weight", "votes"], " who , votes \nA,1\nB,2\n", "3", ["1", "2"])
 gives("two rules", ["65%", "55%"], "name,people,states\nA,5.5,1\nB,3,1\nC,1,1\n", "[62, 2]", ["[55, 1]", "[30, 1]", "[10, 1]"])
 gives("heads", ["65%", "heads:55%"], "name,people\nA,5.5\nB,3\nC,1\n", "[62, 2]", ["[55, 1]", "[30, 1]", "[10, 1]"])
@@ -273,7 +273,7 @@ gives("--sum", ["60%", "--sum"], "A,5\nB,3\nA,1.5\n", "57", ["65", "30"])
 gives("--sum of two columns", ["60%", "1", "--sum"], "A,5,1\nB,3,1\nA,1,3\n", "[6, 1]", ["[6, 4]", "[3, 1]"])
 gives("--sum of 41 rows", ["60%", "--sum"], "A,60\n" + "".join(f"m{it % 20},1\n" for it in range(40)), "60", ["60"] + ["2"] * 20)
 case("--sum is in a comment", '\n# Added: lines 1, 3, "A"\n' in game("60%", "--sum", table="A,5\nB,3\nA,1\n").out)
-for name, words, table in [("R", ["60%"], '"","holder","votes"\n"1","A",5\n"2","B",3\n'), ("pandas", ["60%"], ",holder,votes\n0,A,5\n1,B,3\n"), ("pandas, of heads", ["heads:2"], ",holder\n0,A\n1,B\n"), ("a heading, of heads", ["heads:2"], "no,holder\n0,A\n1,B\n")]:
+for name, words, table in [("R", ["60%"], '"","holder","votes"\n"1","A",5\n"2","B",3\n'), ("pandas", ["60%"], ",holder,votes\n0,A,5\n1,B,3\n"), ("pandas, of heads", ["heads:2"], ",holder\n0,A\n1,B\n"), ("a heading, of heads", ["heads:2"], "no,holder\n0,A\n1,B\n"), ("a title, of heads", ["heads:2"], "Holders\n0,A\n1,B\n")]:
     fault(f"row numbers of {name}", game(*words, table=table), 1, "column 1 has row numbers, and column 2 the names: say --name 2")
 gives("row numbers", ["60%", "--name", "2"], '"","holder","votes"\n"1","A",5\n"2","B",3\n', "5", ["5", "3"])
 gives("names that are numbers", ["60%"], "1,5\n2,3\n", "5", ["5", "3"])
@@ -317,10 +317,11 @@ weights = [25, 1]
 name = "B"
 weights = [20, 1]
 """)
-run = game("1", "--round", "1", "--weight", "2", table="A,1.25%,7\n")
+run = game("1", "--round", "1", "--weight", "2", "--no-total", table="A,1.25%,7\nx,1.25%,7\n")
 same("one member, rounded: the comments", find_comments(run.out), [
     'From a table of 1 member, by council-tools from-table; "," separates the columns, and "." is the decimal sign',
     'Rule 1: percent, 1 decimal; column 2, rounded to 1 decimals, times 10; the quota "1" is at least 10',
+    'Left out: line 2, "x", the sum of all others',
     "Left out: column 3",
 ])
 same("one member, rounded: the game", re.sub("# .*\n", "", run.out), 'quota = 10\n\n[[member]]\nname = "A"\nweight = 13\n')
