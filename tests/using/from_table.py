@@ -317,6 +317,17 @@ weights = [25, 1]
 name = "B"
 weights = [20, 1]
 """)
+run = game("65%", "heads:2", "3", ">50%", "--weight", "share", "--weight", "people", "--weight", "states",
+           table="name,people,states,share\nA,5.5,1,40%\nB,3,2,35%\nC,1,1,25%\n")
+same("four rules in another order: the comments", find_comments(run.out), [
+    'From a table of 3 members, by council-tools from-table; "," separates the columns, and "." is the decimal sign',
+    'Rule 1: "share", percent; column 4; the quota "65%" is at least 13/20 of 100, which is 65',
+    'Rule 2: "heads"; each member weighs 1; the quota "heads:2" is at least 2',
+    'Rule 3: "people", 1 decimal; column 2, times 10; the quota "3" is at least 30',
+    'Rule 4: "states"; column 3; the quota ">50%" is more than 1/2 of 4, which is 2, so 3',
+    "Left out: line 1, the heading",
+])
+same("four rules in another order: the game", read(run.out), ("[65, 2, 30, 3]", ["[40, 1, 55, 1]", "[35, 1, 30, 2]", "[25, 1, 10, 1]"]))
 run = game("1", "--round", "1", "--weight", "2", "--no-total", table="A,1.25%,7\nx,1.25%,7\n")
 same("one member, rounded: the comments", find_comments(run.out), [
     'From a table of 1 member, by council-tools from-table; "," separates the columns, and "." is the decimal sign',
