@@ -82,6 +82,7 @@ gives("quotes round cells with separators", ["2"], '"Smith, John",1\n"A ""B"" C"
 gives("a byte order mark", ["1"], b"\xef\xbb\xbfA,1\n", "1", ["1"])
 gives("UTF-16 as Excel writes it", ["1"], "\ufeffn\tw\nÅ\t1\n".encode("utf-16-le"), "1", ["1"])
 gives("UTF-16 without a mark", ["1"], "A\t1\n".encode("utf-16-be"), "1", ["1"])
+gives("names of letters beyond the first 65536, and round those that are half a letter", ["1"], "\U0001f600\ud7ff\ue000,1\n", "1", ["1"])
 gives("another encoding", ["1", "--encoding", "cp1252"], b"\xc5land;1\n", "1", ["1"])
 gives("line ends of Windows, empty rows", ["3"], "A,1\r\n\r\n,,\r\n , \r\nB,2\r\n", "3", ["1", "2"])
 gives("line ends of an old Mac", ["3"], "A,1\rB,2\r", "3", ["1", "2"])
@@ -295,6 +296,7 @@ same("hostile headings are read back", hard, [" ".join(f"votes {it}".split()) fo
 
 # ---- comments say what was done, and no text of the table ends them
 run = game("2/3", "heads:2", "--name", "Holder", "--weight", "Votes", "--sum", "--no-total", "--source", " a\n book", "--title", "T",
+           "--heading", "--decimal", ",", "--round", "3", "--encoding", "utf-8",
            table="Holder;Country;Votes\nA;x;1,5\nB;y;2\nA;z;1\nTotal;;4,5\n")
 same("a whole game file: its comments", find_comments(run.out), [
     "Source: a book",
@@ -403,6 +405,8 @@ for name, words, table, status, text in [
     ("a name three times", ["1"], "A,1\nB,2\nB,2\nB,2\n", 1, 'line 3: the name "B" is in line 2 too (--sum adds their weights)'),
     ("a long name", ["1"], "é" * 33 + ",1\n", 1, f'line 1: the name "{"é" * 20}".. has more than 64 bytes, or a letter that is none to read'),
     ("a name that rings a bell", ["1"], "A\x07,1\n", 1, 'line 1: the name "A\\u0007".. has more than 64 bytes, or a letter that is none to read'),
+    *((f"a name with half a letter, {it}", ["1", "--encoding", "utf-7"], f"A+{it}-,1\n", 1, f'line 1: the name "A\\u{number}".. has more than 64 bytes, or a letter that is none to read')
+      for it, number in [("2AA", "D800"), ("3/8", "DFFF")]),
     ("no name", ["1"], ",1\n", 1, "line 1: there is no name"),
     ("a row that ends before the name", ["1", "--name", "2", "--weight", "1"], "1,A\n2\n", 1, "line 2: there is no name"),
     ("41 members", ["1"], "".join(f"m{it},1\n" for it in range(41)), 1, "line 41: this is member 41, and a game has at most 40"),
@@ -436,6 +440,8 @@ for name, words, table, status, text in [
     ("a weight that is no number, after sep=", ["1"], 'sep=;\n"A\nB";1\nB;x\n', 1, 'line 4, column 2: "x" is no number (--heading, --name and --weight say which cell is what)'),
     ("bytes of another encoding", ["1"], b"A,1\n\xc5,2\n", 1, "line 2 is not utf-8-sig: export the table as UTF-8, or say --encoding cp1252 or what it is"),
     ("no such encoding", ["1", "--encoding", "x\ny"], "A,1\n", 2, 'there is no encoding "x\\u000Ay"'),
+    ("an encoding of nothing", ["1", "--encoding", ""], "A,1\n", 2, 'there is no encoding ""'),
+    ("an encoding that reads nothing", ["1", "--encoding", "undefined"], "A,1\n", 2, 'there is no encoding "undefined"'),
     ("the file of a spreadsheet", ["1"], b"PK\x03\x04\x14\0", 1, "this is the file of a spreadsheet itself: export it as CSV, and give that"),
     ("the file of an old spreadsheet", ["1"], b"\xd0\xcf\x11\xe0\xa1\xb1\x1a\xe1\0\0", 1, "this is the file of a spreadsheet itself: export it as CSV, and give that"),
     ("a long title", ["1", "--title", "t" * 201], "A,1\n", 1, "the title has more than 200 bytes, or a letter that is none to read"),
@@ -492,7 +498,9 @@ same("--help explains each option", told, " ".join([
     "--decimal {.,,} the decimal sign, if the table does not tell", "--round N round weights to N decimals, a half upwards",
     "--encoding NAME the encoding of the table, as cp1252; else UTF-8 or UTF-16"]))
 case("--help explains the quotas", re.search(r"\n  QUOTA +a quota for each rule, and the file of the table\n", run.out) and "\nMakes a game file from a table: " in run.out, run.out)
-case("--help succeeds", run.out.startswith("usage: council-tools from-table [") and (run.status, run.err) == (0, ""), run.err)
+case("--help succeeds", (run.status, run.err) == (0, "") and " ".join(run.out.split()).startswith(
+    "usage: council-tools from-table [-h] [--title TEXT] [--source TEXT] [--name COLUMN] [--weight COLUMN] [--heading | --no-heading] [--all-rows | --no-total] [--sum] "
+    "[--decimal {.,,}] [--round N] [--encoding NAME] [QUOTA ...] Makes a game file"), run.err + run.out)
 for name, table, wanted in [("a longer row", "A,1\nB,2,x,\nC,4,, \n", ["column 3"]), ("numbers and words", "A,1,5\nB,2,x\n", ["column 3"]), ("two columns", "A,1,x,y\nB,2,z,3\n", ["column 3", "column 4"]), ("none", "A,1, \nB,2,,\n", [])]:
     found = [it for it in find_comments(game("2", table=table).out) if it.startswith("Left out")]
     same(f"columns that are left out: {name}", found, [f"Left out: {it}" for it in wanted])
