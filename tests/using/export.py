@@ -160,9 +160,10 @@ NAMES = [
     ("c ", "c\\ "),
     ("-- '' `` ,, ?` !` ?! !? d-", "-{}- '{}' `{}` ,{}, ?{}` !{}` ?{}! !{}? d-"),
     ("e\u0301\u0180\u0142\x9f\xa0\u017f\u0180", "é\u0180\u0142\x9f\xa0\u017f\u0180"),
+    ("\U0001f600\u4e2d\x80", "\U0001f600\u4e2d\x80"),
 ]
 NUMBERS = [f"\\ifcsname u8:\\detokenize{{{it}}}\\endcsname\\else\\expandafter\\def\\csname u8:\\detokenize{{{it}}}\\endcsname{{[U+{number}]}}\\fi"
-           for it, number in [("\x9f", "009F"), ("\u0180", "0180")]]
+           for it, number in [("\x80", "0080"), ("\x9f", "009F"), ("\u0180", "0180"), ("\u4e2d", "4E2D"), ("\U0001f600", "1F600")]]
 same("latex: names, letter by letter", Run(TOOL, "latex", "--columns", "name", input=of(*(it for it, _ in NAMES))).out.split("\n"), [
     PACKAGES, *NUMBERS, "\\begin{tabular}{l}", "\\toprule", "Member \\\\", "\\midrule", *(f"{it} \\\\" for _, it in NAMES), "\\bottomrule", "\\end{tabular}", ""])
 names = "latex: pdflatex prints hostile names", "latex: several rules and fractions"
