@@ -440,6 +440,7 @@ for name, words, table, status, text in [
     ("a weight that is no number, after sep=", ["1"], 'sep=;\n"A\nB";1\nB;x\n', 1, 'line 4, column 2: "x" is no number (--heading, --name and --weight say which cell is what)'),
     ("bytes of another encoding", ["1"], b"A,1\n\xc5,2\n", 1, "line 2 is not utf-8-sig: export the table as UTF-8, or say --encoding cp1252 or what it is"),
     ("no such encoding", ["1", "--encoding", "x\ny"], "A,1\n", 2, 'there is no encoding "x\\u000Ay"'),
+    ("half a letter of UTF-16", ["1"], "A,1\nB,2\n".encode("utf-16-le")[:-1], 1, "line 2 is not utf-16-le: export the table as UTF-8, or say --encoding cp1252 or what it is"),
     ("an encoding of nothing", ["1", "--encoding", ""], "A,1\n", 2, 'there is no encoding ""'),
     ("an encoding that reads nothing", ["1", "--encoding", "undefined"], "A,1\n", 2, 'there is no encoding "undefined"'),
     ("the file of a spreadsheet", ["1"], b"PK\x03\x04\x14\0", 1, "this is the file of a spreadsheet itself: export it as CSV, and give that"),
