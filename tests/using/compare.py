@@ -82,6 +82,8 @@ for name, one, other, wanted in [
     ("signs and letters", "--", "Abcd", False),
     ("a beginning of four letters", "Abcd efghijk", "Abcd", True),
     ("a beginning of three letters", "Abc defghijk", "Abc", False),
+    ("a beginning of three letters of a word", "Abcd efghijk", "Abc", False),
+    ("a beginning of two short words", "A bcd efghijkl", "A bcd", True),
     ("a first word of five letters that grows", "Abcde uvwxyz", "Abcdefgh mnop", True),
     ("a first word of four letters that grows", "Abcd uvwxyz", "Abcdefgh mnop", False),
     ("a first word that does not grow", "Abcde uvwxyz", "Abcde mnop", False),
