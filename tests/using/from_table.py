@@ -161,7 +161,8 @@ for cells in ["1", "1", "1", ""], ["0", "0", "0", "0"]:
     table = "A,33%,{}\nB,33%,{}\nC,33%,{}\nx,100%,{}\n".format(*cells)
     fault(f"a sum beside {cells[3] or 'an empty cell'}", game("1", "1", table=table), 1, f'line 4, "x", is nearly the sum of all others: {ASKS}')
 fault("one exact sum of two", game("1", "1", table="A,33%,1\nB,33%,2\nC,33%,3\nx,100%,6\n"), 1, f'line 4, "x", is the sum of all others: {ASKS}')
-for table, line, label in [("A,5\nB,3\n TOTAL: ,1\n", 3, "TOTAL:"), ("A,5\nB,3\nTotal :,1\n", 3, "Total :"), ("Total,1\nA,5\nB,3\n", 1, "Total"), ("Sum,1\nA,5\nTotal.,3\n", 3, "Total.")]:
+for table, line, label in [("A,5\nB,3\n TOTAL: ,1\n", 3, "TOTAL:"), ("A,5\nB,3\nTotal :,1\n", 3, "Total :"), ("Total,1\nA,5\nB,3\n", 1, "Total"), ("Sum,1\nA,5\nTotal.,3\n", 3, "Total."),
+                           *((f"A,5\nB,3\n{it},1\n", 3, it) for it in "Totals SUM Sums All Summe Gesamt Insgesamt Somme Ensemble Totale Suma Subtotal Subtotals".split())]:
     fault(f"a total by its name, {label}", game("60%", table=table), 1, f'line {line}, "{label}", is a total by its name, but not the sum of all others: {ASKS}')
 gives("one member is no total", ["1"], "Totals and more,1\n", "1", ["1"])
 same("a sum is left out silently", game("60%", "--no-total", table="A,5\nB,3\nx,8\n").err, "")
@@ -207,7 +208,7 @@ fault("a long first row is cut", game("heads:2", table="F" * 41 + "\nA\nB\n"), 1
 gives("a heading of heads over some numbers", ["heads:2"], 'Fraktion,Land,Sitze\nA,x\nB,y, \nC,z,"5\n"\n', "2", ["1", "1", "1"])
 gives("a heading of heads over numbers before other columns", ["heads:2"], "Fraktion,Sitze,Land\nA,5,x\nB,,y\nC,6\n", "2", ["1", "1", "1"])
 gives("a heading of heads over a single cell", ["heads:2", "--heading"], "Fraktion\nA,5\nB,3\n", "2", ["1", "1"])
-for name, heading in [("a short word after Name", "NAME,x1"), *((f"the letter {it}", f"x,{it}") for it in "wWqQ"), ("a percent sign", "x,%"), ("a word of three letters", "x,Abc")]:
+for name, heading in [*((f"a short word after {it}", f"{it},x1") for it in ("NAME", "names", "Member", "Members")), *((f"the letter {it}", f"x,{it}") for it in "wWqQ"), ("a percent sign", "x,%"), ("a word of three letters", "x,Abc")]:
     gives(f"a heading: {name}", ["60%"], f"{heading}\nA,5\nB,3\n", "5", ["5", "3"])
 NUMBERED = "is no number (--heading, --name and --weight say which cell is what)"
 for heading, told in [("x,w1", "w1"), ("x,z", "z"), ("x,NaN", "NaN"), ("x,None", "None"), ("x,null", "null"), ("x,votes,5", "votes"), ("Name,w1,5", "w1"), ("x,w,", "w"), ("Name,w1,", "w1"), ("Name,w1", "w1")]:
