@@ -44,13 +44,14 @@ same("council-tools compare: a member and its differences", row[1:9], ["1", "0.0
 row = next(it.split() for it in lines if it.startswith("Denmark"))
 same("council-tools compare: a member that the first has not", row[1:9], ["-", "-", "-", "3", "0.088000", "0.089655", "-", "-"])
 case("council-tools compare: columns stand below each other", len({it.rindex(it.split()[-1]) + len(it.split()[-1]) for it in lines[5:-1]}) == 1, lines[5:8])
-run = Run(TOOL, stored("eu-27-nice"), stored("eu-27-lisbon"), apart=True)
-case("council-tools compare: several rules, as a user runs it", run.status == 0 and run.err == "" and "255/620/14 of 345/1,000/27" in run.out, run.err)
+run = Run(TOOL, stored("eu-27-nice"), stored("eec-1958"), apart=True)
+same("council-tools compare: several rules, as a user runs it", (run.status, run.err, run.out.split("\n")[0]), (
+    0, "", "1  Council of the European Union, 27 members under the Treaty of Nice, by votes, population per mille and states: 255/620/14 of 345/1,000/27, minimal winning coalitions: 561,820"))
 
 # under two rules A and the second win, or A and the last two: the indices are 5/12, 1/4, 1/6, 1/6
 # and 2/5, 1/5, 1/5, 1/5
-first = put("two", report(write_game(["A", "e\u0301", "中文", "D"], [5000, 2], [[3000, 1], [2000, 1], [1000, 1], [1000, 1]], "A \u202e game")))
-run = Run(TOOL, first, "-", game("one", "A"), input="\ufeff" + report(write_game(["A", "中文", "x"], [3], [[1]] * 3)))
+first = put("two", report(write_game(["A", "e\u0301", "中Ｘ", "D"], [5000, 2], [[3000, 1], [2000, 1], [1000, 1], [1000, 1]], "A \u202e game")))
+run = Run(TOOL, first, "-", game("one", "A"), input="\ufeff" + report(write_game(["A", "中Ｘ", "x"], [3], [[1]] * 3)))
 same("council-tools compare: letters of any width, members that are not in all", (run.status, run.err, run.out.split("\n")), (0, "", [
     "1  A   game: 5,000/2 of 7,000/4, minimal winning coalitions: 2",
     "2  A game: 3 of 3, minimal winning coalitions: 1",
@@ -60,7 +61,7 @@ same("council-tools compare: letters of any width, members that are not in all",
     "        weight        DP        PG   weight        DP        PG          DP         PG   weight        DP        PG          DP         PG",
     "A      3,000/1  0.416666  0.400000        1  0.333333  0.333333   -0.083333  -0.066667        1  1.000000  1.000000   +0.583333  +0.600000",
     "e\u0301      2,000/1  0.250000  0.200000        -         -         -           -          -        -         -         -           -          -",
-    "中文   1,000/1  0.166666  0.200000        1  0.333333  0.333333   +0.166667  +0.133333        -         -         -           -          -",
+    "中Ｘ   1,000/1  0.166666  0.200000        1  0.333333  0.333333   +0.166667  +0.133333        -         -         -           -          -",
     "D      1,000/1  0.166666  0.200000        -         -         -           -          -        -         -         -           -          -",
     "x            -         -         -        1  0.333333  0.333333           -          -        -         -         -           -          -", ""]))
 for value, wanted in [(Fraction(0), "0.000000"), (Fraction(-1, 3 * 10**6), "0.000000"), (Fraction(1, 2 * 10**6), "+0.000001"), (Fraction(-1), "-1.000000")]:
@@ -81,6 +82,8 @@ for name, one, other, wanted in [
     ("signs and letters", "--", "Abcd", False),
     ("a beginning of four letters", "Abcd efghijk", "Abcd", True),
     ("a beginning of three letters", "Abc defghijk", "Abc", False),
+    ("a beginning of three letters of a word", "Abcd efghijk", "Abc", False),
+    ("a beginning of two short words", "A bcd efghijkl", "A bcd", True),
     ("a first word of five letters that grows", "Abcde uvwxyz", "Abcdefgh mnop", True),
     ("a first word of four letters that grows", "Abcd uvwxyz", "Abcdefgh mnop", False),
     ("a first word that does not grow", "Abcde uvwxyz", "Abcde mnop", False),
@@ -129,9 +132,11 @@ case("council-tools compare: a shell runs none of it", not os.path.exists(f"{TEM
 
 # ---- the words
 told = Run(TOOL, "--help").out
-wanted = ["REPORT a report of council", "--same NAME OTHER two names", "Shows two games or more side by side"]
-case("council-tools compare: --help", " ".join(told.split()).startswith("usage: council-tools compare [-h] [--same NAME OTHER] REPORT [REPORT ...] ") and all(it in " ".join(told.split()) for it in wanted), told)
-case("council-tools compare: --same of a name that no report has", Run(TOOL, old, new, "--same", "Iceland", "nobody").status == 0)
+wanted = ["REPORT a report of council; - is standard input ", " --same NAME OTHER two names that are one member", "Shows two games or more side by side"]
+case("council-tools compare: --help", " ".join(told.split()).startswith("usage: council-tools compare [-h] [--same NAME OTHER] REPORT [REPORT ...] ") and all(it in " ".join(told.split()) for it in wanted) and told.endswith(" two names that are one member\n"), told)
+for words, wanted in [(["Iceland", "nobody"], "Iceland"), (["nobody", "Iceland"], "nobody")]:
+    run = Run(TOOL, new, old, "--same", *words)
+    same(f"council-tools compare: --same of a name that no report has, {words}", (run.status, wanted in run.out, run.out.count("Iceland")), (0, True, int(wanted == "Iceland")))
 
 # ---- what is refused
 for name, words, text in [

@@ -46,8 +46,8 @@ same("csv: a mark in front", Run(TOOL, "csv", "--mark", input=HARD).out, "\ufeff
 run = Run(TOOL, "csv", "--columns", "public_good,name,share", "--decimals", "2", input=stored("ec-1973"))
 same("csv: chosen columns, rounded", run.out.split("\n")[:2], ["public_good,name,share", '0.14,"Germany",0.17'])
 
-run = Run(TOOL, "csv", "--decimal", ",", "--columns", "name,weight,share,deegan_packel,deegan_packel_exact", input=stored("ec-1973"))
-same("csv: a decimal comma", run.out.split("\n")[:2], ["name;weight;share;deegan_packel;deegan_packel_exact", '"Germany";10;0,172414;0,140000;"7/50"'])
+run = Run(TOOL, "csv", "--decimal", ",", "--columns", "name,weight,share,deegan_packel,public_good,deegan_packel_exact", input=stored("ec-1973"))
+same("csv: a decimal comma", run.out.split("\n")[:2], ["name;weight;share;deegan_packel;public_good;deegan_packel_exact", '"Germany";10;0,172414;0,140000;0,137931;"7/50"'])
 hard = list(csv.DictReader(io.StringIO(Run(TOOL, "csv", "--decimal", ",", input=HARD).out), delimiter=";"))
 same("csv: a decimal comma, hostile names", [it["name"] for it in hard], cells)
 same("csv: the columns", Run(TOOL, "csv", input=stored("eec-1958")).out.split("\n")[:2],
@@ -140,15 +140,15 @@ for form, wanted in [("markdown", "| Germany | 834 | 4,048,337 |"), ("latex", "G
 run = Run(TOOL, "latex", "--decimals", "3", input=stored("eec-1958"))
 case("latex: a table", "Germany & 4 & 0.208 & 0.200 \\\\\n" in run.out and run.out.endswith("\\bottomrule\n\\end{tabular}\n"), run.out)
 PACKAGES = "% \\usepackage{booktabs}, and \\usepackage[T1]{fontenc} for letters with accents"
-same("latex: two rules", Run(TOOL, "latex", "--mark", "--columns", "public_good_exact,name,weight,share,coalitions,deegan_packel", input=TWO).out.split("\n"), [
+same("latex: two rules", Run(TOOL, "latex", "--mark", "--columns", "public_good_exact,name,weight,share,coalitions,deegan_packel,deegan_packel_exact", input=TWO).out.split("\n"), [
     "% A & É", PACKAGES,
-    "\\begin{tabular}{rlrrrrrr}",
+    "\\begin{tabular}{rlrrrrrrr}",
     "\\toprule",
-    "Public good & Member & Weight, rule 1 & Weight, rule 2 & Share, rule 1 & Share, rule 2 & Coalitions & Deegan-Packel \\\\",
+    "Public good & Member & Weight, rule 1 & Weight, rule 2 & Share, rule 1 & Share, rule 2 & Coalitions & Deegan-Packel & Deegan-Packel \\\\",
     "\\midrule",
-    "$2/5$ & A & 3,000 & 1 & 0.4286 & 0.2500 & 2 & 0.4167 \\\\",
-    "$1/5$ & B & 2,000 & 1 & 0.2857 & 0.2500 & 1 & 0.2500 \\\\",
-    *(f"$1/5$ & {it} & 1,000 & 1 & 0.1429 & 0.2500 & 1 & 0.1667 \\\\" for it in "CD"),
+    "$2/5$ & A & 3,000 & 1 & 0.4286 & 0.2500 & 2 & 0.4167 & $5/12$ \\\\",
+    "$1/5$ & B & 2,000 & 1 & 0.2857 & 0.2500 & 1 & 0.2500 & $1/4$ \\\\",
+    *(f"$1/5$ & {it} & 1,000 & 1 & 0.1429 & 0.2500 & 1 & 0.1667 & $1/6$ \\\\" for it in "CD"),
     "\\bottomrule", "\\end{tabular}", ""])
 # a name, and what prints it letter by letter: LaTeX makes one letter of -- and of ?`, and one blank
 # of two
@@ -158,11 +158,12 @@ NAMES = [
     ('"a" [b]*', r"{\char34}a{\char34} {[}b{]}{*}"),
     (" a  b", r"\ a \ b"),
     ("c ", "c\\ "),
-    ("-- '' `` ,, ?` !` d-", "-{}- '{}' `{}` ,{}, ?{}` !{}` d-"),
+    ("-- '' `` ,, ?` !` ?! !? d-", "-{}- '{}' `{}` ,{}, ?{}` !{}` ?{}! !{}? d-"),
     ("e\u0301\u0180\u0142\x9f\xa0\u017f\u0180", "é\u0180\u0142\x9f\xa0\u017f\u0180"),
+    ("\U0001f600\u4e2d\x80", "\U0001f600\u4e2d\x80"),
 ]
 NUMBERS = [f"\\ifcsname u8:\\detokenize{{{it}}}\\endcsname\\else\\expandafter\\def\\csname u8:\\detokenize{{{it}}}\\endcsname{{[U+{number}]}}\\fi"
-           for it, number in [("\x9f", "009F"), ("\u0180", "0180")]]
+           for it, number in [("\x80", "0080"), ("\x9f", "009F"), ("\u0180", "0180"), ("\u4e2d", "4E2D"), ("\U0001f600", "1F600")]]
 same("latex: names, letter by letter", Run(TOOL, "latex", "--columns", "name", input=of(*(it for it, _ in NAMES))).out.split("\n"), [
     PACKAGES, *NUMBERS, "\\begin{tabular}{l}", "\\toprule", "Member \\\\", "\\midrule", *(f"{it} \\\\" for _, it in NAMES), "\\bottomrule", "\\end{tabular}", ""])
 names = "latex: pdflatex prints hostile names", "latex: several rules and fractions"
@@ -184,9 +185,11 @@ if needs("pdflatex", *names):
 # ---- the words
 run = Run(TOOL, "--help")
 told = " ".join(run.out.split())
-wanted = ["Writes a report of council as CSV", "FORMAT csv, json", "REPORT a report of council", "--columns NAME,.. the columns", "--decimals N decimals", "--decimal {.,,} the decimal sign", "--mark a byte order mark"]
+wanted = ["Writes a report of council as CSV", "FORMAT csv, json, latex or markdown REPORT a report of council; without one, or as -, standard input ",
+          "--columns NAME,.. the columns of a table, in this order --decimals N decimals, 1 to 30, rounded from the fractions, a half upwards; else in csv and json six, cut off, and in tables four "
+          "--decimal {.,,} the decimal sign of csv; with a comma, semicolons separate the columns --mark a byte order mark in front of csv, by which Excel knows UTF-8"]
 case("export: --help", run.status == 0 and told.startswith("usage: council-tools export [-h] [--columns NAME,..] [--decimals N] [--decimal {.,,}] [--mark] [FORMAT] [REPORT] ")
-     and "\n    csv       A line for each member" in run.out and all(it in told for it in wanted), run.out)
+     and "\n    csv       A line for each member" in run.out and all(it in told for it in wanted) and told.endswith(wanted[2]), run.out)
 for number, wanted in [("1", "0.2"), ("30", "0.1" + "6" * 28 + "7")]:
     same(f"export: --decimals {number}", Run(TOOL, "csv", "--columns", "public_good", "--decimals", number, input=of(*"ABCDEF")).out.split("\n")[1], wanted)
 for option, value in [("--decimals", "0"), ("--decimals", "31"), ("--decimal", ";")]:

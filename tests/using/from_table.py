@@ -82,6 +82,7 @@ gives("quotes round cells with separators", ["2"], '"Smith, John",1\n"A ""B"" C"
 gives("a byte order mark", ["1"], b"\xef\xbb\xbfA,1\n", "1", ["1"])
 gives("UTF-16 as Excel writes it", ["1"], "\ufeffn\tw\nÅ\t1\n".encode("utf-16-le"), "1", ["1"])
 gives("UTF-16 without a mark", ["1"], "A\t1\n".encode("utf-16-be"), "1", ["1"])
+gives("names of letters beyond the first 65536, and round those that are half a letter", ["1"], "\U0001f600\ud7ff\ue000,1\n", "1", ["1"])
 gives("another encoding", ["1", "--encoding", "cp1252"], b"\xc5land;1\n", "1", ["1"])
 gives("line ends of Windows, empty rows", ["3"], "A,1\r\n\r\n,,\r\n , \r\nB,2\r\n", "3", ["1", "2"])
 gives("line ends of an old Mac", ["3"], "A,1\rB,2\r", "3", ["1", "2"])
@@ -109,6 +110,9 @@ gives("a decimal sign of one column of two", ["1", "1"], "A;1,5;1,000\nB;2;2\n",
 gives("a percentage below 1", ["0.5%"], "A,600\nB,400\n", "5", ["600", "400"])
 gives("the last column that there may be", ["1", "--weight", "1000", "--no-heading"], "A" + "," * 999 + "1\n", "1", ["1"])
 gives("names after the weights", ["3", "2", "--name", "3", "--weight", "2", "--weight", "1"], "1,2,A\n1,4,B\n3,4,C\n", "[3, 2]", ["[2, 1]", "[4, 1]", "[4, 3]"])
+gives("a column by a number that begins with zeros", ["3", "--weight", "0000000002"], "A,1\nB,2\n", "3", ["1", "2"])
+gives("a column of names by its heading of nothing", ["5", "--name", ""], "no,,2019\n1,A,5\n2,B,3\n", "5", ["5", "3"])
+gives("a column of names by its heading of nothing, of heads", ["heads:2", "--name", ""], ",holder,seat\n0,A,x\n1,B,y\n", "2", ["1", "1"])
 gives("headings with blanks round them", ["3", "--name", "who", "--weight", "votes"], " who , votes \nA,1\nB,2\n", "3", ["1", "2"])
 gives("two rules", ["65%", "55%"], "name,people,states\nA,5.5,1\nB,3,1\nC,1,1\n", "[62, 2]", ["[55, 1]", "[30, 1]", "[10, 1]"])
 gives("heads", ["65%", "heads:55%"], "name,people\nA,5.5\nB,3\nC,1\n", "[62, 2]", ["[55, 1]", "[30, 1]", "[10, 1]"])
@@ -120,12 +124,16 @@ TABLE = "A,40\nB,35\nC,26\n"
 for quota, wanted, *how in [(">50%", 51), ("50%", 51), ("1/2", 51), (">1/2", 51), ("2/3", 68, "at least 2/3 of 101, which is 67.333333.., so 68"),
                             (">2/3", 68, "more than 2/3 of 101, which is 67.333333.., so 68"), ("100%", 101, "at least 1/1 of 101, which is 101"), ("51", 51), (">50", 51, "more than 50, so 51"),
                             ("49.5", 50), (">=49,5", 50), ("≥49.5", 50), ("66.67%", 68), (" > 2 / 3 ", 68), ("1", 1), ("101", 101), (">100", 101), ("200/200", 101),
-                            ("heads:2", 2, "at least 2"), ("heads:>1/3", 2, "more than 1/3 of 3, which is 1, so 2"), (" heads: > 1/3 ", 2), ("heads:>=2", 2), ("heads:100%", 3)]:
+                            ("heads:2", 2, "at least 2"), ("heads:>1/3", 2, "more than 1/3 of 3, which is 1, so 2"), (" heads: > 1/3 ", 2), ("heads:>=2", 2), ("heads:100%", 3),
+                            (">0%", 1, "more than 0/1 of 101, which is 0, so 1")]:
     run = game(quota, table=TABLE)
     same(f"a quota: {quota} of 101", read(run.out or "quota = none")[0], str(wanted))
     if how:
         what = '"heads"; each member weighs 1' if "heads" in quota else "column 2"
         same(f"a quota in a comment: {quota}", find_comments(run.out)[1:2], [f'Rule 1: {what}; the quota "{quota}" is {how[0]}'])
+
+run = game(">2/3", table=TABLE.replace(",", ",10"))
+same("a quota in a comment: thousands", find_comments(run.out)[1], 'Rule 1: column 2; the quota ">2/3" is more than 2/3 of 3,101, which is 2,067.333333.., so 2,068')
 
 # ---- a row that has the sum of all others is a total or a member: the user says which
 ASKS = "say --no-total to leave it out, or --all-rows if it is a member"
@@ -153,7 +161,8 @@ for cells in ["1", "1", "1", ""], ["0", "0", "0", "0"]:
     table = "A,33%,{}\nB,33%,{}\nC,33%,{}\nx,100%,{}\n".format(*cells)
     fault(f"a sum beside {cells[3] or 'an empty cell'}", game("1", "1", table=table), 1, f'line 4, "x", is nearly the sum of all others: {ASKS}')
 fault("one exact sum of two", game("1", "1", table="A,33%,1\nB,33%,2\nC,33%,3\nx,100%,6\n"), 1, f'line 4, "x", is the sum of all others: {ASKS}')
-for table, line, label in [("A,5\nB,3\n TOTAL: ,1\n", 3, "TOTAL:"), ("Total,1\nA,5\nB,3\n", 1, "Total"), ("Sum,1\nA,5\nTotal.,3\n", 3, "Total.")]:
+for table, line, label in [("A,5\nB,3\n TOTAL: ,1\n", 3, "TOTAL:"), ("A,5\nB,3\nTotal :,1\n", 3, "Total :"), ("Total,1\nA,5\nB,3\n", 1, "Total"), ("Sum,1\nA,5\nTotal.,3\n", 3, "Total."),
+                           *((f"A,5\nB,3\n{it},1\n", 3, it) for it in "Totals SUM Sums All Summe Gesamt Insgesamt Somme Ensemble Totale Suma Subtotal Subtotals".split())]:
     fault(f"a total by its name, {label}", game("60%", table=table), 1, f'line {line}, "{label}", is a total by its name, but not the sum of all others: {ASKS}')
 gives("one member is no total", ["1"], "Totals and more,1\n", "1", ["1"])
 same("a sum is left out silently", game("60%", "--no-total", table="A,5\nB,3\nx,8\n").err, "")
@@ -197,8 +206,9 @@ fault("a first row Name of heads beside numbers", game("heads:2", table="Name,4\
 fault("a first row of heads over names that are numbers", game("heads:2", "--name", "1", table="Nummer,Land\n1,x\n2,y\n"), 1, f'line 1, "Nummer", {MAY}')
 fault("a long first row is cut", game("heads:2", table="F" * 41 + "\nA\nB\n"), 1, f'line 1, "{"F" * 40}", {MAY}')
 gives("a heading of heads over some numbers", ["heads:2"], 'Fraktion,Land,Sitze\nA,x\nB,y, \nC,z,"5\n"\n', "2", ["1", "1", "1"])
+gives("a heading of heads over numbers before other columns", ["heads:2"], "Fraktion,Sitze,Land\nA,5,x\nB,,y\nC,6\n", "2", ["1", "1", "1"])
 gives("a heading of heads over a single cell", ["heads:2", "--heading"], "Fraktion\nA,5\nB,3\n", "2", ["1", "1"])
-for name, heading in [("a short word after Name", "NAME,x1"), ("a letter that means weight", "x,w"), ("a percent sign", "x,%"), ("a word of three letters", "x,Abc")]:
+for name, heading in [*((f"a short word after {it}", f"{it},x1") for it in ("NAME", "names", "Member", "Members")), *((f"the letter {it}", f"x,{it}") for it in "wWqQ"), ("a percent sign", "x,%"), ("a word of three letters", "x,Abc")]:
     gives(f"a heading: {name}", ["60%"], f"{heading}\nA,5\nB,3\n", "5", ["5", "3"])
 NUMBERED = "is no number (--heading, --name and --weight say which cell is what)"
 for heading, told in [("x,w1", "w1"), ("x,z", "z"), ("x,NaN", "NaN"), ("x,None", "None"), ("x,null", "null"), ("x,votes,5", "votes"), ("Name,w1,5", "w1"), ("x,w,", "w"), ("Name,w1,", "w1"), ("Name,w1", "w1")]:
@@ -211,6 +221,7 @@ fault("a heading of a year", game("60%", table="EU,2019\nA,5\nB,3\n"), 1, 'line 
 fault("a heading that is a number", game("60%", table="Member,1\nA,5\nB,3\n"), 1, 'line 1, "Member", may be a heading or a member: say --heading or --no-heading')
 gives("a member with as many votes as a year", ["60%", "--no-heading"], "A,2019\nB,500\n", "1512", ["2019", "500"])
 fault("--heading and --no-heading", game("60%", "--heading", "--no-heading", table="A,5\n"), 2, "argument --no-heading: not allowed with argument --heading (--help says more)")
+fault("--all-rows and --no-total", game("60%", "--all-rows", "--no-total", table="A,5\n"), 2, "argument --no-total: not allowed with argument --all-rows (--help says more)")
 fault("--no-heading and a column by its heading", game("60%", "--no-heading", "--name", "who", "--weight", "votes", table="who,votes\nA,5\n"), 2, '--no-heading: the column "who" is chosen by its heading')
 
 # ---- a quota below 1 is a share that lacks its sign; one of at most half is doubtful
@@ -264,7 +275,7 @@ gives("--sum", ["60%", "--sum"], "A,5\nB,3\nA,1.5\n", "57", ["65", "30"])
 gives("--sum of two columns", ["60%", "1", "--sum"], "A,5,1\nB,3,1\nA,1,3\n", "[6, 1]", ["[6, 4]", "[3, 1]"])
 gives("--sum of 41 rows", ["60%", "--sum"], "A,60\n" + "".join(f"m{it % 20},1\n" for it in range(40)), "60", ["60"] + ["2"] * 20)
 case("--sum is in a comment", '\n# Added: lines 1, 3, "A"\n' in game("60%", "--sum", table="A,5\nB,3\nA,1\n").out)
-for name, words, table in [("R", ["60%"], '"","holder","votes"\n"1","A",5\n"2","B",3\n'), ("pandas", ["60%"], ",holder,votes\n0,A,5\n1,B,3\n"), ("pandas, of heads", ["heads:2"], ",holder\n0,A\n1,B\n"), ("a heading, of heads", ["heads:2"], "no,holder\n0,A\n1,B\n")]:
+for name, words, table in [("R", ["60%"], '"","holder","votes"\n"1","A",5\n"2","B",3\n'), ("pandas", ["60%"], ",holder,votes\n0,A,5\n1,B,3\n"), ("pandas, of heads", ["heads:2"], ",holder\n0,A\n1,B\n"), ("a heading, of heads", ["heads:2"], "no,holder\n0,A\n1,B\n"), ("a title, of heads", ["heads:2"], "Holders\n0,A\n1,B\n")]:
     fault(f"row numbers of {name}", game(*words, table=table), 1, "column 1 has row numbers, and column 2 the names: say --name 2")
 gives("row numbers", ["60%", "--name", "2"], '"","holder","votes"\n"1","A",5\n"2","B",3\n', "5", ["5", "3"])
 gives("names that are numbers", ["60%"], "1,5\n2,3\n", "5", ["5", "3"])
@@ -286,6 +297,7 @@ same("hostile headings are read back", hard, [" ".join(f"votes {it}".split()) fo
 
 # ---- comments say what was done, and no text of the table ends them
 run = game("2/3", "heads:2", "--name", "Holder", "--weight", "Votes", "--sum", "--no-total", "--source", " a\n book", "--title", "T",
+           "--heading", "--decimal", ",", "--round", "3", "--encoding", "utf-8",
            table="Holder;Country;Votes\nA;x;1,5\nB;y;2\nA;z;1\nTotal;;4,5\n")
 same("a whole game file: its comments", find_comments(run.out), [
     "Source: a book",
@@ -308,10 +320,22 @@ weights = [25, 1]
 name = "B"
 weights = [20, 1]
 """)
-run = game("1", "--round", "1", "--weight", "2", table="A,1.25%,7\n")
+run = game("65%", "heads:2", "3", ">50%", "--weight", "share", "--weight", "people", "--weight", "states",
+           table="name,people,states,share\nA,5.5,1,40%\nB,3,2,35%\nC,1,1,25%\n")
+same("four rules in another order: the comments", find_comments(run.out), [
+    'From a table of 3 members, by council-tools from-table; "," separates the columns, and "." is the decimal sign',
+    'Rule 1: "share", percent; column 4; the quota "65%" is at least 13/20 of 100, which is 65',
+    'Rule 2: "heads"; each member weighs 1; the quota "heads:2" is at least 2',
+    'Rule 3: "people", 1 decimal; column 2, times 10; the quota "3" is at least 30',
+    'Rule 4: "states"; column 3; the quota ">50%" is more than 1/2 of 4, which is 2, so 3',
+    "Left out: line 1, the heading",
+])
+same("four rules in another order: the game", read(run.out), ("[65, 2, 30, 3]", ["[40, 1, 55, 1]", "[35, 1, 30, 2]", "[25, 1, 10, 1]"]))
+run = game("1", "--round", "1", "--weight", "2", "--no-total", table="A,1.25%,7\nx,1.25%,7\n")
 same("one member, rounded: the comments", find_comments(run.out), [
     'From a table of 1 member, by council-tools from-table; "," separates the columns, and "." is the decimal sign',
     'Rule 1: percent, 1 decimal; column 2, rounded to 1 decimals, times 10; the quota "1" is at least 10',
+    'Left out: line 2, "x", the sum of all others',
     "Left out: column 3",
 ])
 same("one member, rounded: the game", re.sub("# .*\n", "", run.out), 'quota = 10\n\n[[member]]\nname = "A"\nweight = 13\n')
@@ -346,6 +370,8 @@ for name, words, table, status, text in [
     ("a quota with another decimal sign", ["1.5"], "A;2,5\nB;1\n", 2, 'the quota "1.5" is no number with "," before its decimals'),
     ("a quota of two readings", ["1,000"], "A,2000\n", 2, 'the quota "1,000" may have decimals or thousands: say --decimal . or --decimal ,'),
     ("a quota above the total", ["120%"], "A,1\nB,2\n", 2, 'the quota "120%" comes to 4, and must be from 1 to 3, the total'),
+    ("a quota above a total of thousands", ["101%"], "A,1000\nB,2000\n", 2, 'the quota "101%" comes to 3,030, and must be from 1 to 3,000, the total'),
+    ("heads without a colon", ["heads 2"], "A,1\nB,2\n", 2, no_quota("heads 2")),
     ("more than all", [">100%"], "A,1\nB,2\n", 2, 'the quota ">100%" comes to 4, and must be from 1 to 3, the total'),
     ("a quota of nothing", ["0"], "A,1\nB,2\n", 2, 'the quota "0" comes to 0, and must be from 1 to 3, the total'),
     ("no table", ["1"], "", 1, "there is no table: nothing was read"),
@@ -372,6 +398,7 @@ for name, words, table, status, text in [
     ("thousands or decimals", ["1"], 'A,1\nB,"1,000"\n', 1, f'{AT}: "1,000" may have decimals or thousands: say --decimal . or --decimal ,'),
     ("two decimal signs", ["1"], 'A;1\nB;1.5\nC;2.5\nD;1,5\n', 1, f'line 4, column 2: "1,5" is no number with "." before its decimals; {AT}: "1.5" has another'),
     ("percent signs here and there", ["1"], "A,2%\nB,1\n", 1, f'{AT}: "1": some weights of this column have a percent sign, and some have none'),
+    ("percent signs here and there in one column of three", ["1"] * 3, "A,5,2%,7\nB,6,1,8\n", 1, 'line 2, column 3: "1": some weights of this column have a percent sign, and some have none'),
     ("a percent sign after a zero", ["1"], "A,0\nB,2\nC,0%\nD,1%\n", 1, 'line 4, column 2: "1%": some weights of this column have a percent sign, and some have none'),
     ("a total that is none", ["1"], "A,1\nB,2\nTotal,4\n", 1,
      'line 3, "Total", is a total by its name, but not the sum of all others: say --no-total to leave it out, or --all-rows if it is a member'),
@@ -379,6 +406,8 @@ for name, words, table, status, text in [
     ("a name three times", ["1"], "A,1\nB,2\nB,2\nB,2\n", 1, 'line 3: the name "B" is in line 2 too (--sum adds their weights)'),
     ("a long name", ["1"], "é" * 33 + ",1\n", 1, f'line 1: the name "{"é" * 20}".. has more than 64 bytes, or a letter that is none to read'),
     ("a name that rings a bell", ["1"], "A\x07,1\n", 1, 'line 1: the name "A\\u0007".. has more than 64 bytes, or a letter that is none to read'),
+    *((f"a name with half a letter, {it}", ["1", "--encoding", "utf-7"], f"A+{it}-,1\n", 1, f'line 1: the name "A\\u{number}".. has more than 64 bytes, or a letter that is none to read')
+      for it, number in [("2AA", "D800"), ("3/8", "DFFF")]),
     ("no name", ["1"], ",1\n", 1, "line 1: there is no name"),
     ("a row that ends before the name", ["1", "--name", "2", "--weight", "1"], "1,A\n2\n", 1, "line 2: there is no name"),
     ("41 members", ["1"], "".join(f"m{it},1\n" for it in range(41)), 1, "line 41: this is member 41, and a game has at most 40"),
@@ -393,9 +422,11 @@ for name, words, table, status, text in [
     ("a column without a quota", ["1"], "A,1,3\nB,2,4\n", 1,
      "column 3 has numbers too, and there is no quota for it: give one more, or choose columns by --weight"),
     ("a column that is not there", ["1", "--weight", "x"], "a,b\nA,1\n", 2, 'there is no column "x", or two of them; the first row has "a", "b"'),
+    ("a column that is not there, beside row numbers", ["1", "--weight", "x"], "no,a,b\n1,A,5\n2,B,3\n", 2, 'there is no column "x", or two of them; the first row has "no", "a", "b"'),
     ("a column 0", ["1", "--weight", "0"], "A,1\n", 2, "there is no column 0: they are counted from 1"),
     ("a column 1001", ["1", "--weight", "1001"], "A,1\n", 2, "there is no column 1001: they are counted from 1"),
     ("a column of many digits", ["1", "--weight", "123456789" + "0" * 5000], "A,1\n", 2, "there is no column 123456789: they are counted from 1"),
+    ("a column of zeros and many digits", ["1", "--weight", "000000001" + "0" * 5000], "A,1\n", 2, "there is no column 100000000: they are counted from 1"),
     ("a column beyond the table", ["1", "--weight", "4"], "A,1\nB,1,2\n", 1, "the table has no column 4: commas, semicolons or TABs separate the columns"),
     ("a column of names beyond the table", ["1", "--name", "3", "--weight", "2"], "A,1\n", 1, "the table has no column 3: commas, semicolons or TABs separate the columns"),
     ("a column by a digit that is none", ["1", "--weight", "²"], "A,1\n", 2, 'there is no column "²", or two of them; the first row has "A", "1"'),
@@ -410,6 +441,9 @@ for name, words, table, status, text in [
     ("a weight that is no number, after sep=", ["1"], 'sep=;\n"A\nB";1\nB;x\n', 1, 'line 4, column 2: "x" is no number (--heading, --name and --weight say which cell is what)'),
     ("bytes of another encoding", ["1"], b"A,1\n\xc5,2\n", 1, "line 2 is not utf-8-sig: export the table as UTF-8, or say --encoding cp1252 or what it is"),
     ("no such encoding", ["1", "--encoding", "x\ny"], "A,1\n", 2, 'there is no encoding "x\\u000Ay"'),
+    ("half a letter of UTF-16", ["1"], "A,1\nB,2\n".encode("utf-16-le")[:-1], 1, "line 2 is not utf-16-le: export the table as UTF-8, or say --encoding cp1252 or what it is"),
+    ("an encoding of nothing", ["1", "--encoding", ""], "A,1\n", 2, 'there is no encoding ""'),
+    ("an encoding that reads nothing", ["1", "--encoding", "undefined"], "A,1\n", 2, 'there is no encoding "undefined"'),
     ("the file of a spreadsheet", ["1"], b"PK\x03\x04\x14\0", 1, "this is the file of a spreadsheet itself: export it as CSV, and give that"),
     ("the file of an old spreadsheet", ["1"], b"\xd0\xcf\x11\xe0\xa1\xb1\x1a\xe1\0\0", 1, "this is the file of a spreadsheet itself: export it as CSV, and give that"),
     ("a long title", ["1", "--title", "t" * 201], "A,1\n", 1, "the title has more than 200 bytes, or a letter that is none to read"),
@@ -458,10 +492,17 @@ for option, value in [("--round", "13"), ("--round", "-1"), ("--decimal", ";")]:
 os.environ["COLUMNS"] = "100"
 run = game("--help", table="")
 told = " ".join(run.out.partition("show this help message and exit")[2].split())
-options = ["--title TEXT", "--source TEXT", "--name COLUMN", "--weight COLUMN", "--heading", "--no-heading", "--all-rows", "--no-total", "--sum", "--decimal {.,,}", "--round N", "--encoding NAME"]
-same("--help explains each option", [it for it in options if not re.search(rf"(^| ){re.escape(it)} [a-z]", told)], [])
+same("--help explains each option", told, " ".join([
+    "--title TEXT the title of the game", "--source TEXT where the table comes from, for a comment",
+    "--name COLUMN the column of the names, by its heading or its number; else the first", "--weight COLUMN a column of weights, once for each rule; else those after the names",
+    "--heading the first row is a heading", "--no-heading the first row is a member", "--all-rows a row that looks like a total is a member",
+    "--no-total leave out a first or last row that is the sum of all others", "--sum add the weights of rows that have the same name",
+    "--decimal {.,,} the decimal sign, if the table does not tell", "--round N round weights to N decimals, a half upwards",
+    "--encoding NAME the encoding of the table, as cp1252; else UTF-8 or UTF-16"]))
 case("--help explains the quotas", re.search(r"\n  QUOTA +a quota for each rule, and the file of the table\n", run.out) and "\nMakes a game file from a table: " in run.out, run.out)
-case("--help succeeds", run.out.startswith("usage: council-tools from-table [") and (run.status, run.err) == (0, ""), run.err)
+case("--help succeeds", (run.status, run.err) == (0, "") and " ".join(run.out.split()).startswith(
+    "usage: council-tools from-table [-h] [--title TEXT] [--source TEXT] [--name COLUMN] [--weight COLUMN] [--heading | --no-heading] [--all-rows | --no-total] [--sum] "
+    "[--decimal {.,,}] [--round N] [--encoding NAME] [QUOTA ...] Makes a game file"), run.err + run.out)
 for name, table, wanted in [("a longer row", "A,1\nB,2,x,\nC,4,, \n", ["column 3"]), ("numbers and words", "A,1,5\nB,2,x\n", ["column 3"]), ("two columns", "A,1,x,y\nB,2,z,3\n", ["column 3", "column 4"]), ("none", "A,1, \nB,2,,\n", [])]:
     found = [it for it in find_comments(game("2", table=table).out) if it.startswith("Left out")]
     same(f"columns that are left out: {name}", found, [f"Left out: {it}" for it in wanted])

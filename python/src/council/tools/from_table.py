@@ -164,6 +164,7 @@ class Columns:
         if word is None:
             return otherwise
         if is_number(word):
+            word = word.lstrip("0") or "0"
             if not 1 <= int(word[:9]) <= 1000:
                 raise Fault(f"there is no column {word[:9]}: they are counted from 1", 2)
             return int(word) - 1
