@@ -206,7 +206,8 @@ case("council-tools page: a title with angle brackets", "<title>A &lt;title&gt; 
 
 # ---- the words
 told = Run(TOOL, "--help").out
-wanted = ["REPORT a report of council", "--game FILE the game file", "--source TEXT where", "--program PROGRAM the program", "Makes one page of HTML"]
+wanted = ["REPORT a report of council; without one, or as -, standard input", "--game FILE the game file of a report, once for each in their order", "--source TEXT where the data come from",
+          "--program PROGRAM the program whose version the page names; else the one of this clone or archive, or the one on the PATH", "Makes one page of HTML"]
 case("council-tools page: --help", " ".join(told.split()).startswith("usage: council-tools page [-h] [--game FILE] [--source TEXT] [--program PROGRAM] [REPORT ...] ")
      and all(it in " ".join(told.split()) for it in wanted), told)
 

@@ -79,7 +79,7 @@ names = [it * 16 for it in "KLMN"]
 LONG = f"""# Rule 2: "heads", 1 decimal
 title = "{'t' * 100} u"
 quotas = [1, 3]
-member = [{", ".join(f'{{name = "{it}", weights = [1, 1]}}' for it in names)}]
+member = [{", ".join(f'{{name = "{it}", weights = [2, 1]}}' for it in names)}]
 """
 sweep("-", "--rule", "2", "--from", "3", "--to", "3", "--picture", f"{TEMP}/long.svg", "--index", "deegan_packel", input="\ufeff" + LONG)
 picture("long.svg", "t" * 100 + " u", 968, 472, [
@@ -142,8 +142,8 @@ same("council-tools sweep: the first rule", rows(sweep("--rule", "1", "--from", 
 same("council-tools sweep: indices of 1 and 0", rows(sweep("-", "--from", "2", input="[2; 2, 0]")), [["2", "1", *["1.000000"] * 2, *["1/1"] * 2], ["2", "2", *["0.000000"] * 2, *["0/1"] * 2]])
 
 same("council-tools sweep: a rule above half keeps two coalitions from winning", run.err, "")
-run = sweep("--rule", "2", put("low.toml", 'quotas = [1, 2]\nmember = [{name = "A", weights = [1, 1]}, {name = "B", weights = [1, 1]}]\n'))
-same("council-tools sweep: two rules of at most half", run.err, f"council-tools sweep: quotas up to 1 of rule 2 are at most half of the total, 2{HALF}")
+run = sweep("--rule", "2", "--from", "1000", "--step", "1000", put("low.toml", write_game("AB", [1, 1], [[1, 2000]] * 2)))
+same("council-tools sweep: two rules of at most half", run.err, f"council-tools sweep: quotas up to 2,000 of rule 2 are at most half of the total, 4,000{HALF}")
 
 # ---- names of any kind, in the table and in the picture
 hard = put("hard.toml", hostile_game(2))
@@ -241,13 +241,17 @@ def count(number, out, err, times):
 # after 1.25 s for 2 of 2,000 the others take 1,248.75 s; the last step is 13/64 s after the second
 TIMES, LINE = [101, 101.25, 101.375, 101.453125], "\rcouncil-tools sweep: {} of 2,000 quotas, some {} s left\x1b[K"
 same("council-tools sweep: how far it is", count(2000, Screen(False), Screen(), TIMES), (LINE.format(2, "1,249") + LINE.format(4, "725"), "\r\x1b[K"))
+same("council-tools sweep: how far it is after a thousand", count(2000, Screen(False), Screen(), [100.5] * 999 + [102])[0], LINE.format("1,000", 2))
 same("council-tools sweep: nothing in the first second", count(2000, Screen(False), Screen(), [100.5, 101]), ("", ""))
 for name, out, err in [("rows on a terminal", Screen(), Screen()), ("no terminal", Screen(False), Screen(False))]:
     same(f"council-tools sweep: nothing with {name}", count(2000, out, err, TIMES), ("", ""))
 
 # ---- the words
 told = Run(TOOL, "--help").out
-wanted = ["GAME a game file", "--rule N the rule", "--from QUOTA the first", "--to QUOTA the last", "--step N from one", "--picture FILE also draw", "--index {deegan_packel,public_good} the index", "--program PROGRAM the program", "Computes both indices"]
+wanted = ["GAME a game file; without one, or as -, standard input", "--rule N the rule whose quota is changed, counted from 1; else the first", "--from QUOTA the first quota; else 1",
+          "--to QUOTA the last quota; else the total", "--step N from one quota to the next; else 1", "--picture FILE also draw the sweep, as an SVG file",
+          "--index {deegan_packel,public_good} the index that is drawn; else the public good index",
+          "--program PROGRAM the program council; else the one of this clone or archive, or the one on the PATH", "Computes both indices"]
 head = ("usage: council-tools sweep [-h] [--rule N] [--from QUOTA] [--to QUOTA] [--step N] [--picture FILE] [--index {deegan_packel,public_good}] "
         "[--program PROGRAM] [GAME] ")
 case("council-tools sweep: --help", " ".join(told.split()).startswith(head) and all(it in " ".join(told.split()) for it in wanted), told)
