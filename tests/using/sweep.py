@@ -11,11 +11,12 @@ import re
 import subprocess
 import sys
 import time
+from fractions import Fraction
 from xml.etree import ElementTree
 
 from cases import HOSTILE, PROGRAM, TEMP, TOOLS, TOP, Run, case, done, fault, hostile_game, same
-from council.game import write_game
-from council.tools.sweep import Progress, find_quotas, spread
+from council.game import Unit, write_game
+from council.tools.sweep import Axes, Progress, find_quotas, spread
 
 TOOL = "sweep"
 
@@ -114,7 +115,7 @@ for column, kind in [(2, "deegan_packel"), (3, "public_good")]:
     bottom, *_, top = [float(it.get("d").split()[1].split("h")[0]) for it in root.findall("{*}path") if it.get("d").endswith("h560")]
     heights = [float(axis(root, "index")[-1]) * (bottom - float(it.get("cy"))) / (bottom - top) for it in root.findall("{*}circle")]
     same(f"council-tools sweep: the picture has the {kind} index", sorted(f"{it:.3f}" for it in heights), sorted({f"{float(it[column]):.3f}" for it in rows(run_of_kind)}))
-for first, last, wanted in [("1", "17", ["5", "10", "15"]), ("12", "17", ["12", "13", "14", "15", "16", "17"]), ("12", "12", ["12"])]:
+for first, last, wanted in [("1", "17", ["5", "10", "15"]), ("11", "17", ["11", "12", "13", "14", "15", "16", "17"]), ("10", "17", ["10", "12", "14", "16"]), ("12", "12", ["12"])]:
     sweep(COUNCIL, "--from", first, "--to", last, "--picture", f"{TEMP}/range.svg")
     same(f"council-tools sweep: round quotas from {first} to {last}", axis(ElementTree.parse(f"{TEMP}/range.svg").getroot(), "quota"), wanted)
 fund = Run("from-table", "85%", input="Holder,Share held\nA,16.50%\nB,40.25%\nC,43.25%\n").out
@@ -122,6 +123,10 @@ run_of_fund = sweep("-", "--from", "5001", "--step", "500", "--picture", f"{TEMP
 fund = ElementTree.parse(f"{TEMP}/fund.svg").getroot()
 same("council-tools sweep: quotas in the unit of the table", axis(fund, "quota"), ["60.00%", "70.00%", "80.00%", "90.00%"])
 case("council-tools sweep: the name of the rule", 'public good index, by the quota, "Share held" (total 100.00%)' in [it.text for it in fund.findall("{*}text")])
+# 90,000,000,000% is 97.9 wide, so five have room, each with 14; 90,000,000,000.0 is 98.4, so four
+for places, percent, wanted in [(0, True, [2, 4, 6, 8]), (1, False, [50])]:
+    found = Axes(1, 9 * 10 ** (10 + places), Fraction(1), Unit("", percent, places), 360).quotas
+    same(f"council-tools sweep: long quotas at the axis with {places} decimals", found, [it * 10**10 for it in wanted])
 
 # ---- quotas of at most half
 HALF = ": two coalitions without a common member could both win\n"
@@ -182,9 +187,9 @@ drawn = ElementTree.parse(f"{TEMP}/five.svg").getroot()
 same("council-tools sweep: a label under one of four rows", [it.get("y") for it in drawn.findall("{*}text") if it.get("class") == "member"], ["158.00", "173.00", "188.00", "203.00", "221.00"])
 # the widest, MM..MM and a comma, takes 206.64 from 676 on
 same("council-tools sweep: the longest label has room", drawn.get("width"), "899")
-# a title has rows of 820, of which 86 letters t take 824.6; a label has 260, and 31 take 263
-for last, rows_of_label in [(15, 1), (16, 2)]:
-    sweep(put("two_names.toml", write_game(["t" * 15, "u" * last], [2], [[1], [1]], "t" * 43 + " " + "t" * (27 + last))), "--picture", f"{TEMP}/two.svg")
+# a title has rows of 820, and these take 819.56 and 820.96; a label has 260, and these take 259.92 and 260.76
+for names, last, rows_of_label in [(["t" * 15, "u" * 15 + "i"], "t" * 40 + "iiii", 1), (["t" * 15, "u" * 13 + "Tm"], "t" * 42 + "i", 2)]:
+    sweep(put("two_names.toml", write_game(names, [2], [[1], [1]], "t" * 43 + " " + last)), "--picture", f"{TEMP}/two.svg")
     texts = ElementTree.parse(f"{TEMP}/two.svg").getroot().findall("{*}text")
     same(f"council-tools sweep: {rows_of_label} rows", [sum(it.get(key) == value for it in texts) for key, value in (("class", "member"), ("font-weight", "bold"))], [rows_of_label, rows_of_label])
 sweep("-", "--from", "9", "--picture", f"{TEMP}/nine.svg", input="[9; 1, 1, 1, 1, 1, 1, 1, 1, 1]")
@@ -205,7 +210,7 @@ slow = put("slow", f'#!/bin/sh\nsleep 0.2\nexec "{PROGRAM}" "$@"\n')
 os.chmod(slow, 0o755)
 leader, follower = pty.openpty()
 begun = time.monotonic()
-child = subprocess.Popen([sys.executable, TOOLS, TOOL, "--program", slow, COUNCIL, "--from", "9"], stdout=subprocess.PIPE, stderr=follower)
+child = subprocess.Popen([sys.executable, TOOLS, TOOL, "--program", slow, COUNCIL, "--from", "9"], stdout=subprocess.PIPE, stderr=follower, env={**os.environ, "PYTHONUNBUFFERED": ""})
 first = child.stdout.readline() + child.stdout.readline()
 early = time.monotonic() - begun
 others = child.stdout.read()
