@@ -93,7 +93,8 @@ picture("two rules and one decimal", Run(TOOL, "--decimals", "1", input=report(g
     *(line for at, (name, (one, two, dp, pg)) in enumerate(zip(names, VALUES)) for line in [
         text(134, 126 + 61 * at + 30, name, 12, "end"),
         *(part for row, (value, color) in enumerate([(one, GRAY), (two, GREEN), (dp, BLUE), (pg, ORANGE)]) for part in bar(142, 126 + 61 * at + 13 * row, value, color, 1))])])
-# a title has a row of 574.38 here; 59 letters t, an i and a blank are 573.44 wide, and with T instead of two t 575.12
+# a title has a row of 574.38 here; 59 letters t, an i and a blank are 573.44 wide, and with T
+# instead of a t 575.12
 for last, rows in [("t" * 29 + "i", 1), ("t" * 28 + "Ti", 2)]:
     found = Run(TOOL, input=report(write_game(["A"], [1], [[1]], "t" * 30 + " " + last))).out
     same(f"council-tools bars: a title of {rows} rows", found.count("font-weight"), rows)

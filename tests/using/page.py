@@ -85,6 +85,7 @@ for name, words, status, text in [
 
 # ---- a whole section: A and B win, or A, C and a
 GAME = """# Votes & heads
+# Sources below
 # Rule 1: "Votes", 1 decimal; column 2
 # source: nobody
 # Source: a book
@@ -149,7 +150,7 @@ same("council-tools page: a whole section", body(whole), [
     '<details open><summary>2 coalitions, with their weights</summary><ol class="coalitions">',
     "<li><bdi>&lt;A&gt;</bdi>, <bdi>B</bdi> <small>(5.0 / 3)</small></li>",
     "<li><bdi>&lt;A&gt;</bdi>, <bdi>C</bdi>, <bdi>a</bdi> <small>(5.0 / 4)</small></li>", "</ol></details>",
-    "<h2>About the data</h2>", "<p>Votes &amp; heads</p>",
+    "<h2>About the data</h2>", "<p>Votes &amp; heads Sources below</p>",
     "<ul><li>Rule 1: &quot;Votes&quot;, 1 decimal; column 2</li><li>source: nobody</li><li>Source: a book</li><li>Source:another</li></ul>",
     "<h2>The game</h2><p>This file, put in as <code>council --tally FILE</code>, gives the numbers above again:</p>",
     *("<details><summary>the game file</summary><pre>" + html.escape(GAME) + "</pre></details></section>").split("\n")])

@@ -187,7 +187,8 @@ drawn = ElementTree.parse(f"{TEMP}/five.svg").getroot()
 same("council-tools sweep: a label under one of four rows", [it.get("y") for it in drawn.findall("{*}text") if it.get("class") == "member"], ["158.00", "173.00", "188.00", "203.00", "221.00"])
 # the widest, MM..MM and a comma, takes 206.64 from 676 on
 same("council-tools sweep: the longest label has room", drawn.get("width"), "899")
-# a title has rows of 820, and these take 819.56 and 820.96; a label has 260, and these take 259.92 and 260.76
+# a title has rows of 820, and these take 819.56 and 820.96; a label has 260, and these take
+# 259.92 and 260.76
 for names, last, rows_of_label in [(["t" * 15, "u" * 15 + "i"], "t" * 40 + "iiii", 1), (["t" * 15, "u" * 13 + "Tm"], "t" * 42 + "i", 2)]:
     sweep(put("two_names.toml", write_game(names, [2], [[1], [1]], "t" * 43 + " " + last)), "--picture", f"{TEMP}/two.svg")
     texts = ElementTree.parse(f"{TEMP}/two.svg").getroot().findall("{*}text")
