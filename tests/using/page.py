@@ -156,7 +156,10 @@ same("council-tools page: a whole section", body(whole), [
     *("<details><summary>the game file</summary><pre>" + html.escape(GAME) + "</pre></details></section>").split("\n")])
 script = re.search(r"<script>(.*)</script>", whole.out, re.S)[1]
 hashed = base64.b64encode(hashlib.sha256(script.encode()).digest()).decode()
-case("council-tools page: only its own script may run", f"<meta http-equiv=\"Content-Security-Policy\" content=\"default-src 'none'; style-src 'unsafe-inline'; script-src 'sha256-{hashed}'\">" in whole.out)
+same("council-tools page: its head, and only its own script may run", whole.out.split("<style>")[0].split("\n"), [
+    "<!DOCTYPE html>", '<html lang="en"><head><meta charset="utf-8"><meta name="viewport" content="width=device-width, initial-scale=1">',
+    f"<meta http-equiv=\"Content-Security-Policy\" content=\"default-src 'none'; style-src 'unsafe-inline'; script-src 'sha256-{hashed}'\">",
+    "<title>A &amp; B: power indices</title>"])
 colors = re.findall(r"--(s[0-3]|dp|pg): (#[0-9a-f]{6});", whole.out)
 same("council-tools page: a color for each bar, in light and dark", ([it for it, _ in colors], len({it for _, it in colors})), (["s0", "s1", "s2", "s3", "dp", "pg"] * 2, 12))
 
@@ -170,7 +173,7 @@ case("council-tools page: no list, no comments, no source", not re.search("coali
 
 # ---- the version of the program
 for name, text, wanted in [
-    ("of several lines", "echo 'council 9 <'\necho\necho x", "The program at hand when this page was made: council 9 &lt;, x. "),
+    ("of several lines", "printf 'council 9 <\\377\\n\\n'\necho x", "The program at hand when this page was made: council 9 &lt;\ufffd, x. "),
     ("that fails", "echo council 9\nexit 1", "Which version of it made the report this page cannot tell. "),
     ("of another program", "echo counsel 9", "Which version of it made the report this page cannot tell. "),
 ]:
