@@ -104,6 +104,10 @@ for end, status, text in [
 ]:
     ran = subprocess.run(["bash", "-c", f'exec "$@" {end}', "bash", sys.executable, TOOLS, "table"], capture_output=True, env={**os.environ, "PYTHONUNBUFFERED": ""})
     same(f"council-tools table {end.split(' ')[-1]}", (ran.returncode, ran.stdout, ran.stderr.decode()), (status, b"", text))
+# a standard error that is closed takes each letter, where the system knows few
+env = {**os.environ, "PYTHONUTF8": "0", "PYTHONCOERCECLOCALE": "0", "LC_ALL": "C"}
+ran = subprocess.run(["bash", "-c", 'exec "$@" 2>&-', "bash", sys.executable, TOOLS, "sweep"], input="\u00e9 = 1\n".encode(), capture_output=True, env=env)
+same("council-tools sweep 2>&-", (ran.returncode, ran.stdout, ran.stderr), (3, b"", b""))
 
 # ---- the game file of a report: 65,536 letters, and of the same game
 GAME = "\nquota = 2\nmember = [{name = 'A', weight = 2}]\n"
