@@ -115,6 +115,9 @@ for column, kind in [(2, "deegan_packel"), (3, "public_good")]:
     bottom, *_, top = [float(it.get("d").split()[1].split("h")[0]) for it in root.findall("{*}path") if it.get("d").endswith("h560")]
     heights = [float(axis(root, "index")[-1]) * (bottom - float(it.get("cy"))) / (bottom - top) for it in root.findall("{*}circle")]
     same(f"council-tools sweep: the picture has the {kind} index", sorted(f"{it:.3f}" for it in heights), sorted({f"{float(it[column]):.3f}" for it in rows(run_of_kind)}))
+# the five that win, and Luxembourg
+colors = [[it.get(key) for it in root.findall("{*}" + kind)] for kind, key in (("circle", "fill"), ("polyline", "stroke"))]
+same("council-tools sweep: a point has the color of its line", colors, [["#33557f", "#c06a2b"]] * 2)
 for first, last, wanted in [("1", "17", ["5", "10", "15"]), ("11", "17", ["11", "12", "13", "14", "15", "16", "17"]), ("10", "17", ["10", "12", "14", "16"]), ("12", "12", ["12"])]:
     sweep(COUNCIL, "--from", first, "--to", last, "--picture", f"{TEMP}/range.svg")
     same(f"council-tools sweep: round quotas from {first} to {last}", axis(ElementTree.parse(f"{TEMP}/range.svg").getroot(), "quota"), wanted)
