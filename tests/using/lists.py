@@ -71,10 +71,13 @@ sys.argv = kept
 out.seek(0)
 same("council-tools called without words prints the help", (status, out.read().split("\n")[0]), (0, "Tools for games, reports and tables:"))
 for letter in "\ud800\udfff":
-    run = Run("table", f"a{letter}")
-    same("a word that is no text", (run.status, run.err), (2, "council-tools: the command line is not UTF-8\n"))
+    for words in ["table", letter], ["table", f"a{letter}"], [letter]:
+        run = Run(*words)
+        same("a word that is no text", (run.status, run.err), (2, "council-tools: the command line is not UTF-8\n"))
 for letter in "\ud7ff\ue000":
     fault("a word that is a text", Run("table", f"{TEMP}/{letter}"), 1, f"{TEMP}/ : No such file or directory")
+fault("a report without a name", Run("table", ""), 1, ": No such file or directory")
+fault("a game file without a name", Run("bars", "--game", "", f"{TOP}/examples/eec-1958.tsv"), 1, ": No such file or directory")
 for it, status, text in [
     (MemoryError(), 5, "out of memory"),
     (NotFound("no program"), 1, "no program"),

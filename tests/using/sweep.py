@@ -16,6 +16,7 @@ from xml.etree import ElementTree
 
 from cases import HOSTILE, PROGRAM, TEMP, TOOLS, TOP, Run, case, done, fault, hostile_game, same
 from council.game import Unit, write_game
+from council.tools import sweep as tool
 from council.tools.sweep import Axes, Progress, find_quotas, spread
 
 TOOL = "sweep"
@@ -266,6 +267,12 @@ head = ("usage: council-tools sweep [-h] [--rule N] [--from QUOTA] [--to QUOTA] 
 case("council-tools sweep: --help", " ".join(told.split()).startswith(head) and all(it in " ".join(told.split()) for it in wanted), told)
 with open(COUNCIL, "rb") as it:
     same("council-tools sweep: the program at hand, and standard input without a word", len(rows(Run(TOOL, "--from", "16", input=it.read()))), 12)
+os.environ["COUNCIL_PROGRAM"] = ""
+same("council-tools sweep: the program that is named, where there is no other", len(rows(sweep(COUNCIL, "--from", "16"))), 12)
+os.environ["COUNCIL_PROGRAM"] = PROGRAM
+find, tool.find_program = tool.find_program, None
+same("council-tools sweep: no program is looked for where the library may answer", len(rows(Run(TOOL, COUNCIL, "--from", "16"))), 12)
+tool.find_program = find
 run = sweep(COUNCIL, "--index", "power")
 case("council-tools sweep: an index that is not there", run.status == 2 and run.err.startswith("council-tools sweep: argument --index: invalid choice: 'power' (choose from "), run.err)
 same("council-tools sweep: as many quotas as there may be", len(find_quotas(argparse.Namespace(first=None, last=40000, step=2), 5)), 20000)
