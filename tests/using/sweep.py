@@ -148,6 +148,7 @@ run = sweep("--rule", "2", two)
 # one head or two: AB, AC, BCD; three heads: each three of the four; four: all of them
 same("council-tools sweep: the second rule", [(it[0], it[5]) for it in rows(run) if it[1] == "A"], [("1", "2/7"), ("2", "2/7"), ("3", "1/4"), ("4", "1/4")])
 same("council-tools sweep: the first rule", rows(sweep("--rule", "1", "--from", "5", "--to", "5", two)), [["5", *it[1:]] for it in rows(run) if it[0] == "3"])
+same("council-tools sweep: up to the total of the first of two rules", [it[0] for it in rows(sweep("--from", "7", two))[::4]], ["7", "8"])
 same("council-tools sweep: indices of 1 and 0", rows(sweep("-", "--from", "2", input="[2; 2, 0]")), [["2", "1", *["1.000000"] * 2, *["1/1"] * 2], ["2", "2", *["0.000000"] * 2, *["0/1"] * 2]])
 
 same("council-tools sweep: a rule above half keeps two coalitions from winning", run.err, "")
