@@ -152,8 +152,8 @@ same("council-tools sweep: up to the total of the first of two rules", [it[0] fo
 same("council-tools sweep: indices of 1 and 0", rows(sweep("-", "--from", "2", input="[2; 2, 0]")), [["2", "1", *["1.000000"] * 2, *["1/1"] * 2], ["2", "2", *["0.000000"] * 2, *["0/1"] * 2]])
 
 same("council-tools sweep: a rule above half keeps two coalitions from winning", run.err, "")
-run = sweep("--rule", "2", "--from", "1000", "--step", "1000", put("low.toml", write_game("AB", [1, 1], [[1, 2000]] * 2)))
-same("council-tools sweep: two rules of at most half", run.err, f"council-tools sweep: quotas up to 2,000 of rule 2 are at most half of the total, 4,000{HALF}")
+run = sweep("--rule", "2", "--from", "1000", "--step", "1000", put("low.toml", write_game("AB", [1, 1, 1], [[1, 2000, 1]] * 2)))
+same("council-tools sweep: three rules of at most half", run.err, f"council-tools sweep: quotas up to 2,000 of rule 2 are at most half of the total, 4,000{HALF}")
 
 # ---- names of any kind, in the table and in the picture
 hard = put("hard.toml", hostile_game(2))
@@ -161,6 +161,11 @@ run = sweep(hard, "--rule", "2", "--from", str(len(HOSTILE) - 1), "--to", str(le
 same("council-tools sweep: hostile names", [it[1] for it in rows(run)[: len(HOSTILE)]], HOSTILE)
 with open(f"{TEMP}/hard.svg", encoding="utf-8") as it:
     text = it.read()
+# a picture is UTF-8, whatever the system has
+words = ["sweep", "--program", PROGRAM, hard, "--rule", "2", "--from", str(len(HOSTILE) - 1), "--picture", f"{TEMP}/plain.svg", "--index", "deegan_packel"]
+subprocess.run([sys.executable, TOOLS, *words], stdout=subprocess.DEVNULL, env={**os.environ, "PYTHONUTF8": "0", "PYTHONCOERCECLOCALE": "0", "LC_ALL": "C"})
+with open(f"{TEMP}/plain.svg", encoding="utf-8") as it:
+    same("council-tools sweep: the same picture where the system knows few letters", it.read(), text)
 drawn = ElementTree.fromstring(text)
 legend = "".join(it.text for it in drawn.findall("{*}text"))
 case("council-tools sweep: hostile names in the picture", all(it in legend for it in HOSTILE if not re.search("[\ufffe\u202e\u0085]", it)), legend)
@@ -202,7 +207,7 @@ sweep("-", "--from", "9", "--picture", f"{TEMP}/nine.svg", input="[9; 1, 1, 1, 1
 same("council-tools sweep: at most five steps to the greatest index, 1/9", axis(ElementTree.parse(f"{TEMP}/nine.svg").getroot(), "index"), ["0.00", "0.05", "0.10", "0.15"])
 same("council-tools sweep: a rule of three is above half", sweep(put("three.toml", write_game("AB", [1, 2, 1], [[1, 1, 1]] * 2)), "--to", "1").err, "")
 same("council-tools sweep: labels move down, and up from the end", spread([5, 5, 5], [2, 2, 2], 0, 10), [4, 6, 8])
-same("council-tools sweep: labels keep their order", [spread([9, it], [2, 3], 1, 10) for it in (0, 8)], [[8, 1], [8, 5]])
+same("council-tools sweep: labels keep their order", [spread(it, [2, 3], 1, 10) for it in ([9, 0], [9, 8], [2, 1])], [[8, 1], [8, 5], [4, 1]])
 
 # ---- on a terminal no name moves it; a file gets the name as it is
 moves = put("moves.toml", 'quota = 1\nmember = [{name = "A\\u009b2JB", weight = 1}]\n')
