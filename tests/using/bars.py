@@ -93,9 +93,10 @@ picture("two rules and one decimal", Run(TOOL, "--decimals", "1", input=report(g
     *(line for at, (name, (one, two, dp, pg)) in enumerate(zip(names, VALUES)) for line in [
         text(134, 126 + 61 * at + 30, name, 12, "end"),
         *(part for row, (value, color) in enumerate([(one, GRAY), (two, GREEN), (dp, BLUE), (pg, ORANGE)]) for part in bar(142, 126 + 61 * at + 13 * row, value, color, 1))])])
-# a title has a row of 574.38 here; 59 letters t and a blank are 567.56 wide, and 60 are 577.08
-for last, rows in [(29, 1), (30, 2)]:
-    found = Run(TOOL, input=report(write_game(["A"], [1], [[1]], "t" * 30 + " " + "t" * last))).out
+# a title has a row of 574.38 here; 59 letters t, an i and a blank are 573.44 wide, and with T
+# instead of a t 575.12
+for last, rows in [("t" * 29 + "i", 1), ("t" * 28 + "Ti", 2)]:
+    found = Run(TOOL, input=report(write_game(["A"], [1], [[1]], "t" * 30 + " " + last))).out
     same(f"council-tools bars: a title of {rows} rows", found.count("font-weight"), rows)
 with open(f"{TEMP}/wide.toml", "w", encoding="utf-8") as it:
     it.write('# Rule 1: "' + "W" * 64 + '"\nquota = 1\nmember = [{name = "A", weight = 1}]\n')
@@ -105,7 +106,7 @@ with open(f"{TEMP}/wide.toml", encoding="utf-8") as it:
 same("council-tools bars: the name of a rule has room", ElementTree.fromstring(run.out).get("width"), f"{30 + 12 * (64 * 1.05 + 19.53):.0f}")
 
 # ---- what pictures and pages share
-same("how wide letters are, in tenths of a line", [round(10 * measure(it, 1), 1) for it in ["mwMW@%—…中Ｗ\U00010000", "iljI.,:;'|![]() ", "AÉ", "aé1-", "Aé", "\u0301"]], [115.5, 67.2, 16, 27.2, 14.8, 1])
+same("how wide letters are, in tenths of a line", [round(10 * measure(it, 1), 1) for it in ["mwMW@%—…中Ｗ\U00010000", "iljI.,:;'|![]() ", "AÉ", "aé1-", "Aé", "a\u0301"]], [115.5, 67.2, 16, 27.2, 14.8, 7.8])
 same("lines are at most so wide", wrap(["a", "a", "aaaaa", "a", "a"], measure("a a", 10), 10), ["a a", "aaaaa", "a a"])
 same("no room for a blank", wrap(["a", "a"], 17.79, 10), ["a", "a"])
 same("a text as a page may hold it", escape_xml('<a b="&">\0\x85\u200e\u202e\ufdd0\ufffe\ud800\t\u00a0'), "&lt;a b=&quot;&amp;&quot;&gt;" + "\ufffd" * 7 + "\t\u00a0")
@@ -131,7 +132,8 @@ case("council-tools bars: no letter that SVG refuses, and no element of a name",
 
 # ---- the words
 told = Run(TOOL, "--help").out
-wanted = ["REPORT a report of council", "--decimals N decimals beside", "--game FILE the game file", "Draws both indices"]
+wanted = ["REPORT a report of council; without one, or as -, standard input", "--decimals N decimals beside the bars, rounded; else four",
+          "--game FILE the game file of the report, for the names and units of its rules", "Draws both indices"]
 case("council-tools bars: --help", " ".join(told.split()).startswith("usage: council-tools bars [-h] [--decimals N] [--game FILE] [REPORT] ") and all(it in " ".join(told.split()) for it in wanted), told)
 case("council-tools bars: twelve decimals", ">0.416666666667</text>" in Run(TOOL, "--decimals", "12", input=report("[5; 3, 2, 1, 1]")).out)
 for number in "0", "13":

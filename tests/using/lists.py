@@ -4,6 +4,8 @@ and what all tools share.
 
     tests/using/lists.py PROGRAM
 """
+import contextlib
+import io
 import json
 import os
 import subprocess
@@ -12,7 +14,7 @@ import sys
 from cases import HOSTILE, PROGRAM, TEMP, TOOLS, TOP, Run, case, done, fault, hostile_game, report, same
 from council.engine import NotFound, Refused
 from council.game import write_game
-from council.tools import command, table
+from council.tools import command, main, table
 
 # the megabytes that each may take: twice what a short report takes, and less than the list would
 MOST = 40
@@ -47,7 +49,7 @@ run = Run("table", input=report(write_game(["A", "B" * 40, "C", "D"], [5000, 2],
 same("council-tools table: two rules", run.out.split("\n"), [" " * 40 + "  weight  Deegan-Packel  public good", *(
     f"{name:40}  {weight}/1  {dp:>13}  {pg:>11}" for name, weight, dp, pg in [("A", 3000, "5/12", "2/5"), ("B" * 40, 2000, "1/4", "1/5"), ("C", 1000, "1/6", "1/5"), ("D", 1000, "1/6", "1/5")]), ""])
 told = Run("table", "--help").out
-case("council-tools table: --help", told.startswith("usage: council-tools table [-h] [REPORT]\n\nPrints a table") and "REPORT a report of council" in " ".join(told.split()), told)
+case("council-tools table: --help", told.startswith("usage: council-tools table [-h] [REPORT]\n\nPrints a table") and "REPORT a report of council; without one, or as -, standard input" in " ".join(told.split()), told)
 
 # ---- no name moves a terminal
 run = Run("table", input=report(hostile_game()))
@@ -61,11 +63,21 @@ for words in ["-V"], ["--version"]:
     case(f"council-tools {words[0]}", Run(*words).out.startswith("council-tools 1."))
 run = Run("excel")
 same("a tool that is not there", (run.status, run.err.split(": ")[:2]), (2, ["council-tools", "there is no tool excel"]))
+# a program that calls it without words may have words of its own
+kept, sys.argv = sys.argv, ["program", "excel"]
+with contextlib.redirect_stdout(io.TextIOWrapper(io.BytesIO(), encoding="utf-8")) as out:
+    status = main([])
+sys.argv = kept
+out.seek(0)
+same("council-tools called without words prints the help", (status, out.read().split("\n")[0]), (0, "Tools for games, reports and tables:"))
 for letter in "\ud800\udfff":
-    run = Run("table", f"a{letter}")
-    same("a word that is no text", (run.status, run.err), (2, "council-tools: the command line is not UTF-8\n"))
+    for words in ["table", letter], ["table", f"a{letter}"], [letter]:
+        run = Run(*words)
+        same("a word that is no text", (run.status, run.err), (2, "council-tools: the command line is not UTF-8\n"))
 for letter in "\ud7ff\ue000":
     fault("a word that is a text", Run("table", f"{TEMP}/{letter}"), 1, f"{TEMP}/ : No such file or directory")
+fault("a report without a name", Run("table", ""), 1, ": No such file or directory")
+fault("a game file without a name", Run("bars", "--game", "", f"{TOP}/examples/eec-1958.tsv"), 1, ": No such file or directory")
 for it, status, text in [
     (MemoryError(), 5, "out of memory"),
     (NotFound("no program"), 1, "no program"),
@@ -95,6 +107,10 @@ for end, status, text in [
 ]:
     ran = subprocess.run(["bash", "-c", f'exec "$@" {end}', "bash", sys.executable, TOOLS, "table"], capture_output=True, env={**os.environ, "PYTHONUNBUFFERED": ""})
     same(f"council-tools table {end.split(' ')[-1]}", (ran.returncode, ran.stdout, ran.stderr.decode()), (status, b"", text))
+# a standard error that is closed takes each letter, where the system knows few
+env = {**os.environ, "PYTHONUTF8": "0", "PYTHONCOERCECLOCALE": "0", "LC_ALL": "C"}
+ran = subprocess.run(["bash", "-c", 'exec "$@" 2>&-', "bash", sys.executable, TOOLS, "sweep"], input="\u00e9 = 1\n".encode(), capture_output=True, env=env)
+same("council-tools sweep 2>&-", (ran.returncode, ran.stdout, ran.stderr), (3, b"", b""))
 
 # ---- the game file of a report: 65,536 letters, and of the same game
 GAME = "\nquota = 2\nmember = [{name = 'A', weight = 2}]\n"

@@ -85,10 +85,11 @@ for name, words, status, text in [
 
 # ---- a whole section: A and B win, or A, C and a
 GAME = """# Votes & heads
+# Sources below
 # Rule 1: "Votes", 1 decimal; column 2
 # source: nobody
 # Source: a book
-# Source: another
+# Source:another
 title = "A & B"
 quotas = [50, 3]
 
@@ -149,13 +150,16 @@ same("council-tools page: a whole section", body(whole), [
     '<details open><summary>2 coalitions, with their weights</summary><ol class="coalitions">',
     "<li><bdi>&lt;A&gt;</bdi>, <bdi>B</bdi> <small>(5.0 / 3)</small></li>",
     "<li><bdi>&lt;A&gt;</bdi>, <bdi>C</bdi>, <bdi>a</bdi> <small>(5.0 / 4)</small></li>", "</ol></details>",
-    "<h2>About the data</h2>", "<p>Votes &amp; heads</p>",
-    "<ul><li>Rule 1: &quot;Votes&quot;, 1 decimal; column 2</li><li>source: nobody</li><li>Source: a book</li><li>Source: another</li></ul>",
+    "<h2>About the data</h2>", "<p>Votes &amp; heads Sources below</p>",
+    "<ul><li>Rule 1: &quot;Votes&quot;, 1 decimal; column 2</li><li>source: nobody</li><li>Source: a book</li><li>Source:another</li></ul>",
     "<h2>The game</h2><p>This file, put in as <code>council --tally FILE</code>, gives the numbers above again:</p>",
     *("<details><summary>the game file</summary><pre>" + html.escape(GAME) + "</pre></details></section>").split("\n")])
 script = re.search(r"<script>(.*)</script>", whole.out, re.S)[1]
 hashed = base64.b64encode(hashlib.sha256(script.encode()).digest()).decode()
-case("council-tools page: only its own script may run", f"<meta http-equiv=\"Content-Security-Policy\" content=\"default-src 'none'; style-src 'unsafe-inline'; script-src 'sha256-{hashed}'\">" in whole.out)
+same("council-tools page: its head, and only its own script may run", whole.out.split("<style>")[0].split("\n"), [
+    "<!DOCTYPE html>", '<html lang="en"><head><meta charset="utf-8"><meta name="viewport" content="width=device-width, initial-scale=1">',
+    f"<meta http-equiv=\"Content-Security-Policy\" content=\"default-src 'none'; style-src 'unsafe-inline'; script-src 'sha256-{hashed}'\">",
+    "<title>A &amp; B: power indices</title>"])
 colors = re.findall(r"--(s[0-3]|dp|pg): (#[0-9a-f]{6});", whole.out)
 same("council-tools page: a color for each bar, in light and dark", ([it for it, _ in colors], len({it for _, it in colors})), (["s0", "s1", "s2", "s3", "dp", "pg"] * 2, 12))
 
@@ -169,7 +173,7 @@ case("council-tools page: no list, no comments, no source", not re.search("coali
 
 # ---- the version of the program
 for name, text, wanted in [
-    ("of several lines", "echo 'council 9 <'\necho\necho x", "The program at hand when this page was made: council 9 &lt;, x. "),
+    ("of several lines", "printf 'council 9 <\\377\\n\\n'\necho x", "The program at hand when this page was made: council 9 &lt;\ufffd, x. "),
     ("that fails", "echo council 9\nexit 1", "Which version of it made the report this page cannot tell. "),
     ("of another program", "echo counsel 9", "Which version of it made the report this page cannot tell. "),
 ]:
@@ -206,7 +210,8 @@ case("council-tools page: a title with angle brackets", "<title>A &lt;title&gt; 
 
 # ---- the words
 told = Run(TOOL, "--help").out
-wanted = ["REPORT a report of council", "--game FILE the game file", "--source TEXT where", "--program PROGRAM the program", "Makes one page of HTML"]
+wanted = ["REPORT a report of council; without one, or as -, standard input", "--game FILE the game file of a report, once for each in their order", "--source TEXT where the data come from",
+          "--program PROGRAM the program whose version the page names; else the one of this clone or archive, or the one on the PATH", "Makes one page of HTML"]
 case("council-tools page: --help", " ".join(told.split()).startswith("usage: council-tools page [-h] [--game FILE] [--source TEXT] [--program PROGRAM] [REPORT ...] ")
      and all(it in " ".join(told.split()) for it in wanted), told)
 
@@ -219,15 +224,15 @@ case("council-tools page: commas between thousands", "Minimal winning coalitions
 case("council-tools page: numbers on the bars", union.out.count('<span class="value">') == 27 * 4 and '<span class="value">0.1857</span>' in union.out)
 
 # ---- what the game file adds: comments, the source, names and units of rules
-game = Run("from-table", "85%", "heads:2", "--source", "a & b", input="Votes of 2019\nHolder,Share held\nA,16.50%\nB,40.25%\nC,43.25%\n").out
+game = Run("from-table", "heads:2", "85%", "--source", "a & b", input="Votes of 2019\nHolder,Share held\nA,16.50%\nB,40.25%\nC,43.25%\n").out
 path = put("game.toml", game)
 run = Run(TOOL, "--program", PROGRAM, "--game", path, put("game.tsv", report(game)))
 text = html.unescape(re.sub("<[^>]*>", "", run.out))
 case("council-tools page: --game shows the source", '<p class="source">Source of the data: a &amp; b</p>' in run.out)
 case("council-tools page: --game shows each comment", run.err == "" and all(it[2:] in text for it in game.split("\n") if it.startswith("#")), text)
-case("council-tools page: --game shows names and units", "at least 85.00% of 100.00% under rule 1 (Share held) and 2 of 3 (66.67%) under rule 2 (heads)" in text and ">16.50%</td>" in run.out, text)
+case("council-tools page: --game shows names and units", "at least 2 of 3 (66.67%) under rule 1 (heads) and 85.00% of 100.00% under rule 2 (Share held)" in text and ">16.50%</td>" in run.out, text)
 heads = re.findall(r"<th[^>]*><button[^>]*>(.*?)</button>", run.out)
-same("council-tools page: no share beside percentages of 100", heads[3:6], ["<bdi>Share held</bdi>", "<bdi>heads</bdi>", "<bdi>heads</bdi>, of all"])
+same("council-tools page: no share beside percentages of 100", heads[3:7], ["<bdi>heads</bdi>", "<bdi>heads</bdi>, of all", "<bdi>Share held</bdi>", "Coalitions"])
 file = html.unescape(re.search(r"<pre>(.*?)</pre>", run.out, re.S)[1])
 same("council-tools page: its game file is the one of --game", file, game)
 run = Run(TOOL, "--program", PROGRAM, "--source", "c", "--game", f"{TOP}/examples/eec-1958.toml", f"{TOP}/examples/eec-1958.tsv")
@@ -237,7 +242,7 @@ run = Run(TOOL, "--program", PROGRAM, "--source", "c", "--game", path, f"{TEMP}/
 case("council-tools page: --source goes before that of the game file", "Source of the data: c</p>" in run.out)
 low = put("low.tsv", report("[5; 4, 4, 2]"))
 run = Run(TOOL, "--program", PROGRAM, low)
-case("council-tools page: a quota of at most half is warned of", "two coalitions without a common member could both win.</b>" in run.out
+case("council-tools page: a quota of at most half is warned of", "\n<p><b>At most half of the total wins, so two coalitions without a common member could both win.</b></p>\n" in run.out
      and run.err == "council-tools page: the quota 5 is at most half of the total, 10: two coalitions without a common member could both win\n", run.err)
 run = Run(TOOL, input=report(write_game("AB", [1, 2], [[1, 1], [1, 1]])))
 case("council-tools page: one quota of two is at most half", "At most half" not in run.out and run.err == "council-tools page: the quota 1 of rule 1 is at most half of the total, 2\n", run.err)

@@ -11,11 +11,13 @@ import re
 import subprocess
 import sys
 import time
+from fractions import Fraction
 from xml.etree import ElementTree
 
 from cases import HOSTILE, PROGRAM, TEMP, TOOLS, TOP, Run, case, done, fault, hostile_game, same
-from council.game import write_game
-from council.tools.sweep import Progress, find_quotas, spread
+from council.game import Unit, write_game
+from council.tools import sweep as tool
+from council.tools.sweep import Axes, Progress, find_quotas, spread
 
 TOOL = "sweep"
 
@@ -79,7 +81,7 @@ names = [it * 16 for it in "KLMN"]
 LONG = f"""# Rule 2: "heads", 1 decimal
 title = "{'t' * 100} u"
 quotas = [1, 3]
-member = [{", ".join(f'{{name = "{it}", weights = [1, 1]}}' for it in names)}]
+member = [{", ".join(f'{{name = "{it}", weights = [2, 1]}}' for it in names)}]
 """
 sweep("-", "--rule", "2", "--from", "3", "--to", "3", "--picture", f"{TEMP}/long.svg", "--index", "deegan_packel", input="\ufeff" + LONG)
 picture("long.svg", "t" * 100 + " u", 968, 472, [
@@ -114,7 +116,10 @@ for column, kind in [(2, "deegan_packel"), (3, "public_good")]:
     bottom, *_, top = [float(it.get("d").split()[1].split("h")[0]) for it in root.findall("{*}path") if it.get("d").endswith("h560")]
     heights = [float(axis(root, "index")[-1]) * (bottom - float(it.get("cy"))) / (bottom - top) for it in root.findall("{*}circle")]
     same(f"council-tools sweep: the picture has the {kind} index", sorted(f"{it:.3f}" for it in heights), sorted({f"{float(it[column]):.3f}" for it in rows(run_of_kind)}))
-for first, last, wanted in [("1", "17", ["5", "10", "15"]), ("12", "17", ["12", "13", "14", "15", "16", "17"]), ("12", "12", ["12"])]:
+# the five that win, and Luxembourg
+colors = [[it.get(key) for it in root.findall("{*}" + kind)] for kind, key in (("circle", "fill"), ("polyline", "stroke"))]
+same("council-tools sweep: a point has the color of its line", colors, [["#33557f", "#c06a2b"]] * 2)
+for first, last, wanted in [("1", "17", ["5", "10", "15"]), ("11", "17", ["11", "12", "13", "14", "15", "16", "17"]), ("10", "17", ["10", "12", "14", "16"]), ("12", "12", ["12"])]:
     sweep(COUNCIL, "--from", first, "--to", last, "--picture", f"{TEMP}/range.svg")
     same(f"council-tools sweep: round quotas from {first} to {last}", axis(ElementTree.parse(f"{TEMP}/range.svg").getroot(), "quota"), wanted)
 fund = Run("from-table", "85%", input="Holder,Share held\nA,16.50%\nB,40.25%\nC,43.25%\n").out
@@ -122,6 +127,10 @@ run_of_fund = sweep("-", "--from", "5001", "--step", "500", "--picture", f"{TEMP
 fund = ElementTree.parse(f"{TEMP}/fund.svg").getroot()
 same("council-tools sweep: quotas in the unit of the table", axis(fund, "quota"), ["60.00%", "70.00%", "80.00%", "90.00%"])
 case("council-tools sweep: the name of the rule", 'public good index, by the quota, "Share held" (total 100.00%)' in [it.text for it in fund.findall("{*}text")])
+# 90,000,000,000% is 97.9 wide, so five have room, each with 14; 90,000,000,000.0 is 98.4, so four
+for places, percent, wanted in [(0, True, [2, 4, 6, 8]), (1, False, [50])]:
+    found = Axes(1, 9 * 10 ** (10 + places), Fraction(1), Unit("", percent, places), 360).quotas
+    same(f"council-tools sweep: long quotas at the axis with {places} decimals", found, [it * 10**10 for it in wanted])
 
 # ---- quotas of at most half
 HALF = ": two coalitions without a common member could both win\n"
@@ -139,11 +148,12 @@ run = sweep("--rule", "2", two)
 # one head or two: AB, AC, BCD; three heads: each three of the four; four: all of them
 same("council-tools sweep: the second rule", [(it[0], it[5]) for it in rows(run) if it[1] == "A"], [("1", "2/7"), ("2", "2/7"), ("3", "1/4"), ("4", "1/4")])
 same("council-tools sweep: the first rule", rows(sweep("--rule", "1", "--from", "5", "--to", "5", two)), [["5", *it[1:]] for it in rows(run) if it[0] == "3"])
+same("council-tools sweep: up to the total of the first of two rules", [it[0] for it in rows(sweep("--from", "7", two))[::4]], ["7", "8"])
 same("council-tools sweep: indices of 1 and 0", rows(sweep("-", "--from", "2", input="[2; 2, 0]")), [["2", "1", *["1.000000"] * 2, *["1/1"] * 2], ["2", "2", *["0.000000"] * 2, *["0/1"] * 2]])
 
 same("council-tools sweep: a rule above half keeps two coalitions from winning", run.err, "")
-run = sweep("--rule", "2", put("low.toml", 'quotas = [1, 2]\nmember = [{name = "A", weights = [1, 1]}, {name = "B", weights = [1, 1]}]\n'))
-same("council-tools sweep: two rules of at most half", run.err, f"council-tools sweep: quotas up to 1 of rule 2 are at most half of the total, 2{HALF}")
+run = sweep("--rule", "2", "--from", "1000", "--step", "1000", put("low.toml", write_game("AB", [1, 1, 1], [[1, 2000, 1]] * 2)))
+same("council-tools sweep: three rules of at most half", run.err, f"council-tools sweep: quotas up to 2,000 of rule 2 are at most half of the total, 4,000{HALF}")
 
 # ---- names of any kind, in the table and in the picture
 hard = put("hard.toml", hostile_game(2))
@@ -151,6 +161,11 @@ run = sweep(hard, "--rule", "2", "--from", str(len(HOSTILE) - 1), "--to", str(le
 same("council-tools sweep: hostile names", [it[1] for it in rows(run)[: len(HOSTILE)]], HOSTILE)
 with open(f"{TEMP}/hard.svg", encoding="utf-8") as it:
     text = it.read()
+# a picture is UTF-8, whatever the system has
+words = ["sweep", "--program", PROGRAM, hard, "--rule", "2", "--from", str(len(HOSTILE) - 1), "--picture", f"{TEMP}/plain.svg", "--index", "deegan_packel"]
+subprocess.run([sys.executable, TOOLS, *words], stdout=subprocess.DEVNULL, env={**os.environ, "PYTHONUTF8": "0", "PYTHONCOERCECLOCALE": "0", "LC_ALL": "C"})
+with open(f"{TEMP}/plain.svg", encoding="utf-8") as it:
+    same("council-tools sweep: the same picture where the system knows few letters", it.read(), text)
 drawn = ElementTree.fromstring(text)
 legend = "".join(it.text for it in drawn.findall("{*}text"))
 case("council-tools sweep: hostile names in the picture", all(it in legend for it in HOSTILE if not re.search("[\ufffe\u202e\u0085]", it)), legend)
@@ -182,16 +197,17 @@ drawn = ElementTree.parse(f"{TEMP}/five.svg").getroot()
 same("council-tools sweep: a label under one of four rows", [it.get("y") for it in drawn.findall("{*}text") if it.get("class") == "member"], ["158.00", "173.00", "188.00", "203.00", "221.00"])
 # the widest, MM..MM and a comma, takes 206.64 from 676 on
 same("council-tools sweep: the longest label has room", drawn.get("width"), "899")
-# a title has rows of 820, of which 86 letters t take 824.6; a label has 260, and 31 take 263
-for last, rows_of_label in [(15, 1), (16, 2)]:
-    sweep(put("two_names.toml", write_game(["t" * 15, "u" * last], [2], [[1], [1]], "t" * 43 + " " + "t" * (27 + last))), "--picture", f"{TEMP}/two.svg")
+# a title has rows of 820, and these take 819.56 and 820.96; a label has 260, and these take
+# 259.92 and 260.76
+for names, last, rows_of_label in [(["t" * 15, "u" * 15 + "i"], "t" * 40 + "iiii", 1), (["t" * 15, "u" * 13 + "Tm"], "t" * 42 + "i", 2)]:
+    sweep(put("two_names.toml", write_game(names, [2], [[1], [1]], "t" * 43 + " " + last)), "--picture", f"{TEMP}/two.svg")
     texts = ElementTree.parse(f"{TEMP}/two.svg").getroot().findall("{*}text")
     same(f"council-tools sweep: {rows_of_label} rows", [sum(it.get(key) == value for it in texts) for key, value in (("class", "member"), ("font-weight", "bold"))], [rows_of_label, rows_of_label])
 sweep("-", "--from", "9", "--picture", f"{TEMP}/nine.svg", input="[9; 1, 1, 1, 1, 1, 1, 1, 1, 1]")
 same("council-tools sweep: at most five steps to the greatest index, 1/9", axis(ElementTree.parse(f"{TEMP}/nine.svg").getroot(), "index"), ["0.00", "0.05", "0.10", "0.15"])
 same("council-tools sweep: a rule of three is above half", sweep(put("three.toml", write_game("AB", [1, 2, 1], [[1, 1, 1]] * 2)), "--to", "1").err, "")
 same("council-tools sweep: labels move down, and up from the end", spread([5, 5, 5], [2, 2, 2], 0, 10), [4, 6, 8])
-same("council-tools sweep: labels keep their order", spread([9, 0], [2, 3], 1, 10), [8, 1])
+same("council-tools sweep: labels keep their order", [spread(it, [2, 3], 1, 10) for it in ([9, 0], [9, 8], [2, 1])], [[8, 1], [8, 5], [4, 1]])
 
 # ---- on a terminal no name moves it; a file gets the name as it is
 moves = put("moves.toml", 'quota = 1\nmember = [{name = "A\\u009b2JB", weight = 1}]\n')
@@ -205,7 +221,7 @@ slow = put("slow", f'#!/bin/sh\nsleep 0.2\nexec "{PROGRAM}" "$@"\n')
 os.chmod(slow, 0o755)
 leader, follower = pty.openpty()
 begun = time.monotonic()
-child = subprocess.Popen([sys.executable, TOOLS, TOOL, "--program", slow, COUNCIL, "--from", "9"], stdout=subprocess.PIPE, stderr=follower)
+child = subprocess.Popen([sys.executable, TOOLS, TOOL, "--program", slow, COUNCIL, "--from", "9"], stdout=subprocess.PIPE, stderr=follower, env={**os.environ, "PYTHONUNBUFFERED": ""})
 first = child.stdout.readline() + child.stdout.readline()
 early = time.monotonic() - begun
 others = child.stdout.read()
@@ -241,18 +257,28 @@ def count(number, out, err, times):
 # after 1.25 s for 2 of 2,000 the others take 1,248.75 s; the last step is 13/64 s after the second
 TIMES, LINE = [101, 101.25, 101.375, 101.453125], "\rcouncil-tools sweep: {} of 2,000 quotas, some {} s left\x1b[K"
 same("council-tools sweep: how far it is", count(2000, Screen(False), Screen(), TIMES), (LINE.format(2, "1,249") + LINE.format(4, "725"), "\r\x1b[K"))
+same("council-tools sweep: how far it is after a thousand", count(2000, Screen(False), Screen(), [100.5] * 999 + [102])[0], LINE.format("1,000", 2))
 same("council-tools sweep: nothing in the first second", count(2000, Screen(False), Screen(), [100.5, 101]), ("", ""))
 for name, out, err in [("rows on a terminal", Screen(), Screen()), ("no terminal", Screen(False), Screen(False))]:
     same(f"council-tools sweep: nothing with {name}", count(2000, out, err, TIMES), ("", ""))
 
 # ---- the words
 told = Run(TOOL, "--help").out
-wanted = ["GAME a game file", "--rule N the rule", "--from QUOTA the first", "--to QUOTA the last", "--step N from one", "--picture FILE also draw", "--index {deegan_packel,public_good} the index", "--program PROGRAM the program", "Computes both indices"]
+wanted = ["GAME a game file; without one, or as -, standard input", "--rule N the rule whose quota is changed, counted from 1; else the first", "--from QUOTA the first quota; else 1",
+          "--to QUOTA the last quota; else the total", "--step N from one quota to the next; else 1", "--picture FILE also draw the sweep, as an SVG file",
+          "--index {deegan_packel,public_good} the index that is drawn; else the public good index",
+          "--program PROGRAM the program council; else the one of this clone or archive, or the one on the PATH", "Computes both indices"]
 head = ("usage: council-tools sweep [-h] [--rule N] [--from QUOTA] [--to QUOTA] [--step N] [--picture FILE] [--index {deegan_packel,public_good}] "
         "[--program PROGRAM] [GAME] ")
 case("council-tools sweep: --help", " ".join(told.split()).startswith(head) and all(it in " ".join(told.split()) for it in wanted), told)
 with open(COUNCIL, "rb") as it:
     same("council-tools sweep: the program at hand, and standard input without a word", len(rows(Run(TOOL, "--from", "16", input=it.read()))), 12)
+os.environ["COUNCIL_PROGRAM"] = ""
+same("council-tools sweep: the program that is named, where there is no other", len(rows(sweep(COUNCIL, "--from", "16"))), 12)
+os.environ["COUNCIL_PROGRAM"] = PROGRAM
+find, tool.find_program = tool.find_program, None
+same("council-tools sweep: no program is looked for where the library may answer", len(rows(Run(TOOL, COUNCIL, "--from", "16"))), 12)
+tool.find_program = find
 run = sweep(COUNCIL, "--index", "power")
 case("council-tools sweep: an index that is not there", run.status == 2 and run.err.startswith("council-tools sweep: argument --index: invalid choice: 'power' (choose from "), run.err)
 same("council-tools sweep: as many quotas as there may be", len(find_quotas(argparse.Namespace(first=None, last=40000, step=2), 5)), 20000)

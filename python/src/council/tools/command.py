@@ -65,7 +65,7 @@ def run(main: Callable[[list[str]], None], words: list[str]) -> int:
     except MemoryError:
         return tell("out of memory", 5)
     except OSError as it:
-        if it.filename:
+        if it.filename is not None:
             return tell(f"{it.filename}: {it.strerror}", 1)
         drop(sys.stdout)
         return tell("output failed", 1)
