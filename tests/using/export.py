@@ -138,8 +138,10 @@ for form, wanted in [("markdown", "| Germany | 834 | 4,048,337 |"), ("latex", "G
 
 # ---- latex
 run = Run(TOOL, "latex", "--decimals", "3", input=stored("eec-1958"))
-case("latex: a table", "Germany & 4 & 0.208 & 0.200 \\\\\n" in run.out and run.out.endswith("\\bottomrule\n\\end{tabular}\n"), run.out)
 PACKAGES = "% \\usepackage{booktabs}, and \\usepackage[T1]{fontenc} for letters with accents"
+same("latex: a title above a table", run.out.split("\n")[:7], ["% Council of the European Economic Community, 1958", PACKAGES, "\\begin{tabular}{lrrr}", "\\toprule",
+                                                             "Member & Weight & Deegan-Packel & Public good \\\\", "\\midrule", "Germany & 4 & 0.208 & 0.200 \\\\"])
+case("latex: the end of a table", run.out.endswith("\\bottomrule\n\\end{tabular}\n"), run.out)
 same("latex: two rules", Run(TOOL, "latex", "--mark", "--columns", "public_good_exact,name,weight,share,coalitions,deegan_packel,deegan_packel_exact", input=TWO).out.split("\n"), [
     "% A & É", PACKAGES,
     "\\begin{tabular}{rlrrrrrrr}",
