@@ -69,6 +69,8 @@ case("the mark is no part of a name", '\nname = "Å"\n' in game("1", table="Å\t
 
 # ---- separators, headings, decimals
 gives("commas", ["51"], "A,50\nB,48\nC,3\n", "51", ["50", "48", "3"])
+gives("a column by its heading, of one letter", ["2", "--weight", "V"], "Fraktion,V\nA,1\nB,2\n", "2", ["1", "2"])
+gives("a fraction of 18 digits", [f"{10**17}/{3 * 10**17}"], "A,1\nB,1\nC,1\n", "1", ["1", "1", "1"])
 gives("a heading", ["51"], "member,weight\nA,50\nB,49\n", "51", ["50", "49"])
 gives("semicolons and a decimal comma", ["85%"], "Name;Anteil\nA;16,50\nB;83,50\n", "850", ["165", "835"])
 gives("TABs", [">50%"], "A\t2\nB\t2\nC\t1\n", "3", ["2", "2", "1"])
@@ -275,6 +277,7 @@ gives("--sum", ["60%", "--sum"], "A,5\nB,3\nA,1.5\n", "57", ["65", "30"])
 gives("--sum of two columns", ["60%", "1", "--sum"], "A,5,1\nB,3,1\nA,1,3\n", "[6, 1]", ["[6, 4]", "[3, 1]"])
 gives("--sum of 41 rows", ["60%", "--sum"], "A,60\n" + "".join(f"m{it % 20},1\n" for it in range(40)), "60", ["60"] + ["2"] * 20)
 case("--sum is in a comment", '\n# Added: lines 1, 3, "A"\n' in game("60%", "--sum", table="A,5\nB,3\nA,1\n").out)
+case("--sum of the last name is in a comment", '\n# Added: lines 2, 3, "B"\n' in game("60%", "--sum", table="A,5\nB,3\nB,1\n").out)
 for name, words, table in [("R", ["60%"], '"","holder","votes"\n"1","A",5\n"2","B",3\n'), ("pandas", ["60%"], ",holder,votes\n0,A,5\n1,B,3\n"), ("pandas, of heads", ["heads:2"], ",holder\n0,A\n1,B\n"), ("a heading, of heads", ["heads:2"], "no,holder\n0,A\n1,B\n"), ("a title, of heads", ["heads:2"], "Holders\n0,A\n1,B\n")]:
     fault(f"row numbers of {name}", game(*words, table=table), 1, "column 1 has row numbers, and column 2 the names: say --name 2")
 gives("row numbers", ["60%", "--name", "2"], '"","holder","votes"\n"1","A",5\n"2","B",3\n', "5", ["5", "3"])
@@ -396,6 +399,7 @@ for name, words, table, status, text in [
     ("no weight in the last row", ["1", "1"], "A,1,1\nB,1,1\nC,1,\n", 1, 'line 3, column 3 is empty: write 0 if "C" is a member without weight'),
     ("another decimal sign than was said", ["1", "--decimal", "."], "A;1\nB;1,5\n", 1, f'{AT}: "1,5" is no number with "." before its decimals'),
     ("thousands or decimals", ["1"], 'A,1\nB,"1,000"\n', 1, f'{AT}: "1,000" may have decimals or thousands: say --decimal . or --decimal ,'),
+    ("thousands or decimals in the first row", ["1"], 'A,"3,000"\nB,"1,000"\n', 1, 'line 1, column 2: "3,000" may have decimals or thousands: say --decimal . or --decimal ,'),
     ("two decimal signs", ["1"], 'A;1\nB;1.5\nC;2.5\nD;1,5\n', 1, f'line 4, column 2: "1,5" is no number with "." before its decimals; {AT}: "1.5" has another'),
     ("percent signs here and there", ["1"], "A,2%\nB,1\n", 1, f'{AT}: "1": some weights of this column have a percent sign, and some have none'),
     ("percent signs here and there in one column of three", ["1"] * 3, "A,5,2%,7\nB,6,1,8\n", 1, 'line 2, column 3: "1": some weights of this column have a percent sign, and some have none'),
