@@ -127,6 +127,9 @@ run_of_fund = sweep("-", "--from", "5001", "--step", "500", "--picture", f"{TEMP
 fund = ElementTree.parse(f"{TEMP}/fund.svg").getroot()
 same("council-tools sweep: quotas in the unit of the table", axis(fund, "quota"), ["60.00%", "70.00%", "80.00%", "90.00%"])
 case("council-tools sweep: the name of the rule", 'public good index, by the quota, "Share held" (total 100.00%)' in [it.text for it in fund.findall("{*}text")])
+sweep("-", "--rule", "2", "--picture", f"{TEMP}/second.svg", input="# Rule 2: percent\n" + write_game("A", [1, 1, 1], [[1, 1, 1]]))
+found = [it.text for it in ElementTree.parse(f"{TEMP}/second.svg").getroot().findall("{*}text")]
+same("council-tools sweep: the unit of the second rule of three, and one member", found[1], "public good index, by the quota of rule 2 (total 1%)")
 # 90,000,000,000% is 97.9 wide, so five have room, each with 14; 90,000,000,000.0 is 98.4, so four
 for places, percent, wanted in [(0, True, [2, 4, 6, 8]), (1, False, [50])]:
     found = Axes(1, 9 * 10 ** (10 + places), Fraction(1), Unit("", percent, places), 360).quotas
