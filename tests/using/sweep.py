@@ -208,7 +208,11 @@ for names, last, rows_of_label in [(["t" * 15, "u" * 15 + "i"], "t" * 40 + "iiii
     same(f"council-tools sweep: {rows_of_label} rows", [sum(it.get(key) == value for it in texts) for key, value in (("class", "member"), ("font-weight", "bold"))], [rows_of_label, rows_of_label])
 sweep("-", "--from", "9", "--picture", f"{TEMP}/nine.svg", input="[9; 1, 1, 1, 1, 1, 1, 1, 1, 1]")
 same("council-tools sweep: at most five steps to the greatest index, 1/9", axis(ElementTree.parse(f"{TEMP}/nine.svg").getroot(), "index"), ["0.00", "0.05", "0.10", "0.15"])
-same("council-tools sweep: a rule of three is above half", sweep(put("three.toml", write_game("AB", [1, 2, 1], [[1, 1, 1]] * 2)), "--to", "1").err, "")
+for quotas in [1, 2, 1], [1, 1, 2]:
+    same("council-tools sweep: a rule of three is above half", sweep(put("three.toml", write_game("AB", quotas, [[1, 1, 1]] * 2)), "--to", "1").err, "")
+# 85 letters t in bold are 809.2 wide
+sweep(put("head.toml", write_game("A", [1], [[1]], "t" * 85)), "--picture", f"{TEMP}/head.svg")
+same("council-tools sweep: a title of one row has room", ElementTree.parse(f"{TEMP}/head.svg").getroot().get("width"), "825")
 same("council-tools sweep: labels move down, and up from the end", spread([5, 5, 5], [2, 2, 2], 0, 10), [4, 6, 8])
 same("council-tools sweep: labels keep their order", [spread(it, [2, 3], 1, 10) for it in ([9, 0], [9, 8], [2, 1])], [[8, 1], [8, 5], [4, 1]])
 
