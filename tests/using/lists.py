@@ -14,6 +14,7 @@ import sys
 from cases import HOSTILE, PROGRAM, TEMP, TOOLS, TOP, Run, case, done, fault, hostile_game, report, same
 from council.engine import NotFound, Refused
 from council.game import write_game
+from council.reports import Fault, Report
 from council.tools import command, main, table
 
 # the megabytes that each may take: twice what a short report takes, and less than the list would
@@ -40,6 +41,13 @@ whole = json.loads(found["export json"])
 same("council-tools export: each coalition is in the JSON", (len(whole["coalitions"]), whole["minimal"]), (COALITIONS, COALITIONS))
 same("council-tools export: the last of them", whole["coalitions"][-1], {"members": ["37", "38", "39", "40"], "weights": [4]})
 case("council-tools page: the first of them", f"the first 1,000 of {COALITIONS:,}" in found["page"] and found["page"].count("<small>(4)</small>") == 1000)
+try:
+    text = str(Report.from_text(report("[2; 1, 1]", "--list").replace("coalition\t2", "coalition\t3")).coalitions)
+except Fault as it:
+    text = str(it)
+same("a coalition of another size than its line has", text, "the report is not whole, or its numbers are not those of council")
+with open(LIST, encoding="utf-8") as it:
+    same("a report in a line", repr(Report(it, lambda _: None)), "<council.Report 'A game': 40 members, 91,390 minimal winning coalitions>")
 
 # ---- council-tools table
 with open(f"{TOP}/tests/using/wanted/table.txt", encoding="utf-8") as it:

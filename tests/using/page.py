@@ -173,7 +173,7 @@ case("council-tools page: no list, no comments, no source", not re.search("coali
 
 # ---- the version of the program
 for name, text, wanted in [
-    ("of several lines", "printf 'council 9 <\\377\\n\\n'\necho x", "The program at hand when this page was made: council 9 &lt;\ufffd, x. "),
+    ("of several lines", "printf 'council 9 <\\377\\n\\nx'", "The program at hand when this page was made: council 9 &lt;\ufffd, x. "),
     ("that fails", "echo council 9\nexit 1", "Which version of it made the report this page cannot tell. "),
     ("of another program", "echo counsel 9", "Which version of it made the report this page cannot tell. "),
 ]:
@@ -228,6 +228,7 @@ game = Run("from-table", "heads:2", "85%", "--source", "a & b", input="Votes of 
 path = put("game.toml", game)
 run = Run(TOOL, "--program", PROGRAM, "--game", path, put("game.tsv", report(game)))
 text = html.unescape(re.sub("<[^>]*>", "", run.out))
+case("council-tools page: no text without letters, and no list without a line", "<p></p>" not in run.out and "<ul></ul>" not in Run(TOOL, "--game", f"{TOP}/examples/eec-1958.toml", council).out)
 case("council-tools page: --game shows the source", '<p class="source">Source of the data: a &amp; b</p>' in run.out)
 case("council-tools page: --game shows each comment", run.err == "" and all(it[2:] in text for it in game.split("\n") if it.startswith("#")), text)
 case("council-tools page: --game shows names and units", "at least 2 of 3 (66.67%) under rule 1 (heads) and 85.00% of 100.00% under rule 2 (Share held)" in text and ">16.50%</td>" in run.out, text)
@@ -244,6 +245,8 @@ low = put("low.tsv", report("[5; 4, 4, 2]"))
 run = Run(TOOL, "--program", PROGRAM, low)
 case("council-tools page: a quota of at most half is warned of", "\n<p><b>At most half of the total wins, so two coalitions without a common member could both win.</b></p>\n" in run.out
      and run.err == "council-tools page: the quota 5 is at most half of the total, 10: two coalitions without a common member could both win\n", run.err)
+run = Run(TOOL, low, put("lower.tsv", report("[4; 4, 4, 2]")))
+same("council-tools page: of two games in their order", re.findall(r"the quota (\d)", run.err), ["5", "4"])
 run = Run(TOOL, input=report(write_game("AB", [1, 2], [[1, 1], [1, 1]])))
 case("council-tools page: one quota of two is at most half", "At most half" not in run.out and run.err == "council-tools page: the quota 1 of rule 1 is at most half of the total, 2\n", run.err)
 fault("council-tools page: --game of another game", Run(TOOL, "--game", path, low), 1, f"{path}: this is not the game of the report")

@@ -127,6 +127,9 @@ run_of_fund = sweep("-", "--from", "5001", "--step", "500", "--picture", f"{TEMP
 fund = ElementTree.parse(f"{TEMP}/fund.svg").getroot()
 same("council-tools sweep: quotas in the unit of the table", axis(fund, "quota"), ["60.00%", "70.00%", "80.00%", "90.00%"])
 case("council-tools sweep: the name of the rule", 'public good index, by the quota, "Share held" (total 100.00%)' in [it.text for it in fund.findall("{*}text")])
+sweep("-", "--rule", "2", "--picture", f"{TEMP}/second.svg", input="# Rule 2: percent\n" + write_game("A", [1, 1, 1], [[1, 1, 1]]))
+found = [it.text for it in ElementTree.parse(f"{TEMP}/second.svg").getroot().findall("{*}text")]
+same("council-tools sweep: the unit of the second rule of three, and one member", found[1], "public good index, by the quota of rule 2 (total 1%)")
 # 90,000,000,000% is 97.9 wide, so five have room, each with 14; 90,000,000,000.0 is 98.4, so four
 for places, percent, wanted in [(0, True, [2, 4, 6, 8]), (1, False, [50])]:
     found = Axes(1, 9 * 10 ** (10 + places), Fraction(1), Unit("", percent, places), 360).quotas
@@ -205,7 +208,11 @@ for names, last, rows_of_label in [(["t" * 15, "u" * 15 + "i"], "t" * 40 + "iiii
     same(f"council-tools sweep: {rows_of_label} rows", [sum(it.get(key) == value for it in texts) for key, value in (("class", "member"), ("font-weight", "bold"))], [rows_of_label, rows_of_label])
 sweep("-", "--from", "9", "--picture", f"{TEMP}/nine.svg", input="[9; 1, 1, 1, 1, 1, 1, 1, 1, 1]")
 same("council-tools sweep: at most five steps to the greatest index, 1/9", axis(ElementTree.parse(f"{TEMP}/nine.svg").getroot(), "index"), ["0.00", "0.05", "0.10", "0.15"])
-same("council-tools sweep: a rule of three is above half", sweep(put("three.toml", write_game("AB", [1, 2, 1], [[1, 1, 1]] * 2)), "--to", "1").err, "")
+for quotas in [1, 2, 1], [1, 1, 2]:
+    same("council-tools sweep: a rule of three is above half", sweep(put("three.toml", write_game("AB", quotas, [[1, 1, 1]] * 2)), "--to", "1").err, "")
+# 85 letters t in bold are 809.2 wide
+sweep(put("head.toml", write_game("A", [1], [[1]], "t" * 85)), "--picture", f"{TEMP}/head.svg")
+same("council-tools sweep: a title of one row has room", ElementTree.parse(f"{TEMP}/head.svg").getroot().get("width"), "825")
 same("council-tools sweep: labels move down, and up from the end", spread([5, 5, 5], [2, 2, 2], 0, 10), [4, 6, 8])
 same("council-tools sweep: labels keep their order", [spread(it, [2, 3], 1, 10) for it in ([9, 0], [9, 8], [2, 1])], [[8, 1], [8, 5], [4, 1]])
 
