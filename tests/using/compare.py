@@ -135,8 +135,16 @@ told = Run(TOOL, "--help").out
 wanted = ["REPORT a report of council; - is standard input ", " --same NAME OTHER two names that are one member", "Shows two games or more side by side"]
 case("council-tools compare: --help", " ".join(told.split()).startswith("usage: council-tools compare [-h] [--same NAME OTHER] REPORT [REPORT ...] ") and all(it in " ".join(told.split()) for it in wanted) and told.endswith(" two names that are one member\n"), told)
 for words, wanted in [(["Iceland", "nobody"], "Iceland"), (["nobody", "Iceland"], "nobody")]:
-    run = Run(TOOL, new, old, "--same", *words)
-    same(f"council-tools compare: --same of a name that no report has, {words}", (run.status, wanted in run.out, run.out.count("Iceland")), (0, True, int(wanted == "Iceland")))
+    for reports in [new, old], [old, new]:
+        run = Run(TOOL, *reports, "--same", *words)
+        same(f"council-tools compare: --same of a name that no report has, {words}", (run.status, wanted in run.out, run.out.count("Iceland")), (0, True, int(wanted == "Iceland")))
+# both must agree, so each has 1/2; the last member is the longest, and has the greatest weight
+last = put("last", report(write_game(["A", "The last"], [2001], [[1], [2000]])))
+same("council-tools compare: as wide as the last member", Run(TOOL, last, last, "--same", "The last", "x").out.split("\n")[3:], [
+    "                                    1                            2                2 - 1",
+    "           weight        DP        PG   weight        DP        PG         DP        PG",
+    "A               1  0.500000  0.500000        1  0.500000  0.500000   0.000000  0.000000",
+    "The last    2,000  0.500000  0.500000    2,000  0.500000  0.500000   0.000000  0.000000", ""])
 
 # ---- what is refused
 for name, words, text in [
