@@ -154,6 +154,9 @@ same("council-tools page: a whole section", body(whole), [
     "<ul><li>Rule 1: &quot;Votes&quot;, 1 decimal; column 2</li><li>source: nobody</li><li>Source: a book</li><li>Source:another</li></ul>",
     "<h2>The game</h2><p>This file, put in as <code>council --tally FILE</code>, gives the numbers above again:</p>",
     *("<details><summary>the game file</summary><pre>" + html.escape(GAME) + "</pre></details></section>").split("\n")])
+# only all three win, so each has 1/3 of the first rule and of both indices, and B has 5/7 of the second rule
+longs = re.findall(r"\* (\d\.\d{4})\)", Run(TOOL, input=report(write_game("ABC", [3, 4], [[1, 1], [1, 5], [1, 1]]))).out)
+same("council-tools page: the longest bar is of the second member and the second rule", longs, [it for share in ("0.2000", "1.0000", "0.2000") for it in ("0.4667", share, "0.4667", "0.4667")])
 script = re.search(r"<script>(.*)</script>", whole.out, re.S)[1]
 hashed = base64.b64encode(hashlib.sha256(script.encode()).digest()).decode()
 same("council-tools page: its head, and only its own script may run", whole.out.split("<style>")[0].split("\n"), [
@@ -247,8 +250,9 @@ case("council-tools page: a quota of at most half is warned of", "\n<p><b>At mos
      and run.err == "council-tools page: the quota 5 is at most half of the total, 10: two coalitions without a common member could both win\n", run.err)
 run = Run(TOOL, low, put("lower.tsv", report("[4; 4, 4, 2]")))
 same("council-tools page: of two games in their order", re.findall(r"the quota (\d)", run.err), ["5", "4"])
-run = Run(TOOL, input=report(write_game("AB", [1, 2], [[1, 1], [1, 1]])))
-case("council-tools page: one quota of two is at most half", "At most half" not in run.out and run.err == "council-tools page: the quota 1 of rule 1 is at most half of the total, 2\n", run.err)
+for rule, quotas in [(1, [1, 2]), (2, [2, 1])]:
+    run = Run(TOOL, input=report(write_game("AB", quotas, [[1, 1], [1, 1]])))
+    case(f"council-tools page: the quota of rule {rule} of two is at most half", "At most half" not in run.out and run.err == f"council-tools page: the quota 1 of rule {rule} is at most half of the total, 2\n", run.err)
 fault("council-tools page: --game of another game", Run(TOOL, "--game", path, low), 1, f"{path}: this is not the game of the report")
 fault("council-tools page: --game for one of two", Run(TOOL, "--game", path, low, low), 2, "give --game once for each report: there are 2 reports, and 1 game files")
 long = put("long.toml", "#" * 65537)
