@@ -104,6 +104,10 @@ with open(f"{TEMP}/wide.toml", encoding="utf-8") as it:
     run = Run(TOOL, "--game", f"{TEMP}/wide.toml", input=report(it.read()))
 # share of "W.."; quota 1 of 1 (100%)
 same("council-tools bars: the name of a rule has room", ElementTree.fromstring(run.out).get("width"), f"{30 + 12 * (64 * 1.05 + 19.53):.0f}")
+# only all three win, so each has 1/3 of the first rule and of both indices, and B has 5/7 of the second rule
+run = Run(TOOL, input=report(write_game("ABC", [3, 4], [[1, 1], [1, 5], [1, 1]])))
+longs = [it.get("width") for it in ElementTree.fromstring(run.out).findall("{*}rect") if it.get("class") == "bar"]
+same("council-tools bars: the longest bar is of the second member and the second rule", longs, [it for share in ("92.00", "460.00", "92.00") for it in ("214.67", share, "214.67", "214.67")])
 
 # ---- what pictures and pages share
 same("how wide letters are, in tenths of a line", [round(10 * measure(it, 1), 1) for it in ["mwMW@%—…中Ｗ\U00010000", "iljI.,:;'|![]() ", "AÉ", "aé1-", "Aé", "a\u0301"]], [115.5, 67.2, 16, 27.2, 14.8, 7.8])
