@@ -399,6 +399,7 @@ for name, words, table, status, text in [
     ("no weight in the last row", ["1", "1"], "A,1,1\nB,1,1\nC,1,\n", 1, 'line 3, column 3 is empty: write 0 if "C" is a member without weight'),
     ("another decimal sign than was said", ["1", "--decimal", "."], "A;1\nB;1,5\n", 1, f'{AT}: "1,5" is no number with "." before its decimals'),
     ("thousands or decimals", ["1"], 'A,1\nB,"1,000"\n', 1, f'{AT}: "1,000" may have decimals or thousands: say --decimal . or --decimal ,'),
+    ("a heading with a number", ["1", "1"], "Party,5,x\nA,1,2\n", 1, f'line 1, column 3: "x" {NUMBERED}'),
     ("thousands or decimals in the first row", ["1"], 'A,"3,000"\nB,"1,000"\n', 1, 'line 1, column 2: "3,000" may have decimals or thousands: say --decimal . or --decimal ,'),
     ("two decimal signs", ["1"], 'A;1\nB;1.5\nC;2.5\nD;1,5\n', 1, f'line 4, column 2: "1,5" is no number with "." before its decimals; {AT}: "1.5" has another'),
     ("percent signs here and there", ["1"], "A,2%\nB,1\n", 1, f'{AT}: "1": some weights of this column have a percent sign, and some have none'),
