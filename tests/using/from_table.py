@@ -509,7 +509,7 @@ case("--help explains the quotas", re.search(r"\n  QUOTA +a quota for each rule,
 case("--help succeeds", (run.status, run.err) == (0, "") and " ".join(run.out.split()).startswith(
     "usage: council-tools from-table [-h] [--title TEXT] [--source TEXT] [--name COLUMN] [--weight COLUMN] [--heading | --no-heading] [--all-rows | --no-total] [--sum] "
     "[--decimal {.,,}] [--round N] [--encoding NAME] [QUOTA ...] Makes a game file"), run.err + run.out)
-for name, table, wanted in [("a longer row", "A,1\nB,2,x,\nC,4,, \n", ["column 3"]), ("numbers and words", "A,1,5\nB,2,x\n", ["column 3"]), ("two columns", "A,1,x,y\nB,2,z,3\n", ["column 3", "column 4"]), ("none", "A,1, \nB,2,,\n", [])]:
+for name, table, wanted in [("a longer row", "A,1\nB,2,x,\nC,4,, \n", ["column 3"]), ("a longer first row", "A,1,x\nB,2\n", ["column 3"]), ("numbers and words", "A,1,5\nB,2,x\n", ["column 3"]), ("two columns", "A,1,x,y\nB,2,z,3\n", ["column 3", "column 4"]), ("none", "A,1, \nB,2,,\n", [])]:
     found = [it for it in find_comments(game("2", table=table).out) if it.startswith("Left out")]
     same(f"columns that are left out: {name}", found, [f"Left out: {it}" for it in wanted])
 case("a column of the total only is not left out", "Left out: column" not in game("2", "--no-total", table="A,1\nB,2\nx,3,y\n").out)

@@ -208,6 +208,12 @@ for names, last, rows_of_label in [(["t" * 15, "u" * 15 + "i"], "t" * 40 + "iiii
     sweep(put("two_names.toml", write_game(names, [2], [[1], [1]], "t" * 43 + " " + last)), "--picture", f"{TEMP}/two.svg")
     texts = ElementTree.parse(f"{TEMP}/two.svg").getroot().findall("{*}text")
     same(f"council-tools sweep: {rows_of_label} rows", [sum(it.get(key) == value for it in texts) for key, value in (("class", "member"), ("font-weight", "bold"))], [rows_of_label, rows_of_label])
+sweep("-", "--from", "2", "--to", "2", "--picture", f"{TEMP}/second.svg", input="[2; 1, 2]")
+same("council-tools sweep: the axis ends at the index of the second member", axis(ElementTree.parse(f"{TEMP}/second.svg").getroot(), "index")[-1], "1.0")
+sweep(thirty, "--from", "440", "--to", "440", "--picture", f"{TEMP}/one.svg")
+same("council-tools sweep: 20 points and more of one quota", len(ElementTree.parse(f"{TEMP}/one.svg").getroot().findall("{*}circle")) > 20, True)
+sweep(two, "--rule", "1", "--from", "5", "--to", "5", "--picture", f"{TEMP}/first.svg")
+case("council-tools sweep: the total of the first rule of two", "public good index, by the quota of rule 1 (total 8)" in [it.text for it in ElementTree.parse(f"{TEMP}/first.svg").getroot().findall("{*}text")])
 sweep("-", "--from", "9", "--picture", f"{TEMP}/nine.svg", input="[9; 1, 1, 1, 1, 1, 1, 1, 1, 1]")
 same("council-tools sweep: at most five steps to the greatest index, 1/9", axis(ElementTree.parse(f"{TEMP}/nine.svg").getroot(), "index"), ["0.00", "0.05", "0.10", "0.15"])
 for quotas in [1, 2, 1], [1, 1, 2]:
@@ -230,15 +236,15 @@ slow = put("slow", f'#!/bin/sh\nsleep 0.2\nexec "{PROGRAM}" "$@"\n')
 os.chmod(slow, 0o755)
 leader, follower = pty.openpty()
 begun = time.monotonic()
-child = subprocess.Popen([sys.executable, TOOLS, TOOL, "--program", slow, COUNCIL, "--from", "9"], stdout=subprocess.PIPE, stderr=follower, env={**os.environ, "PYTHONUNBUFFERED": ""})
+child = subprocess.Popen([sys.executable, TOOLS, TOOL, "--program", slow, COUNCIL, "--from", "10"], stdout=subprocess.PIPE, stderr=follower, env={**os.environ, "PYTHONUNBUFFERED": ""})
 first = child.stdout.readline() + child.stdout.readline()
 early = time.monotonic() - begun
 others = child.stdout.read()
 child.wait()
 took = time.monotonic() - begun
-case("council-tools sweep: rows are written as they are computed", first.split(b"\n")[1].startswith(b"9\tGermany\t") and others.count(b"\n") == 9 * 6 - 1 and early < took - 1, (early, took))
+case("council-tools sweep: rows are written as they are computed", first.split(b"\n")[1].startswith(b"10\tGermany\t") and others.count(b"\n") == 8 * 6 - 1 and early < took - 1, (early, took))
 shown = os.read(leader, 4096).decode()
-case("council-tools sweep: a terminal shows how far it is", re.search(r"\rcouncil-tools sweep: \d of 9 quotas, some \d s left\x1b\[K", shown) and shown.endswith("\r\x1b[K"), shown)
+case("council-tools sweep: a terminal shows how far it is", re.search(r"\rcouncil-tools sweep: \d of 8 quotas, some \d s left\x1b\[K", shown) and shown.endswith("\r\x1b[K"), shown)
 
 # ---- how far it is, by a clock that the test sets
 class Screen(io.TextIOWrapper):
