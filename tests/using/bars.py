@@ -104,7 +104,8 @@ with open(f"{TEMP}/wide.toml", encoding="utf-8") as it:
     run = Run(TOOL, "--game", f"{TEMP}/wide.toml", input=report(it.read()))
 # share of "W.."; quota 1 of 1 (100%)
 same("council-tools bars: the name of a rule has room", ElementTree.fromstring(run.out).get("width"), f"{30 + 12 * (64 * 1.05 + 19.53):.0f}")
-# only all three win, so each has 1/3 of the first rule and of both indices, and B has 5/7 of the second rule
+# only all three win, so each has 1/3 of the first rule and of both indices; B has 5/7 of the
+# second rule
 run = Run(TOOL, input=report(write_game("ABC", [3, 4], [[1, 1], [1, 5], [1, 1]])))
 longs = [it.get("width") for it in ElementTree.fromstring(run.out).findall("{*}rect") if it.get("class") == "bar"]
 same("council-tools bars: the longest bar is of the second member and the second rule", longs, [it for share in ("92.00", "460.00", "92.00") for it in ("214.67", share, "214.67", "214.67")])

@@ -154,7 +154,8 @@ same("council-tools page: a whole section", body(whole), [
     "<ul><li>Rule 1: &quot;Votes&quot;, 1 decimal; column 2</li><li>source: nobody</li><li>Source: a book</li><li>Source:another</li></ul>",
     "<h2>The game</h2><p>This file, put in as <code>council --tally FILE</code>, gives the numbers above again:</p>",
     *("<details><summary>the game file</summary><pre>" + html.escape(GAME) + "</pre></details></section>").split("\n")])
-# only all three win, so each has 1/3 of the first rule and of both indices, and B has 5/7 of the second rule
+# only all three win, so each has 1/3 of the first rule and of both indices; B has 5/7 of the
+# second rule
 longs = re.findall(r"\* (\d\.\d{4})\)", Run(TOOL, input=report(write_game("ABC", [3, 4], [[1, 1], [1, 5], [1, 1]]))).out)
 same("council-tools page: the longest bar is of the second member and the second rule", longs, [it for share in ("0.2000", "1.0000", "0.2000") for it in ("0.4667", share, "0.4667", "0.4667")])
 script = re.search(r"<script>(.*)</script>", whole.out, re.S)[1]
