@@ -158,7 +158,6 @@ same("council-tools sweep: a rule above half keeps two coalitions from winning",
 run = sweep("--rule", "2", "--from", "1000", "--step", "1000", put("low.toml", write_game("AB", [1, 1, 1], [[1, 2000, 1]] * 2)))
 same("council-tools sweep: three rules of at most half", run.err, f"council-tools sweep: quotas up to 2,000 of rule 2 are at most half of the total, 4,000{HALF}")
 same("council-tools sweep: the only quota is at most half", sweep(COUNCIL, "--to", "1").err, f"council-tools sweep: quotas up to 1 are at most half of the total, 17{HALF}")
-same("council-tools sweep: the last rule of three is above half", sweep(put("last.toml", write_game("AB", [1, 1, 2], [[1, 1, 1]] * 2)), "--to", "1").err, "")
 
 # ---- names of any kind, in the table and in the picture
 hard = put("hard.toml", hostile_game(2))
