@@ -65,7 +65,7 @@ if [ ! -x "$program" ]; then
     failed=1
 else
     # the longest first, as many at once as there are processors
-    scripts="preview call_allocations program_allocations sizes tally too_many small_machine output using packages launcher examples workers prefixes documents tour"
+    scripts="preview waiting call_allocations program_allocations sizes tally too_many small_machine output using packages launcher examples workers prefixes documents tour"
     # these want the library
     callers="foreign archive wheel"
     programs="random_games cases explained every_size reading style visibility memory_source gate_source"

@@ -2,8 +2,8 @@
 //!
 //! A thread that finds nothing to do looks again a few times, announces that it is about to sleep,
 //! looks once more, and sleeps until it is woken. After each sleep it looks an eighth less often,
-//! and after a look that found something twice as often. No contract depends on this. A lost
-//! wake-up costs one millisecond, the longest sleep.
+//! and after a look that found something twice as often. No contract depends on this;
+//! `tests/waiting.sh` tests it. A lost wake-up costs one millisecond, the longest sleep.
 ghost use Rattle.std.specs.Prelude.{◌<◌};
 ghost use Rattle.council_base.specs.declared.limits.TheConstants.{WORKERS};
 

@@ -20,7 +20,9 @@ use crate::observer::SliceObserver;
 use crate::part::Part;
 use crate::part_builder::PartBuilder;
 use crate::promise::{Answer, GivenJob};
-use crate::waiting::{Backoff, WakerPair, Wakers};
+use crate::putting::RowByRow;
+use crate::send::send;
+use crate::waiting::{WakerPair, Wakers};
 use crate::worker::run_worker;
 use mwc_pipe::{Rest, RingIn, RingOut, Word};
 use mwc_walk::slice_count;
@@ -222,23 +224,13 @@ fn ring_fault(builder: &PartBuilder) -> GatherFault
 }
 
 /// Puts a task into the ring, and waits while it is full; then wakes the worker.
-fn put<R: Wait>(rt: &R, tasks: &mut RingIn, mut task: Word, pair: WakerPair<'_>)
+fn put<R: Wait>(rt: &R, tasks: &mut RingIn, task: Word, pair: WakerPair<'_>)
     ensures ring { tasks.new.ring ≡ tasks.old.ring }
     ensures accepted { tasks.new.accepted ≡ tasks.old.accepted ++ task ∷ [] }
 {
-    let mut backoff = Backoff::new();
-    for _ in rt.forever() {
-        match tasks.put(task) {
-            Ok(()) => {
-                backoff.renew(pair.own);
-                pair.other.wake();
-                return;
-            }
-            Err(back) => task = back,
-        }
-        backoff.wait(rt, pair.own);
+    if !send::<RowByRow, _, _>(rt, [task].as_slice(), tasks, pair) {
+        unreachable!()
     }
-    unreachable!()
 }
 
 /// Keeps all words that are left.
