@@ -143,7 +143,7 @@ impl Backoff {
             waker.look_less_often();
             self.announced = false;
             self.slept = true;
-        } else if self.looks < waker.looks.load(Ordering::Relaxed) && !self.slept {
+        } else if self.looks < waker.looks.load(Ordering::Relaxed) {
             self.looks += 1;
             hint::spin_loop();
         } else {
