@@ -1,6 +1,6 @@
 #!/usr/bin/env bash
-# How threads wait: the tests of waiting/, as a module of crates/mwc_gather/src/waiting.rt in a copy
-# of the crates. They run without a proof, which would take as long as the crate's own.
+# How threads wait: tests in Rattle, as a module of crates/mwc_gather/src/waiting.rt in a copy of the
+# crates. They run without a proof, which would take as long as the crate's own.
 . "$(dirname "$0")/common.sh"
 
 needs rt waiting || exit 0
@@ -15,7 +15,96 @@ for crate in "$top"/crates/*; do
 done
 own=$temp/crates/mwc_gather
 mkdir "$own/src/waiting"
-cp "$top/tests/waiting/tests.rt" "$own/src/waiting/"
+cat >"$own/src/waiting/tests.rt" <<'END'
+//! Tests of how often a thread looks before it sleeps, and of what wakes it.
+
+use super::{Backoff, Waker, WakerPair, Wakers};
+use crate::putting::RowByRow;
+use crate::send::send;
+use mwc_pipe::{Word, ring};
+use std::process::Abort;
+use std::sync::Wait;
+use std::sync::atomic::Ordering;
+
+/// Whether the thread sleeps, or is about to.
+fn is_asleep(waker: &Waker) -> bool {
+    waker.asleep.load(Ordering::SeqCst)
+}
+
+/// Waits until the thread is about to sleep, and returns how often it looked again before.
+fn looks_before_sleep<R: Wait>(rt: &R, backoff: &mut Backoff, waker: &Waker) -> u32 {
+    for looks in 0..1_000 {
+        backoff.wait(rt, waker);
+        if is_asleep(waker) {
+            return looks;
+        }
+    }
+    1_000
+}
+
+#[test]
+fn a_thread_sleeps_after_512_looks(rt: HostRuntime) {
+    let waker = Waker::new();
+    let mut backoff = Backoff::new();
+    assert!(rt; looks_before_sleep(&rt, &mut backoff, &waker) == 512);
+    // it sleeps until the time is up, and then looks once before it sleeps again
+    backoff.wait(&rt, &waker);
+    assert!(rt; !is_asleep(&waker));
+    assert!(rt; looks_before_sleep(&rt, &mut backoff, &waker) == 0);
+}
+
+#[test]
+fn sleeps_make_the_looks_fewer_and_finds_make_them_more(rt: HostRuntime) {
+    let waker = Waker::new();
+    let mut backoff = Backoff::new();
+    for wanted in [512, 448, 392] {
+        assert!(rt; looks_before_sleep(&rt, &mut backoff, &waker) == wanted);
+        backoff.wait(&rt, &waker);
+        backoff.renew(&waker);
+    }
+    // each takes a millisecond, since nobody wakes it: a test has only a minute
+    for _ in 0..200 {
+        looks_before_sleep(&rt, &mut backoff, &waker);
+        backoff.wait(&rt, &waker);
+    }
+    backoff.renew(&waker);
+    // nothing was looked for in between: it looks as often as before
+    backoff.renew(&waker);
+    for wanted in [32, 64, 128, 256, 512, 512] {
+        assert!(rt; looks_before_sleep(&rt, &mut backoff, &waker) == wanted);
+        backoff.renew(&waker);
+        assert!(rt; !is_asleep(&waker));
+    }
+}
+
+#[test]
+fn a_thread_that_is_about_to_sleep_is_woken(rt: HostRuntime) {
+    let waker = Waker::new();
+    looks_before_sleep(&rt, &mut Backoff::new(), &waker);
+    waker.wake();
+    assert!(rt; !is_asleep(&waker));
+    // without the wake this would never return
+    waker.parker.park(&rt);
+}
+
+#[test]
+fn words_that_were_put_in_wake_the_other_side(rt: HostRuntime) {
+    let (mut out, _words) = ring(rt.alloc(), 2).expect(&rt, "a ring");
+    let wakers = Wakers::new();
+    looks_before_sleep(&rt, &mut Backoff::new(), &wakers.gatherer);
+    looks_before_sleep(&rt, &mut Backoff::new(), &wakers.workers[3]);
+    let pair = wakers.pair(3);
+    assert!(rt; send::<RowByRow, _, _>(&rt, [Word::Open(0)].as_slice(), &mut out, pair));
+    assert!(rt; !is_asleep(&wakers.workers[3]) && is_asleep(&wakers.gatherer));
+    // the same, as the worker sees it
+    let back = WakerPair {
+        own: pair.other,
+        other: pair.own,
+    };
+    assert!(rt; send::<RowByRow, _, _>(&rt, [Word::Done(0)].as_slice(), &mut out, back));
+    assert!(rt; !is_asleep(&wakers.gatherer));
+}
+END
 printf '\n#[cfg(test)]\nmod tests;\n' >>"$own/src/waiting.rt"
 (cd "$own" && timeout "$((10 * seconds))" rt try --test --seconds "$seconds") >"$temp/said" 2>&1 </dev/null
 count=0
@@ -25,7 +114,7 @@ while read -r _ test _ end; do
     if [ "$end" = ok ]; then ok "$name"; else failed "$name" "it $end"; fi
     count=$((count + 1))
 done < <(grep -a '^test waiting::tests::' "$temp/said")
-wanted=$(grep -c '^#\[test\]' "$top/tests/waiting/tests.rt")
+wanted=$(grep -c '^#\[test\]' "$own/src/waiting/tests.rt")
 if [ "$count" -eq "$wanted" ]; then
     ok "waiting: all $wanted tests ran"
 else
