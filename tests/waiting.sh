@@ -1,6 +1,6 @@
 #!/usr/bin/env bash
-# How threads wait: tests in Rattle, as a module of crates/mwc_gather/src/waiting.rt in a copy of the
-# crates. They run without a proof, which would take as long as the crate's own.
+# How threads wait: tests in Rattle, as a module of crates/mwc_gather/src/waiting.rt in a copy of
+# the crates. They run without a proof, which would take as long as the crate's own.
 . "$(dirname "$0")/common.sh"
 
 needs rt waiting || exit 0
