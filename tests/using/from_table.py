@@ -51,12 +51,16 @@ for text, point, comma in [
     ("1.5e3", 1500, None), ("1.500E+03", 1500, None), ("1,500e-3", None, ".0015"), ("2e12", 2 * 10**12, 2 * 10**12), ("2e0100", None, None), ("e5", None, None), ("1e", None, None),
     ("12%", 12, 12), ("12 %", 12, 12), ("1,5\u202f%", None, "1.5"), ("%", None, None), ("12%%", None, None), ("%12", None, None),
     ("", None, None), (".", None, None), ("5.", None, None), ("1..5", None, None), ("-5", None, None), ("+5", None, None), ("\u0663", None, None), ("x", None, None), ("1 x", None, None),
+    ("9007199254740993", 9007199254740993, 9007199254740993), ("0,1234567890123456789", None, ".1234567890123456789"), ("007,000", None, 7), ("0,567.5", None, None), (",567.8", None, None), ("1234,567.8", None, None),
+    ("1,234567.8", None, None), ("1,234.5,678", None, None), ("1,000.5e3", None, None), ("2e012", 2 * 10**12, 2 * 10**12), ("2E+3", 2000, 2000), ("1 000e3", None, None), ("1 000 %", 1000, 1000),
+    ("0" * 39 + "5 %", 5, 5), ("0" * 38 + "1 000", None, None), ("1'000’000", 10**6, 10**6), ("1'0", None, None), ("1, 5", None, None), ("5\u3000%", None, None), ("\u30005", None, None),
 ]:
     it, values = Number(f" {text}\t"), [None if each is None else Fraction(each) for each in (point, comma)]
     signs = [sign for sign, value in zip(".,", values) if value is not None]
     found = [it.value(sign) if it.good and it.is_valid_with(sign) else None for sign in ".,"], it.percent, it.text, it.good and (it.decimal(), it.is_open())
     same(f"the number {text}", found, (values, text.endswith("%"), text, bool(signs) and (signs[0] if len(signs) == 1 else None, len(signs) == 2 and values[0] != values[1])))
-for value, wanted in [(0, "0"), ("12345678", "12,345,678"), ("1/8", "0.125"), ("4999/4", "1,249.75"), ("1/1000000", "0.000001"), ("1/10000000", "0.000000.."), ("200/3", "66.666666.."), ("1.2345678", "1.234567..")]:
+for value, wanted in [(0, "0"), ("12345678", "12,345,678"), ("1/8", "0.125"), ("4999/4", "1,249.75"), ("1/1000000", "0.000001"), ("1/10000000", "0.000000.."), ("200/3", "66.666666.."), ("1.2345678", "1.234567.."),
+                      ("12345678901234567891", "12,345,678,901,234,567,891"), ("12345678901234567891/1000", "12,345,678,901,234,567.891"), ("2000001/2", "1,000,000.5")]:
     same(f"{value} with its decimals", write_plain(Fraction(value)), wanted)
 
 # ---- encodings, and where a row is
@@ -93,6 +97,18 @@ gives("a first line sep= without a separator", ["3"], "sep=\r\nA,1\r\nB,2\r\n", 
 gives("a first line sep= with a quote", ["3"], 'sep="\nA,1\nB,2\n', "3", ["1", "2"])
 gives("a member whose name begins as that line", ["2"], "sep=a,1\nB,2\n", "2", ["1", "2"])
 gives("another separator after sep=", ["3"], "sep=|\r\nA, x|1\r\nB, y|2\r\n", "3", ["1", "2"])
+gives("a mark before sep=", ["3"], "\ufeffsep=|\nA;x|1\nB|2\n", "3", ["1", "2"])
+gives("sep= and a colon", ["3"], "sep=:\nA:1\nB:2\n", "3", ["1", "2"])
+gives("a name that begins as the file of a spreadsheet", ["1"], "PKP,5\nB,3\n", "1", ["5", "3"])
+gives("a column by its heading of two lines", ["2", "--weight", "a\r\nb"], 'who,"a\r\nb"\r\nA,1\r\nB,2\r\n', "2", ["1", "2"])
+gives("sep= and a TAB", ["3"], "sep=\t\nA,x\t1\nB;y\t2\n", "3", ["1", "2"])
+gives("a semicolon and a comma in each row", ["85%"], "A;16,50\nB;83,50\n", "850", ["165", "835"])
+gives("a TAB and a comma in each row", ["85%"], "A\t16,50\nB\t83,50\n", "850", ["165", "835"])
+gives("a TAB and a semicolon in each row", ["3"], "A; x\t1\nB; y\t2\n", "3", ["1", "2"])
+gives("a name with many commas", ["2"], "A;1\nB, C, D, E, F;2\n", "2", ["1", "2"])
+gives("a name of two lines", ["3"], '"A\r\n B",1\nC,2\n', "3", ["1", "2"])
+for words, table, told in [([], "A\t1\n", '"\\u0009" separates the columns'), ([], "sep=|\nA|1\n", '"|" separates the columns'), (["--decimal", "."], "A,1\n", '"," separates the columns, and "." is the decimal sign')]:
+    same(f"a separator in a comment: {told}", find_comments(game("1", *words, table=table).out)[0], f"From a table of 1 member, by council-tools from-table; {told}")
 gives("the total below", [">50%", "--no-total"], "A,1\nB,2\nTotal,3\n", "2", ["1", "2"])
 gives("a member that is named as a total", ["4", "--all-rows"], "A,1\nB,2\nTotal,3\n", "4", ["1", "2", "3"])
 gives("a decimal sign that a later number tells", ["3", "--round", "0"], "A;1,000\nB;2.5\n", "3", ["1000", "3"])
@@ -120,13 +136,28 @@ gives("two rules", ["65%", "55%"], "name,people,states\nA,5.5,1\nB,3,1\nC,1,1\n"
 gives("heads", ["65%", "heads:55%"], "name,people\nA,5.5\nB,3\nC,1\n", "[62, 2]", ["[55, 1]", "[30, 1]", "[10, 1]"])
 gives("four rules", ["1", "heads:1", "heads:2", "2"], "A,1,1\nB,3,4\nC,1,1\n", "[1, 1, 2, 2]", ["[1, 1, 1, 1]", "[3, 1, 1, 4]", "[1, 1, 1, 1]"])
 gives("heads alone", ["heads:2", "--no-heading"], "A\nB\nC\n", "2", ["1", "1", "1"])
+gives("the decimal sign of the table is not that of heads", ["1", "heads:33.4%"], "A;1,5\nB;2\nC;1\n", "[10, 2]", ["[15, 1]", "[20, 1]", "[10, 1]"])
+gives("the sign of a quota of heads", ["1", "heads:66.667%", "--decimal", "."], "A,1\nB,2\nC,4\n", "[1, 3]", ["[1, 1]", "[2, 1]", "[4, 1]"])
+gives("the sign of a quota of heads that tells it", ["1", "heads:33.4%", "--decimal", ","], "A,1\nB,2\nC,4\n", "[1, 2]", ["[1, 1]", "[2, 1]", "[4, 1]"])
+gives("one rule is rounded, one is not", ["1", "1", "--round", "1"], "A,1.25,1.5\nB,2,1\n", "[10, 10]", ["[13, 15]", "[20, 10]"])
+gives("the second rule is rounded", ["1", "1", "--round", "1"], "A,1.5,1.25\nB,2,1\n", "[10, 10]", ["[15, 13]", "[20, 10]"])
+gives("rows are rounded before they are added", ["1", "--sum", "--round", "0"], "A,0.5\nA,0.5\nB,3\n", "1", ["2", "3"])
+gives("rows are added before their decimals are counted", ["1", "--sum"], "A,0.5\nA,0.5\nB,3\n", "1", ["1", "3"])
+gives("a heading over a column that is chosen by its number", ["1", "--weight", "3"], "x,5,Abc\nA,1,7\nB,2,8\n", "1", ["7", "8"])
+gives("the heading Name over a column that is chosen by its number", ["1", "--name", "2", "--weight", "1"], "w1,Name\n5,A\n3,B\n", "1", ["5", "3"])
+gives("a zero with a percent sign", ["1"], "A,0%\nB,5\nC,2\n", "1", ["0", "5", "2"])
+gives("columns in another order, the second with decimals", ["1", "1", "--weight", "3", "--weight", "2"], "A,1.5,7\nB,2,8\n", "[1, 10]", ["[7, 15]", "[8, 20]"])
+gives("names between row numbers and weights", ["1", "--name", "2"], "1,A,5\n2,B,3\n", "1", ["5", "3"])
+gives("40 members", ["1"], "".join(f"m{it},1\n" for it in range(40)), "1", ["1"] * 40)
+same("the rules of which one is rounded", find_comments(game("1", "1", "--round", "1", table="A,1.25,1.5\nB,2,1\n").out)[1:], [
+    'Rule 1: 1 decimal; column 2, rounded to 1 decimals, times 10; the quota "1" is at least 10', 'Rule 2: 1 decimal; column 3, times 10; the quota "1" is at least 10'])
 
 # ---- quotas of 101 votes, as docs/GUIDE.md has them, and of decimals
 TABLE = "A,40\nB,35\nC,26\n"
 for quota, wanted, *how in [(">50%", 51), ("50%", 51), ("1/2", 51), (">1/2", 51), ("2/3", 68, "at least 2/3 of 101, which is 67.333333.., so 68"),
                             (">2/3", 68, "more than 2/3 of 101, which is 67.333333.., so 68"), ("100%", 101, "at least 1/1 of 101, which is 101"), ("51", 51), (">50", 51, "more than 50, so 51"),
-                            ("49.5", 50), (">=49,5", 50), ("≥49.5", 50), ("66.67%", 68), (" > 2 / 3 ", 68), ("1", 1), ("101", 101), (">100", 101), ("200/200", 101),
-                            ("heads:2", 2, "at least 2"), ("heads:>1/3", 2, "more than 1/3 of 3, which is 1, so 2"), (" heads: > 1/3 ", 2), ("heads:>=2", 2), ("heads:100%", 3),
+                            (">=49,5", 50), ("≥49.5", 50), ("66.67%", 68), (" > 2 / 3 ", 68, "more than 2/3 of 101, which is 67.333333.., so 68"), ("1", 1), ("101", 101), (">100", 101), ("200/200", 101),
+                            ("heads:2", 2, "at least 2"), ("heads:>1/3", 2, "more than 1/3 of 3, which is 1, so 2"), (" heads: > 1/3 ", 2), ("heads:>=2", 2), ("heads:100%", 3, "at least 1/1 of 3, which is 3"), ("heads:>2", 3, "more than 2, so 3"), ("heads:1.5", 2, "at least 1.5, so 2"), ("49.5", 50, "at least 49.5, so 50"), ("0.5%", 1, "at least 1/200 of 101, which is 0.505, so 1"), ("101/101", 101), (">99/101", 100), ("≥1/3", 34), ("> 50 %", 51),
                             (">0%", 1, "more than 0/1 of 101, which is 0, so 1")]:
     run = game(quota, table=TABLE)
     same(f"a quota: {quota} of 101", read(run.out or "quota = none")[0], str(wanted))
@@ -152,12 +183,16 @@ fault("a total in one column of two is asked about", game("60%", "60%", table="A
 for name, table in [("percent", "A,33%\nB,33%\nC,33%\nx,100%\n"), ("decimals", "A,33.33\nB,33.33\nC,33.33\nx,100.00\n"), ("large numbers", "A,33333\nB,33333\nC,33333\nx,100000\n")]:
     fault(f"a total of rounded weights: {name}", game("60%", table=table), 1, f'line 4, "x", is nearly the sum of all others: {ASKS}')
 gives("218 seats beside 217 are no total", ["218"], "A,218\nB,217\n", "218", ["218", "217"])
+gives("218 seats beside 217 are no total, whatever the decimal sign", ["218", "--decimal", "."], "A,218\nB,217.0\n", "218", ["218", "217"])
 for name, table, more in [("percent", "A,15%\nB,{}%\nx,{}%\n", (15, 31, 14, 30)), ("votes", "A,750\nB,{}\nx,{}\n", (750, 1501, 749, 1500)), ("decimals", "A,1.5\nB,{}\nx,{}\n", ("1.5", "3.1", "1.4", "3.0")),
                           ("percent, too far", "A,50%\nB,{}%\nx,{}%\n", (50, 101, 50, 102)), ("percent, too low", "A,50%\nB,{}%\nx,{}%\n", (50, 99, 50, 98)), ("four rows", "A,33%\nB,33%\nC,{}%\nx,{}%\n", (33, 101, 33, 102)),
                           ("a weight that is no percentage", "A,0\nB,{}%\nx,{}%\n", (30, 31, 29, 30))]:
     found = [game("60%", table=table.format(*it)) for it in (more[:2], more[2:])]
     case(f"a total that rounding explains: {name}", found[0].err == f'council-tools from-table: line {table.count(chr(10))}, "x", is nearly the sum of all others: {ASKS}\n' and found[1].status == 0, [it.err for it in found])
 fault("two equal members", game("1", table="A,3\nB,3\n"), 1, f'line 2, "B", is the sum of all others: {ASKS}')
+fault("two equal members under two rules", game("1", "1", table="A,3,4\nB,3,4\n"), 1, f'line 2, "B", is the sum of all others: {ASKS}')
+gives("a row with more decimals is near, but no total", ["60%"], "A,33%\nB,33%\nC,33%\nx,99.5%\n", "1191", ["330", "330", "330", "995"])
+fault("a total without the percent signs of the others", game("60%", table="A,33%\nB,33%\nC,33%\nx,100\n"), 1, f'line 4, "x", is nearly the sum of all others: {ASKS}')
 fault("a first row with more sums than the last", game("1", "1", table="T,9,4\nA,0,1\nB,9,3\n"), 1, f'line 1, "T", is the sum of all others: {ASKS}')
 for cells in ["1", "1", "1", ""], ["0", "0", "0", "0"]:
     table = "A,33%,{}\nB,33%,{}\nC,33%,{}\nx,100%,{}\n".format(*cells)
@@ -174,6 +209,7 @@ case("what is nearly the sum is in a comment", '\n# Left out: line 4, "x", nearl
 for words in [], ["--no-total"]:
     run = game("60%", *words, table="A,33%\nB,33%\nC,33%\n" + "T" * 41 + ",100%\n")
     same(f"a long name of a total is cut, {words}", run.err.count("T"), 40)
+    same(f"a long name of a total is whole in the comment, {words}", run.out.count("T"), 41 if words else 0)
 fault("a total of heads", game("heads:2", "--no-heading", table="A\nB\nTotal\n"), 1, f'line 3, "Total", is a total by its name, but not the sum of all others: {ASKS}')
 HARDLY = "is hardly a member: delete the line, or say --all-rows if it is one"
 for name, table, line, told in [("a source with a comma", "A,5\nB,3\nSource: Smith, 2004\n", 3, "Source: Smith"), ("a title with a comma", "Votes: Europe, 2004.5\nA,5\nB,3\n", 1, "Votes: Europe"),
@@ -183,11 +219,22 @@ gives("a member with the name of a subtotal", ["60%", "--all-rows"], "A,5\nB,3\n
 gives("members with colons", ["60%"], "A: x,5\nB: y,3\nC,1\n", "6", ["5", "3", "1"])
 gives("a member with a colon between others", ["60%"], "A,5\nB: y,3\nC,1\n", "6", ["5", "3", "1"])
 gives("one member with a colon", ["1"], "A: x,5\n", "1", ["5"])
+gives("members with a star, first and last", ["60%"], "*A,5\nB,3\n*C,1\n", "6", ["5", "3", "1"])
+gives("one with a colon, and one with a star", ["60%"], "A: x,5\nB,3\n*C,1\n", "6", ["5", "3", "1"])
+gives("a star after a name", ["60%"], "A,5\nB,3\nC*,1\n", "6", ["5", "3", "1"])
+gives("a star between others", ["60%"], "A,5\n*B,3\nC,1\n", "6", ["5", "3", "1"])
+gives("a member with a colon, last, as the user says", ["60%", "--all-rows"], "A,5\nB,3\nC: x,1\n", "6", ["5", "3", "1"])
+fault("a star, first", game("60%", table="*A,5\nB,3\nC,1\n"), 1, f'line 1, "*A", {HARDLY}')
+fault("a source before a total", game("60%", "--no-total", table="A,5\nB,3\nSource: x,1\nTotal,9\n"), 1, f'line 3, "Source: x", {HARDLY}')
+fault("a total above, of which one below is the sum", game("60%", "--no-total", table="Total,1\nA,5\nB,3\nx,9\n"), 1, f'line 1, "Total", {HARDLY}')
+fault("a total by its name above, and the sum of all below", game("60%", table="Total,1\nA,5\nB,3\nx,9\n"), 1, f'line 4, "x", is the sum of all others: {ASKS}')
+fault("two subtotals", game("60%", table="A,5\nSubtotal,7\nB,3\nSum,8\nC,1\n"), 1, f'line 2, "Subtotal", {HARDLY}')
 fault("a source after one member", game("60%", table="A,5\nSource: x,1\n"), 1, f'line 2, "Source: x", {HARDLY}')
 fault("one row, which is named as a total", game("1", table="Total,5\n"), 1, f'line 1, "Total", {HARDLY}')
 fault("a subtotal before a source", game("60%", table="A,5\nB,3\nSubtotal,7\nC,2\nSource: x,1\n"), 1, f'line 3, "Subtotal", {HARDLY}')
 fault("a long name of a source is cut", game("60%", table="A,5\nB,3\n:" + "x" * 40 + ",1\n"), 1, f'line 3, ":{"x" * 39}", {HARDLY}')
 fault("--no-total without a total", game("60%", "--no-total", table="A,5\nB,3\nC,1\n"), 2, "--no-total: neither the first row nor the last is the sum of all others")
+fault("--no-total and one member", game("60%", "--no-total", table="A,5\n"), 2, "--no-total: neither the first row nor the last is the sum of all others")
 run = game("60%", "--no-total", table="A,5\nB,3\nTotal,9\n")
 case("a total that is none is left out aloud", read(run.out)[1] == ["5", "3"] and run.err == 'council-tools from-table: line 3, "Total", is left out, and is a total by its name, but not the sum of all others\n', run.err)
 case("what is left out is in a comment", "\n# Left out: line 3, \"Total\", a total by its name, but not the sum of all others\n" in run.out, run.out)
@@ -213,21 +260,36 @@ gives("a heading of heads over a single cell", ["heads:2", "--heading"], "Frakti
 for name, heading in [*((f"a short word after {it}", f"{it},x1") for it in ("NAME", "names", "Member", "Members")), *((f"the letter {it}", f"x,{it}") for it in "wWqQ"), ("a percent sign", "x,%"), ("a word of three letters", "x,Abc")]:
     gives(f"a heading: {name}", ["60%"], f"{heading}\nA,5\nB,3\n", "5", ["5", "3"])
 NUMBERED = "is no number (--heading, --name and --weight say which cell is what)"
-for heading, told in [("x,w1", "w1"), ("x,z", "z"), ("x,NaN", "NaN"), ("x,None", "None"), ("x,null", "null"), ("x,votes,5", "votes"), ("Name,w1,5", "w1"), ("x,w,", "w"), ("Name,w1,", "w1"), ("Name,w1", "w1")]:
+for heading, told in [("x,w1", "w1"), ("x,z", "z"), ("x,a_b", "a_b"), ("x,w12", "w12"), ("x,a b", "a b"), ("x,NaN", "NaN"), ("x,None", "None"), ("x,null", "null"), ("x,votes,5", "votes"), ("Name,w1,5", "w1"), ("x,w,", "w"), ("Name,w1,", "w1"), ("Name,w1", "w1")]:
     more = ["60%"] if heading.count(",") == 2 or heading == "Name,w1" else []
     fault(f"no heading: {heading}", game("60%", *more, table=f"{heading}\nA,5,1\nB,3,1\n" if more else f"{heading}\nA,5\nB,3\n"), 1, f'line 1, column 2: "{told}" {NUMBERED}')
 gives("a year in one column of two", ["60%", "60%"], "EU,2019,5\nA,500,3\n", "[1512, 5]", ["[2019, 5]", "[500, 3]"])
 fault("years in two columns of two", game("60%", "60%", table="EU,2019,1999\nA,500,3\n"), 1, f'line 1, "EU", {MAY}')
 gives("one member with a year", ["1"], "EU,2019\n", "1", ["2019"])
+for votes in "1899", "2100", "20190", "201", "2019.0":
+    gives(f"no year: {votes}", ["1"], f"EU,{votes}\nA,500\n", "1", [votes.partition(".")[0], "500"])
+for year in "1900", "2099":
+    fault(f"a year: {year}", game("1", table=f"EU,{year}\nA,5\nB,3\n"), 1, f'line 1, "EU", {MAY}')
+fault("a heading Name over two numbers", game("1", "1", table="Name,5,7\nA,1,2\nB,2,2\n"), 1, f'line 1, "Name", {MAY}')
+run = game("60%", table="Votes\n\nEU,2019\nA,5\nB,3\n")
+case("a heading of a year below a title", run.err.endswith(f'\ncouncil-tools from-table: line 3, "EU", {MAY}\n'), run.err)
+fault("a long heading of a year is cut", game("60%", table="E" * 41 + ",2019\nA,5\nB,3\n"), 1, f'line 1, "{"E" * 40}", {MAY}')
+gives("a heading of other letters", ["60%"], "Имя,Голоса\nA,5\nB,3\n", "5", ["5", "3"])
+gives("a heading of a word after digits", ["60%"], "x,2019_abc\nA,5\nB,3\n", "5", ["5", "3"])
+gives("two titles over weights, without Name", ["60%", "60%"], "x,Abc,w\nA,5,1\nB,3,2\n", "[5, 2]", ["[5, 1]", "[3, 2]"])
+gives("a heading that is told, of numbers", ["60%", "--heading"], "x,7\nA,5\nB,3\n", "5", ["5", "3"])
+gives("a title above a heading that is told", ["60%", "--heading"], "Votes\nx,2019\nA,5\nB,3\n", "5", ["5", "3"])
 fault("a heading of a year", game("60%", table="EU,2019\nA,5\nB,3\n"), 1, 'line 1, "EU", may be a heading or a member: say --heading or --no-heading')
+fault("a heading of a year before the names", game("1", "--name", "2", "--weight", "1", table="2019,EU\n5,A\n3,B\n"), 1, f'line 1, "EU", {MAY}')
 fault("a heading that is a number", game("60%", table="Member,1\nA,5\nB,3\n"), 1, 'line 1, "Member", may be a heading or a member: say --heading or --no-heading')
 gives("a member with as many votes as a year", ["60%", "--no-heading"], "A,2019\nB,500\n", "1512", ["2019", "500"])
 fault("--heading and --no-heading", game("60%", "--heading", "--no-heading", table="A,5\n"), 2, "argument --no-heading: not allowed with argument --heading (--help says more)")
 fault("--all-rows and --no-total", game("60%", "--all-rows", "--no-total", table="A,5\n"), 2, "argument --no-total: not allowed with argument --all-rows (--help says more)")
 fault("--no-heading and a column by its heading", game("60%", "--no-heading", "--name", "who", "--weight", "votes", table="who,votes\nA,5\n"), 2, '--no-heading: the column "who" is chosen by its heading')
+fault("--no-heading and weights by their heading", game("60%", "--no-heading", "--name", "1", "--weight", "votes", table="who,votes\nA,5\n"), 2, '--no-heading: the column "votes" is chosen by its heading')
 
 # ---- a quota below 1 is a share that lacks its sign; one of at most half is doubtful
-for quota, wanted in [("0.85", "85%"), ("0,85", "85%"), (".5", "50%"), ("0.667", "66.7%"), (">0.5", "'>50%'"), ("heads:0.55", "heads:55%"), ("heads:>0.5", "'heads:>50%'")]:
+for quota, wanted in [("0.85", "85%"), ("0,85", "85%"), (".5", "50%"), ("0.667", "66.7%"), (">0.5", "'>50%'"), (">=0.5", "50%"), ("≥.125", "12.5%"), ("heads:>=0.5", "heads:50%"), ("heads:0.55", "heads:55%"), ("heads:>0.5", "'heads:>50%'")]:
     fault(f"a quota below 1: {quota}", game(quota, "--no-heading", table=TABLE.replace(",", " " if "heads" in quota else ",")), 2, f'the quota "{quota}" is less than 1: write {wanted} for a share of all')
 run = game("85%", table=TABLE)
 same("a quota above half is not warned of", (run.status, run.err), (0, ""))
@@ -261,6 +323,15 @@ same("two titles and one source are told", run.err, "".join(f"council-tools from
     '7 has a single cell and is left out: "Source: a book" (if it is a member, write 0 as its weight)']))
 gives("a heading that begins with a year", ["60%"], "holder,2019 votes\nA,5\nB,3\nC,1\n", "6", ["5", "3", "1"])
 gives("titles above columns that are chosen", ["60%", "--weight", "votes"], NOTES.format(""), "6", ["5", "3", "1"])
+gives("titles and sources, whatever is said of totals", ["60%", "--all-rows"], NOTES.format(""), "6", ["5", "3", "1"])
+same("titles, sources and a heading in comments", find_comments(game("60%", table=NOTES.format("")).out)[2:], [
+    'Left out: line 1, "Votes of 2019"', 'Left out: line 7, "Source: a book"', 'Left out: line 8, "*) estimated"', "Left out: line 3, the heading"])
+run = game("60%", table="2019\nholder,votes\nA,5\nB,3\n")
+same("a year alone is no title", (run.status, run.out, run.err), (1, "", 'council-tools from-table: line 2, column 2: "votes" is no number (--heading, --name and --weight say which cell is what)\n'))
+run = game("1", table="Title\n,holder,votes\n0,A,5\n1,B,3\n")
+case("row numbers below a title", run.err.endswith("column 1 has row numbers, and column 2 the names: say --name 2\n"), run.err)
+run = game("1", table="Title\nA,5\nB,x\n")
+case("a fault below a title", run.status == 1 and run.err.endswith('\ncouncil-tools from-table: line 3, column 2: "x" is no number (--heading, --name and --weight say which cell is what)\n'), run.err)
 fault("a single cell beside heads", game("heads:2", table="who,votes\nA,5\nB,3\nSource: a book\n"), 1,
       'line 4 has a single cell, "Source: a book", and others have more: delete the line, or say --all-rows if it is a member')
 gives("a single cell of a member", ["heads:2", "--all-rows"], "who,votes\nA,5\nB,3\nC,\n", "2", ["1", "1", "1"])
@@ -268,6 +339,11 @@ SINGLE = "and others have more: delete the line, or say --all-rows if it is a me
 fault("the last of several single cells", game("heads:2", table="Title\nwho,votes\nA,5\nB,3\nsource\n" + "x" * 61 + "\n"), 1, f'line 6 has a single cell, "{"x" * 60}", {SINGLE}')
 fault("a source in the second column", game("heads:2", table="who,votes\nA,5\nB,3\n,source\n"), 1, f'line 4 has a single cell, "source", {SINGLE}')
 fault("a title beside heads", game("heads:2", table="Title\nA,5\nB,3\n"), 1, f'line 1 has a single cell, "Title", {SINGLE}')
+fault("a single cell that is no heading, beside heads", game("heads:2", "--no-heading", table="A\nB,5\nC,3\n"), 1, f'line 1 has a single cell, "A", {SINGLE}')
+fault("a source under a heading of heads that is no single cell", game("heads:2", "--heading", table="who,votes\nA,5\nB,3\nsource\n"), 1, f'line 4 has a single cell, "source", {SINGLE}')
+fault("a second title under a heading of heads", game("heads:2", "--heading", table="Holder\nTitle\nA,5\nB,3\n"), 1, f'line 2 has a single cell, "Title", {SINGLE}')
+fault("a title above a heading by its name, of heads", game("heads:2", "--name", "who", table="who\nA,5\nB,3\n"), 1, f'line 1 has a single cell, "who", {SINGLE}')
+gives("single cells of members, first and last", ["heads:2", "--all-rows", "--no-heading"], "A\nB,5\nC\n", "2", ["1", "1", "1"])
 fault("a source under a heading of heads", game("heads:2", "--heading", table="Title\nA,5\nB,3\nsource\n"), 1, f'line 4 has a single cell, "source", {SINGLE}')
 run = game("60%", table="x" * 201 + "\nA,5\nB,3\n")
 same("a long title is cut", [it.count("x") for it in (run.out, run.err)], [200, 200])
@@ -277,11 +353,19 @@ gives("--sum", ["60%", "--sum"], "A,5\nB,3\nA,1.5\n", "57", ["65", "30"])
 gives("--sum of two columns", ["60%", "1", "--sum"], "A,5,1\nB,3,1\nA,1,3\n", "[6, 1]", ["[6, 4]", "[3, 1]"])
 gives("--sum of 41 rows", ["60%", "--sum"], "A,60\n" + "".join(f"m{it % 20},1\n" for it in range(40)), "60", ["60"] + ["2"] * 20)
 case("--sum is in a comment", '\n# Added: lines 1, 3, "A"\n' in game("60%", "--sum", table="A,5\nB,3\nA,1\n").out)
+same("--sum of two names, one in three rows", find_comments(game("1", "--sum", table="A,5\nB,3\nA,1\nB,2\nC,7\nA,4\n").out)[2:], ['Added: lines 1, 3, 6, "A"', 'Added: lines 2, 4, "B"'])
+gives("--sum with blanks in names", ["1", "--sum"], "A  B,5\n A B ,1.5\nC,1\n", "10", ["65", "10"])
+gives("--sum of heads", ["heads:2", "--sum"], "A,5\nB,3\nA,1\n", "2", ["1", "1"])
+gives("names that differ by a capital letter", ["1"], "a,5\nA,3\n", "1", ["5", "3"])
 case("--sum of the last name is in a comment", '\n# Added: lines 2, 3, "B"\n' in game("60%", "--sum", table="A,5\nB,3\nB,1\n").out)
 for name, words, table in [("R", ["60%"], '"","holder","votes"\n"1","A",5\n"2","B",3\n'), ("pandas", ["60%"], ",holder,votes\n0,A,5\n1,B,3\n"), ("pandas, of heads", ["heads:2"], ",holder\n0,A\n1,B\n"), ("a heading, of heads", ["heads:2"], "no,holder\n0,A\n1,B\n"), ("a title, of heads", ["heads:2"], "Holders\n0,A\n1,B\n")]:
     fault(f"row numbers of {name}", game(*words, table=table), 1, "column 1 has row numbers, and column 2 the names: say --name 2")
 gives("row numbers", ["60%", "--name", "2"], '"","holder","votes"\n"1","A",5\n"2","B",3\n', "5", ["5", "3"])
 gives("names that are numbers", ["60%"], "1,5\n2,3\n", "5", ["5", "3"])
+fault("row numbers, and a column that is chosen", game("1", "--weight", "3", table=",holder,votes\n0,A,5\n1,B,3\n"), 1, "column 1 has row numbers, and column 2 the names: say --name 2")
+fault("row numbers that begin at 11", game("1", table=",holder,votes\n11,A,5\n12,B,3\n"), 1, "column 1 has row numbers, and column 2 the names: say --name 2")
+fault("row numbers below a heading", game("1", table="no,holder,votes\n1,A,5\n2,B,3\n"), 1, "column 1 has row numbers, and column 2 the names: say --name 2")
+gives("row numbers of heads, whose heading tells", ["heads:2", "--name", "2"], "no,Holder\n5,A\n6,B\n", "2", ["1", "1"])
 gives("names that are numbers, as the user says", ["60%", "--name", "1", "--weight", "3"], "1,A,5\n2,B,3\n", "5", ["5", "3"])
 fault("row numbers with gaps and blanks", game("60%", table=",holder,votes\n 0 , A ,5\n ,B,3\n2,C,1\n"), 1, "column 1 has row numbers, and column 2 the names: say --name 2")
 for name, table in [("a name is missing", ",holder\n0,A\n1\n"), ("a name is a number", ",holder\n0,A\n1,7\n"), ("a name is blank", ",holder\n0, \n1,B\n"), ("a row has no number", ",holder\n0,A\nx,B\n"), ("the first row has none", "no,holder\nx,A\n1,B\n"), ("no row has one", ",holder\n,A\n,B\n")]:
@@ -291,6 +375,11 @@ for name, table in [("a name is missing", ",holder\n0,A\n1\n"), ("a name is a nu
 run = game("85%", "heads:2", "--source", "a\nbook", table="Holder,Share of votes\nA,16.50%\nB,40.25%\nC,43.25%\n")
 comments = find_comments(run.out)
 same("the comment of the source", comments[0], "Source: a book")
+same("a source of nothing is no comment", find_comments(game("1", "--source", "", table="A,1\n").out)[0][:12], "From a table")
+same("a title of nothing is none", game("1", "--title", "", table="A,1\n").out, game("1", table="A,1\n").out)
+same("the comment of percentages and a zero", find_comments(game("60%", table="A,0\nB,5%\nC,2%\n").out)[1], 'Rule 1: percent; column 2; the quota "60%" is at least 3/5 of 7, which is 4.2, so 5')
+same("the comments of rows that are one member", find_comments(game("1", "--sum", table="A,5\nA,3\n").out), [
+    'From a table of 1 member, by council-tools from-table; "," separates the columns', 'Rule 1: column 2; the quota "1" is at least 1', 'Added: lines 1, 2, "A"'])
 same("the comment of a rule", comments[2], 'Rule 1: "Share of votes", percent, 2 decimals; column 2, times 100; the quota "85%" is at least 17/20 of 10,000, which is 8,500')
 units = read_units(comments, 2)
 same("the names of the rules", [it.name for it in units], ["Share of votes", "heads"])
@@ -368,6 +457,15 @@ for name, words, table, status, text in [
     ("a quota that is no number", ["half"], "A,1\n", 2, no_quota("half")),
     ("a quota with a word", ["2/3 of all"], "A,1\n", 2, no_quota("2/3 of all")),
     ("a quota over zero", ["1/0"], "A,1\n", 2, no_quota("1/0")),
+    *((f"a quota that is no number, {it!r}", [it], "A,1\n", 2, no_quota(it)) for it in ["", ">", "heads:", "heads:>", "-5", "=1", "<=1", "Heads:1", "> >1", "1/2%", "1.5/2", "1/", "/2", f"1/1{'0' * 18}", f"1{'0' * 18}/1", "65 per cent"]),
+    ("heads above the members", ["heads:3"], "A,1\nB,2\n", 2, 'the quota "heads:3" comes to 3, and must be from 1 to 2, the total'),
+    ("heads above the members, as their quota is written", [" heads: >2 "], "A,1\nB,2\n", 2, 'the quota " heads: >2 " comes to 3, and must be from 1 to 2, the total'),
+    ("a quota above a total with decimals", ["5"], "A,1.5\nB,2\n", 2, 'the quota "5" comes to 50, and must be from 1 to 35, the total'),
+    ("a quota of heads of thousands", ["heads:66.667%", "--decimal", ","], "A,1\nB,2\nC,4\n", 2, 'the quota "heads:66.667%" comes to 2,001, and must be from 1 to 3, the total'),
+    ("a quota of heads of two readings", ["heads:66.667%"], "A,1\nB,2\n", 2, 'the quota "heads:66.667%" may have decimals or thousands: say --decimal . or --decimal ,'),
+    ("a quota with another decimal sign than was said", ["1.5", "--decimal", ","], "A;2\nB;1\n", 2, 'the quota "1.5" is no number with "," before its decimals'),
+    ("a second quota that is none", ["1", "x"], "A,1,1\n", 2, no_quota("x")),
+    ("two tables on standard input", ["1", "-", "-"], "A,1\n", 2, no_quota("-")),
     ("a quota of nothing over one", ["0/1"], "A,1\n", 2, no_quota("0/1")),
     ("a fraction in digits of another script", ["\u0661/\u0662"], "A,1\n", 2, no_quota("\u0661/\u0662")),
     ("a quota with another decimal sign", ["1.5"], "A;2,5\nB;1\n", 2, 'the quota "1.5" is no number with "," before its decimals'),
@@ -378,6 +476,7 @@ for name, words, table, status, text in [
     ("more than all", [">100%"], "A,1\nB,2\n", 2, 'the quota ">100%" comes to 4, and must be from 1 to 3, the total'),
     ("a quota of nothing", ["0"], "A,1\nB,2\n", 2, 'the quota "0" comes to 0, and must be from 1 to 3, the total'),
     ("no table", ["1"], "", 1, "there is no table: nothing was read"),
+    ("a table of blanks", ["1"], " \n\t\n\n", 1, "there is no table: nothing was read"),
     ("a heading alone", ["1"], "name,weight\n", 1, "there is a heading, and no row below it"),
     ("one column", ["1"], "A 1\nB 2\n", 1, "the table has no column 2: commas, semicolons or TABs separate the columns"),
     ("a weight that is no number", ["1"], "A,1\nB,x2\n", 1, f'{AT}: "x2" is no number (--heading, --name and --weight say which cell is what)'),
@@ -385,6 +484,15 @@ for name, words, table, status, text in [
     ("a cell of 41 letters", ["1"], "A,1\nB," + "x" * 41 + "\n", 1, f'{AT}: "{"x" * 40}.." {NUMBERED}'),
     ("a minus before a word", ["1"], "A,1\nB,-x\n", 1, f'{AT}: "-x" {NUMBERED}'),
     ("a plus", ["1"], "A,1\nB,+2\n", 1, f'{AT}: "+2" {NUMBERED}'),
+    ("a weight below zero, with a percent sign", ["1"], "A,1%\nB,-2.5 %\n", 1, f'{AT}: "-2.5 %" is negative'),
+    ("a weight below zero after a blank that does not break", ["1"], "A,1\nB,−\u00a02\n", 1, f'{AT}: "−\\u00A02" is negative'),
+    ("a minus alone", ["1"], "A,1\nB,-\n", 1, f'{AT}: "-" {NUMBERED}'),
+    ("two minus", ["1"], "A,1\nB,--2\n", 1, f'{AT}: "--2" {NUMBERED}'),
+    ("a weight below zero of 41 letters", ["1"], "A,1\nB,-" + "1" * 40 + "\n", 1, f'{AT}: "-{"1" * 39}.." is negative'),
+    ("a weight below zero in the third column, in the first row", ["1", "1"], "A,1,-3\nB,1,1\n", 1, 'line 1, column 3: "-3" is negative'),
+    ("a first row that is short", ["1", "1"], "A,1\nB,1,1\nC,1,1\n", 1, 'line 1, column 3 is empty: write 0 if "A" is a member without weight'),
+    ("a long name without a weight in the last row", ["1", "1"], "A,1,1\nB,1,1\n" + "C" * 41 + ",1\n", 1, f'line 3, column 3 is empty: write 0 if "{"C" * 40}" is a member without weight'),
+    ("two rows without a weight, first and last", ["1", "1"], "A,1,\nB,1,1\nC,,1\n", 1, 'line 1, column 3 is empty: write 0 if "A" is a member without weight'),
     ("digits of another script", ["1"], "A,1\nB,٣\n", 1, f'{AT}: "٣" is no number (--heading, --name and --weight say which cell is what)'),
     ("a number without end", ["1"], "A,1\nB," + "9" * 5000 + "\n", 1, f'{AT}: "{"9" * 40}.." is no number (--heading, --name and --weight say which cell is what)'),
     ("a weight below zero", ["1"], "A,1\nB,-2\n", 1, f'{AT}: "-2" is negative'),
@@ -403,13 +511,20 @@ for name, words, table, status, text in [
     ("a heading with a number", ["1", "1"], "Party,5,x\nA,1,2\n", 1, f'line 1, column 3: "x" {NUMBERED}'),
     ("thousands or decimals in the first row", ["1"], 'A,"3,000"\nB,"1,000"\n', 1, 'line 1, column 2: "3,000" may have decimals or thousands: say --decimal . or --decimal ,'),
     ("two decimal signs", ["1"], 'A;1\nB;1.5\nC;2.5\nD;1,5\n', 1, f'line 4, column 2: "1,5" is no number with "." before its decimals; {AT}: "1.5" has another'),
+    ("two decimal signs in columns of another order", ["1", "1", "--weight", "3", "--weight", "2"], "A;1;1.5\nB;1,5;2\n", 1, f'{AT}: "1,5" is no number with "." before its decimals; line 1, column 3: "1.5" has another'),
+    ("thousands or decimals in columns of another order", ["1", "1", "--weight", "3", "--weight", "2"], "A;1;2\nB;2,000;2\n", 1, f'{AT}: "2,000" may have decimals or thousands: say --decimal . or --decimal ,'),
+    ("thousands or decimals in a total", ["1", "--no-total"], "A;600\nB;400\nTotal;1,000\n", 1, 'line 3, column 2: "1,000" may have decimals or thousands: say --decimal . or --decimal ,'),
     ("percent signs here and there", ["1"], "A,2%\nB,1\n", 1, f'{AT}: "1": some weights of this column have a percent sign, and some have none'),
+    ("percent signs here and there in columns of another order", ["1", "1", "--weight", "3", "--weight", "2"], "A,2%,5\nB,1,6\n", 1, f'{AT}: "1": some weights of this column have a percent sign, and some have none'),
     ("percent signs here and there in one column of three", ["1"] * 3, "A,5,2%,7\nB,6,1,8\n", 1, 'line 2, column 3: "1": some weights of this column have a percent sign, and some have none'),
     ("a percent sign after a zero", ["1"], "A,0\nB,2\nC,0%\nD,1%\n", 1, 'line 4, column 2: "1%": some weights of this column have a percent sign, and some have none'),
+    ("a percent sign of a zero, and another", ["1"], "A,0%\nB,2\nC,1%\n", 1, 'line 3, column 2: "1%": some weights of this column have a percent sign, and some have none'),
     ("a total that is none", ["1"], "A,1\nB,2\nTotal,4\n", 1,
      'line 3, "Total", is a total by its name, but not the sum of all others: say --no-total to leave it out, or --all-rows if it is a member'),
     ("a name twice", ["1"], "A,1\nB,2\nA,2\n", 1, 'line 3: the name "A" is in line 1 too (--sum adds their weights)'),
     ("a name three times", ["1"], "A,1\nB,2\nB,2\nB,2\n", 1, 'line 3: the name "B" is in line 2 too (--sum adds their weights)'),
+    ("a name twice, whatever is said of totals", ["1", "--all-rows"], "A,1\nB,2\nA,2\n", 1, 'line 3: the name "A" is in line 1 too (--sum adds their weights)'),
+    ("a name twice, but for blanks", ["1"], "A  B,1\nC,2\n A B,2\n", 1, 'line 3: the name "A B" is in line 1 too (--sum adds their weights)'),
     ("a long name", ["1"], "é" * 33 + ",1\n", 1, f'line 1: the name "{"é" * 20}".. has more than 64 bytes, or a letter that is none to read'),
     ("a name that rings a bell", ["1"], "A\x07,1\n", 1, 'line 1: the name "A\\u0007".. has more than 64 bytes, or a letter that is none to read'),
     *((f"a name with half a letter, {it}", ["1", "--encoding", "utf-7"], f"A+{it}-,1\n", 1, f'line 1: the name "A\\u{number}".. has more than 64 bytes, or a letter that is none to read')
@@ -425,6 +540,13 @@ for name, words, table, status, text in [
      "line 2, column 2: with 0 decimals this is a weight of 13 digits, and the greatest is 1,000,000,000,000: --round N rounds the weights to N decimals"),
     ("weights of nothing", ["1"], "A,0\nB,0\n", 1, "column 2: all weights are 0"),
     ("weights that are rounded to nothing", ["1", "--round", "0"], "A,0.1\nB,0.3\n", 1, "column 2: all weights are 0"),
+    ("weights of nothing in the second column", ["1", "1"], "A,1,0\nB,4,0\n", 1, "column 3: all weights are 0"),
+    ("weights of nothing in a column that is chosen", ["heads:1", "1", "--weight", "4"], "A,1,2,0\nB,4,5,0\n", 1, "column 4: all weights are 0"),
+    ("too great a weight in a column that is chosen", ["1", "1", "--weight", "3", "--weight", "2"], "A,1,1\nB,2000000000000,5\n", 1,
+     "line 2, column 2: with 0 decimals this is a weight of 13 digits, and the greatest is 1,000,000,000,000: --round N rounds the weights to N decimals"),
+    ("a column without a quota, after row numbers and names", ["1", "--name", "2"], "1,A,1,3\n2,B,2,4\n", 1, "column 4 has numbers too, and there is no quota for it: give one more, or choose columns by --weight"),
+    ("a column without a quota after one of words", ["1"], "who,votes,land,seats\nA,1,x,3\nB,2,y,4\n", 1, "column 4 has numbers too, and there is no quota for it: give one more, or choose columns by --weight"),
+    ("the first column without a quota of two", ["1"], "A,1,3,5\nB,2,4,5\n", 1, "column 3 has numbers too, and there is no quota for it: give one more, or choose columns by --weight"),
     ("a column without a quota", ["1"], "A,1,3\nB,2,4\n", 1,
      "column 3 has numbers too, and there is no quota for it: give one more, or choose columns by --weight"),
     ("a column that is not there", ["1", "--weight", "x"], "a,b\nA,1\n", 2, 'there is no column "x", or two of them; the first row has "a", "b"'),
@@ -441,12 +563,22 @@ for name, words, table, status, text in [
     ("more columns than quotas", ["1", "heads:1", "--weight", "2", "--weight", "3"], "A,1,1\n", 2, "there are quotas for 1 columns of weights, and --weight names 2"),
     ("a column of weights twice", ["1", "1", "--weight", "2", "--weight", "2"], "A,1,1\n", 2, "a column is named twice"),
     ("a column of names and weights", ["1", "--weight", "1"], "A,1\n", 2, "a column is named twice"),
+    ("a column by its heading and by its number", ["1", "1", "--weight", "votes", "--weight", "2"], "who,votes,x\nA,1,1\n", 2, "a column is named twice"),
+    ("a column of weights beside heads", ["heads:1", "--weight", "2"], "A,1\n", 2, "there are quotas for 0 columns of weights, and --weight names 1"),
+    ("a column of names 0", ["1", "--name", "0"], "A,1\n", 2, "there is no column 0: they are counted from 1"),
+    ("a column of names that is not there", ["1", "--name", "x"], "a,b\nA,1\n", 2, 'there is no column "x", or two of them; the first row has "a", "b"'),
+    ("no weight in the first row, and a total", ["1", "1", "--no-total"], "A,1,\nB,1,1\nTotal,2,\n", 1, 'line 1, column 3 is empty: write 0 if "A" is a member without weight'),
+    ("no weight in a total that is not dropped", ["1", "1"], "A,1,1\nB,1,1\nTotal,2,\n", 1, f'line 3, "Total", is the sum of all others: {ASKS}'),
     ("quotes that do not end", ["1"], 'A,1\n"B,2\n', 1, "line 2: this is no row of a table: unexpected end of data"),
+    ("quotes that do not end, in the middle", ["1"], 'A,1\n"B,2\nC,3\nD,4\n', 1, "line 2: this is no row of a table: unexpected end of data"),
     ("a weight below empty lines", ["1"], "A,1\n\n,\nB,x\n", 1, 'line 4, column 2: "x" is no number (--heading, --name and --weight say which cell is what)'),
     ("quotes that do not end, after sep=", ["1"], 'sep=;\n"A\nB";1\n"B;2\n', 1, "line 4: this is no row of a table: unexpected end of data"),
     ("a weight that is no number, after sep=", ["1"], 'sep=;\n"A\nB";1\nB;x\n', 1, 'line 4, column 2: "x" is no number (--heading, --name and --weight say which cell is what)'),
     ("bytes of another encoding", ["1"], b"A,1\n\xc5,2\n", 1, "line 2 is not utf-8-sig: export the table as UTF-8, or say --encoding cp1252 or what it is"),
     ("no such encoding", ["1", "--encoding", "x\ny"], "A,1\n", 2, 'there is no encoding "x\\u000Ay"'),
+    ("an encoding that is none of text", ["1", "--encoding", "hex"], "A,1\n", 2, 'there is no encoding "hex"'),
+    ("bytes that are not in the encoding that is said", ["1", "--encoding", "ascii"], b"A,1\nB,2\n\xc5,2\n", 1, "line 3 is not ascii: export the table as UTF-8, or say --encoding cp1252 or what it is"),
+    ("a cell without end", ["1"], "A,1\n" + "x" * 131073 + ",1\n", 1, "line 2: this is no row of a table: field larger than field limit (131072)"),
     ("half a letter of UTF-16", ["1"], "A,1\nB,2\n".encode("utf-16-le")[:-1], 1, "line 2 is not utf-16-le: export the table as UTF-8, or say --encoding cp1252 or what it is"),
     ("an encoding of nothing", ["1", "--encoding", ""], "A,1\n", 2, 'there is no encoding ""'),
     ("an encoding that reads nothing", ["1", "--encoding", "undefined"], "A,1\n", 2, 'there is no encoding "undefined"'),
@@ -509,8 +641,12 @@ case("--help explains the quotas", re.search(r"\n  QUOTA +a quota for each rule,
 case("--help succeeds", (run.status, run.err) == (0, "") and " ".join(run.out.split()).startswith(
     "usage: council-tools from-table [-h] [--title TEXT] [--source TEXT] [--name COLUMN] [--weight COLUMN] [--heading | --no-heading] [--all-rows | --no-total] [--sum] "
     "[--decimal {.,,}] [--round N] [--encoding NAME] [QUOTA ...] Makes a game file"), run.err + run.out)
-for name, table, wanted in [("a longer row", "A,1\nB,2,x,\nC,4,, \n", ["column 3"]), ("a longer first row", "A,1,x\nB,2\n", ["column 3"]), ("numbers and words", "A,1,5\nB,2,x\n", ["column 3"]), ("two columns", "A,1,x,y\nB,2,z,3\n", ["column 3", "column 4"]), ("none", "A,1, \nB,2,,\n", [])]:
+for name, table, wanted in [("a longer row", "A,1\nB,2,x,\nC,4,, \n", ["column 3"]), ("a longer first row", "A,1,x\nB,2\n", ["column 3"]), ("numbers and words", "A,1,5\nB,2,x\n", ["column 3"]), ("two columns", "A,1,x,y\nB,2,z,3\n", ["column 3", "column 4"]), ("none", "A,1, \nB,2,,\n", []),
+                            ("numbers and an empty cell", "A,1,5\nB,2\n", ["column 3"]), ("numbers and a blank cell, last", "A,1,5\nB,2, \n", ["column 3"]), ("a heading over nothing", "who,votes,notes\nA,1,\nB,2,\n", ["line 1, the heading"])]:
     found = [it for it in find_comments(game("2", table=table).out) if it.startswith("Left out")]
     same(f"columns that are left out: {name}", found, [f"Left out: {it}" for it in wanted])
 case("a column of the total only is not left out", "Left out: column" not in game("2", "--no-total", table="A,1\nB,2\nx,3,y\n").out)
+for name, words, table, wanted in [("heads beside numbers", ["heads:2"], "A,4,x\nB,5,y\n", ["column 2", "column 3"]), ("columns that are chosen", ["1", "--weight", "3"], "A,4,5,6\nB,5,7,6\n", ["column 2", "column 4"]),
+                                   ("row numbers", ["1", "--name", "2"], "1,A,5\n2,B,3\n", ["column 1"]), ("words of a row that is added", ["1", "--sum"], "A,4\nB,3\nA,2,x\n", ["column 3"]), ("weights before names", ["1", "--name", "4", "--weight", "2"], "x,1,7,A\ny,2,8,B\n", ["column 1", "column 3"])]:
+    same(f"columns that are left out: {name}", [it for it in find_comments(game(*words, table=table).out) if it.startswith("Left out")], [f"Left out: {it}" for it in wanted])
 done()

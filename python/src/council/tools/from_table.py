@@ -60,12 +60,16 @@ class Quota:
         if (match and not self.share) or (self.number and not self.number.good):
             raise Fault(f"the quota {quote(text)} is no number, no percentage as 65% or '>50%', and no fraction as 2/3", 2)
 
+    def is_open(self) -> bool:
+        """Returns whether its point or comma may stand before decimals or between thousands."""
+        return bool(self.number and self.number.is_open())
+
     def make_whole(self, total: int, scale: int, decimal: Optional[str]) -> tuple[int, str]:
         """Returns the quota as a whole number, and how it was found. The weights were multiplied by
         `scale`, and add up to `total`."""
         share = self.share
         if self.number:
-            if self.number.is_open() and decimal is None:
+            if self.is_open() and decimal is None:
                 raise Fault(f"the quota {quote(self.text)} may have decimals or thousands: say --decimal . or --decimal ,", 2)
             decimal = decimal or self.number.decimal() or "."
             if not self.number.is_valid_with(decimal):
@@ -428,7 +432,7 @@ def make_game(data: bytes, quotas: Sequence[Quota], words: argparse.Namespace) -
         comments.insert(0, f"Source: {' '.join(words.source.split())}")
     rules, used = [], iter(range(len(read)))
     for rule, quota in enumerate(quotas, 1):
-        rules.append(Rule(rule, quota, members) if quota.heads else Rule(rule, quota, members, columns, next(used), read, decimal))
+        rules.append(Rule(rule, quota, members, decimal=words.decimal if quota.is_open() else None) if quota.heads else Rule(rule, quota, members, columns, next(used), read, decimal))
         comments.append(rules[-1].comment)
     weights = zip(*(it.weights for it in rules))
     text = write_game([it.name for it in members], [it.quota for it in rules], weights, words.title or "", comments + left_out)
