@@ -13,6 +13,7 @@ from fractions import Fraction
 
 from cases import HOSTILE, TEMP, TOP, Run, case, done, fault, hostile_game, needs, report, same, skipped
 from council.game import write_game
+from council.tools.export import FORMATS
 
 TOOL = "export"
 
@@ -112,6 +113,53 @@ same("a half is rounded upwards, and not to the even", eight, "deegan_packel\n" 
 third = Run(TOOL, "csv", "--columns", "deegan_packel", "--decimals", "9", input=report("[2; 1, 1, 1]")).out
 same("more decimals than the report has", third, "deegan_packel\n" + "0.333333333\n" * 3)
 
+# a share and both indices are 1/8 with two decimals, and 1/32 with four: a half, in each format
+DECIMALS = "share,deegan_packel,public_good"
+EIGHT, MANY = of(*"ABCDEFGH"), of(*(f"{it}" for it in range(32)))
+for form, wanted in [("csv", "0.13,0.13,0.13"), ("latex", "0.13 & 0.13 & 0.13 \\\\"), ("markdown", "| 0.13 | 0.13 | 0.13 |")]:
+    found = Run(TOOL, form, "--columns", DECIMALS, "--decimals", "2", input=EIGHT).out.split("\n")
+    same(f"{form}: a half of the last decimal, upwards", found.count(wanted), 8)
+for form, wanted in [("latex", "0.0313 & 0.0313 & 0.0313 \\\\"), ("markdown", "| 0.0313 | 0.0313 | 0.0313 |"), ("csv", "0.031250,0.031250,0.031250")]:
+    same(f"{form}: a half without --decimals", Run(TOOL, form, "--columns", DECIMALS, input=MANY).out.split("\n").count(wanted), 32)
+for data, places, wanted in [(EIGHT, "2", 0.13), (MANY, "4", 0.0313), (MANY, "5", 0.03125), (MANY, "1", 0.0), (of(*"ABCDEF"), "30", 1 / 6), (of(*"ABCDEF"), "6", 0.166667)]:
+    members = json.loads(Run(TOOL, "json", "--decimals", places, input=data).out)["members"]
+    same(f"json: {places} decimals of {len(members)} members", {(it["deegan_packel"], it["public_good"]) for it in members}, {(wanted, wanted)})
+    same("json: fractions stay as they are", {(*it["deegan_packel_exact"], *it["public_good_exact"]) for it in members}, {(1, len(members)) * 2})
+same("json: both indices rounded", [(it["deegan_packel"], it["public_good"]) for it in json.loads(Run(TOOL, "json", "--decimals", "1", input=TWO).out)["members"]],
+     [(0.4, 0.4), (0.3, 0.2), (0.2, 0.2), (0.2, 0.2)])
+# 1/128 and 127/128, with six decimals; the others are cut off
+shares = report(write_game("AB", [128], [[1], [127]]))
+same("csv: a share of which the sixth decimal ends in a half", Run(TOOL, "csv", "--columns", "share", input=shares).out, "share\n0.007813\n0.992188\n")
+same("csv: two rules and decimals with a comma", Run(TOOL, "csv", "--columns", "share,name,public_good,deegan_packel", "--decimals", "1", "--decimal", ",", input=TWO).out.split("\n"), [
+    "share_1;share_2;name;public_good;deegan_packel", '0,4;0,3;"A";0,4;0,4', '0,3;0,3;"B";0,2;0,3', '0,1;0,3;"C";0,2;0,2', '0,1;0,3;"D";0,2;0,2', ""])
+same("csv: three rules", Run(TOOL, "csv", "--columns", "weight,share", input=stored("eu-27-nice")).out.split("\n")[:2],
+     ["weight_1,weight_2,weight_3,share_1,share_2,share_3", "29,170,1,0.084058,0.170000,0.037037"])
+same("markdown: two rules and one decimal", Run(TOOL, "markdown", "--columns", "share,weight,coalitions", "--decimals", "1", input=TWO).out.split("\n")[:3], [
+    "| Share, rule 1 | Share, rule 2 | Weight, rule 1 | Weight, rule 2 | Coalitions |", "| --: | --: | --: | --: | --: |", "| 0.4 | 0.3 | 3,000 | 1 | 2 |"])
+same("csv: a column twice, and the mark with a comma", Run(TOOL, "csv", "--columns", "name,weight,name", "--mark", "--decimal", ",", input=of("a.b", weight=1000)).out,
+     '\ufeffname;weight;name\n"a.b";1000;"a.b"\n')
+same("csv: what is no formula, and a formula behind a wide blank", Run(TOOL, "csv", "--columns", "name", input=of("a=1", "\u2003=1", "\u00a0 @", "'=")).out,
+     "name\n\"a=1\"\n\"'\u2003=1\"\n\"'\u00a0 @\"\n\"'=\"\n")
+for weight, wanted in [(999, "999"), (1000, "1,000"), (10**12, "1,000,000,000,000")]:
+    for form in "markdown", "latex":
+        line = Run(TOOL, form, "--columns", "weight", input=of("A", weight=weight)).out.split("\n")[2 if form == "markdown" else 5]
+        same(f"{form}: a weight of {weight}", line.strip("| \\"), wanted)
+
+# ---- options of another format change nothing, and stand where they like
+for form, words in [("json", ["--columns", "weight", "--mark", "--decimal", ","]), ("latex", ["--mark", "--decimal", ","]), ("markdown", ["--mark", "--decimal", ","])]:
+    same(f"{form}: what is for csv", Run(TOOL, form, *words, input=TWO).out, Run(TOOL, form, input=TWO).out)
+for form in FORMATS:
+    wanted = Run(TOOL, form, "--decimals", "3", input=HARD)
+    case(f"{form}: a report", (wanted.status, wanted.err) == (0, "") and wanted.out.endswith("\n") and not wanted.out.endswith("\n\n"), wanted.err)
+    for words in [[form, f"{TEMP}/report.tsv", "--decimals", "3"], ["--decimals=3", form, "--", f"{TEMP}/report.tsv"]]:
+        same(f"{form}: {words[-1] if words[-1] == '3' else 'first'} decimals", Run(TOOL, *words).out, wanted.out)
+    same(f"{form}: a report with other ends of lines", Run(TOOL, form, "--decimals", "3", input=HARD.replace("\n", "\r\n")).out, wanted.out)
+    same(f"{form}: a report of which the last line has no end", Run(TOOL, form, "--decimals", "3", input=HARD[:-1]).out, wanted.out)
+    listed = TWO.replace("minimal", "notation\t[5; 1]\nsize\t2\t1\t1\t1\t0\t0\nminimal")
+    same(f"{form}: lines that no format has", Run(TOOL, form, input=listed).out, Run(TOOL, form, input=TWO).out)
+same("json: a title of a blank", json.loads(Run(TOOL, "json", input=of("A", title=" ")).out)["title"], " ")
+same("json: a part of the coalitions", json.loads(Run(TOOL, "json", input=TWO.replace("coalition\t2\t5000/2\tA\tB\n", "")).out)["coalitions"], [{"members": list("ACD"), "weights": [5000, 3]}])
+
 # ---- markdown
 run = Run(TOOL, "markdown", input=SEVERAL)
 lines = run.out.split("\n")[:-1]
@@ -159,6 +207,7 @@ NAMES = [
     ("&%$#_{}", r"\&\%\$\#\_\{\}"),
     ('"a" [b]*', r"{\char34}a{\char34} {[}b{]}{*}"),
     (" a  b", r"\ a \ b"),
+    ("  a   b ", r"\ \ a \ \ b\ "),
     ("c ", "c\\ "),
     ("-- '' `` ,, ?` !` ?! !? d-", "-{}- '{}' `{}` ,{}, ?{}` !{}` ?{}! !{}? d-"),
     ("e\u0301\u0180\u0142\x9f\xa0\u017f\u0180", "é\u0180\u0142\x9f\xa0\u017f\u0180"),
@@ -168,6 +217,7 @@ NUMBERS = [f"\\ifcsname u8:\\detokenize{{{it}}}\\endcsname\\else\\expandafter\\d
            for it, number in [("\x80", "0080"), ("\x9f", "009F"), ("\u0180", "0180"), ("\u4e2d", "4E2D"), ("\U0001f600", "1F600")]]
 same("latex: names, letter by letter", Run(TOOL, "latex", "--columns", "name", input=of(*(it for it, _ in NAMES))).out.split("\n"), [
     PACKAGES, *NUMBERS, "\\begin{tabular}{l}", "\\toprule", "Member \\\\", "\\midrule", *(f"{it} \\\\" for _, it in NAMES), "\\bottomrule", "\\end{tabular}", ""])
+case("latex: an accent at the beginning of a name", "{[U+0301]}" in Run(TOOL, "latex", input=of("e", "\u0301x")).out)
 names = "latex: pdflatex prints hostile names", "latex: several rules and fractions"
 if needs("pdflatex", *names):
     hard = Run(TOOL, "latex", input=HARD).out
@@ -199,6 +249,7 @@ for option, value in [("--decimals", "0"), ("--decimals", "31"), ("--decimal", "
     case(f"export: {option} {value} is refused", (run.status, run.out) == (2, "") and re.fullmatch(rf"council-tools export: argument {option}: invalid choice: '?{value}'? \(.*\(--help says more\)\n", run.err), run.err)
 fault("export: no option is cut short", Run(TOOL, "csv", "--col=name"), 2, "unrecognized arguments: --col=name (--help says more)")
 
+WHOLE = "the report is not whole, or its numbers are not those of council"
 # ---- faults
 for name, words, data, status, text in [
     ("another format", ["xml"], HARD, 2, '"xml" is no format: csv, json, latex or markdown'),
@@ -213,6 +264,33 @@ for name, words, data, status, text in [
     ("a changed number", ["json"], stored("eec-1958").replace("5/24\t0.208333", "1/4\t0.250000"), 1, "the report is not whole, or its numbers are not those of council"),
     ("a changed fraction", ["json"], stored("eec-1958").replace("5/24", "1/4"), 1, "line 6 is no line of a report of council"),
     ("a bottom of 0", ["json"], stored("eec-1958").replace("5/24", "5/0"), 1, "line 6 is no line of a report of council"),
+    ("an empty format", [""], HARD, 2, "say a format: csv, json, latex or markdown"),
+    ("a format in large letters", ["CSV"], HARD, 2, '"CSV" is no format: csv, json, latex or markdown'),
+    ("a format with a quote", ['a"\u202e'], HARD, 2, '"a\\"\\u202E" is no format: csv, json, latex or markdown'),
+    ("a column with a quote, for json", ["json", "--columns", 'a"'], "", 2,
+     '"a\\"" is no column: name, weight, share, coalitions, deegan_packel, public_good, deegan_packel_exact, public_good_exact'),
+    ("the first of two columns, with a blank", ["latex", "--columns", "name, weight,power"], "", 2,
+     '" weight" is no column: name, weight, share, coalitions, deegan_packel, public_good, deegan_packel_exact, public_good_exact'),
+    ("members alone", ["csv"], TWO[TWO.index("member\t") :], 1, WHOLE),
+    ("a title alone", ["json"], "title\tA\n", 1, WHOLE),
+    ("a list whose report is not whole", ["json"], TWO[: TWO.index("member\t")], 1, WHOLE),
+    ("a list without its last member", ["json"], TWO[: TWO.rindex("member\t")], 1, WHOLE),
+    *((f"no line {it}", ["csv"], re.sub(rf"{it}\t.*\n", "", TWO), 1, WHOLE) for it in ("members", "quota", "total", "minimal")),
+    *((f"{new!r} for {old!r}", [form], TWO.replace(old, new), 1, WHOLE) for form, old, new in [
+        ("csv", "members\t4", "members\t5"), ("csv", "members\t4", "members\t3"), ("csv", "members\t4", "members\t+4"), ("csv", "members\t4", "members\t\u0664"),
+        ("json", "minimal\t2", "minimal\t1"), ("csv", "minimal\t2", "minimal\t1"), ("csv", "minimal\t2", "minimal\t\u00b2"), ("csv", "minimal\t2", "minimal\t-2"),
+        ("csv", "quota\t5000/2", "quota\t5000"), ("csv", "quota\t5000/2", "quota\t5000/"), ("csv", "quota\t5000/2", "quota\t5_000/2"), ("csv", "quota\t5000/2", "quota\t5000/2/1"),
+        ("csv", "total\t7000/4", "total\t7001/4"), ("csv", "total\t7000/4", "total\t7000/3"), ("csv", "total\t7000/4", "total\t7000"), ("csv", "total\t7000/4", "total\t 7000/4"),
+        ("csv", "D\t1000/1", "D\t1000"), ("csv", "D\t1000/1", "D\t1000/1/1"), ("csv", "D\t1000/1", "D\t1000/2"),
+        ("csv", "C\t1000/1\t1\t1/6\t0.166666", "C\t1000/1\t1\t1/7\t0.142857"), ("csv", "1/4\t0.250000\t1/5\t0.200000", "1/4\t0.250000\t1/4\t0.250000")]),
+    ("a rule whose total is 0", ["csv"], "members\t1\nquota\t1/0\ntotal\t1/0\nminimal\t1\nmember\tA\t1/0\t1\t1/1\t1.000000\t1/1\t1.000000\n", 1, WHOLE),
+    ("a report of lines that nobody reads", ["csv"], "notation\t[1; 1]\nsize\t1\t1\t1\n", 1, "there is no report: nothing was read (was the game refused?)"),
+    *((f"{new!r} for {old!r}", [form], TWO.replace(old, new, 1), 1, f"line {at} is no line of a report of council") for form, at, old, new in [
+        ("csv", 1, "title\t", "title\t\t"), ("csv", 1, "title\t", "title "), ("csv", 1, "title\t", "\n"), ("csv", 5, "minimal\t2", "minimal\t2\t2"), ("csv", 5, "minimal", "MINIMAL"),
+        ("json", 6, "coalition\t2", "coalition\t3"), ("csv", 7, "coalition\t3", "coalition\t2"), ("csv", 6, "coalition\t2", "coalition\tx"), ("csv", 7, "5000/3", "5000/x"), ("json", 7, "5000/3\tA\tC\tD", ""),
+        ("csv", 8, "\t2\t5/12", "\t2.0\t5/12"), ("csv", 8, "\t2\t5/12", "\t5/12"), ("csv", 8, "5/12", "5/12/1"), ("csv", 8, "5/12", "5"), ("csv", 8, "5/12", "-5/12"), ("csv", 8, "5/12", "1/12"),
+        ("csv", 8, "0.416666", "0.416667"), ("csv", 8, "0.416666", ".416666"), ("csv", 8, "0.400000", "0.400001"), ("csv", 8, "0.400000", "0.4"), ("csv", 8, "2/5", "2/0"),
+        ("csv", 8, "0.400000", "0.400000\t"), ("csv", 8, "3000/1", "3000,1"), ("csv", 11, "member\tD\t1000", "member\tD\t\uff11000")]),
     ("bytes that are no text", ["csv"], b"title\t\xff\n", 1, "what was read is not UTF-8"),
 ]:
     fault(f"council-tools export refuses {name}", Run(TOOL, *words, input=data), status, text)

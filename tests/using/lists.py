@@ -5,16 +5,18 @@ and what all tools share.
     tests/using/lists.py PROGRAM
 """
 import contextlib
+import gc
 import io
 import json
 import os
 import subprocess
 import sys
+from fractions import Fraction
 
 from cases import HOSTILE, PROGRAM, TEMP, TOOLS, TOP, Run, case, done, fault, hostile_game, report, same
 from council.engine import NotFound, Refused
 from council.game import write_game
-from council.reports import Fault, Report
+from council.reports import Fault, Report, cut_off, round_half_up, write_fraction
 from council.tools import command, main, table
 
 # the megabytes that each may take: twice what a short report takes, and less than the list would
@@ -58,6 +60,89 @@ same("council-tools table: two rules", run.out.split("\n"), [" " * 40 + "  weigh
     f"{name:40}  {weight}/1  {dp:>13}  {pg:>11}" for name, weight, dp, pg in [("A", 3000, "5/12", "2/5"), ("B" * 40, 2000, "1/4", "1/5"), ("C", 1000, "1/6", "1/5"), ("D", 1000, "1/6", "1/5")]), ""])
 told = Run("table", "--help").out
 case("council-tools table: --help", told.startswith("usage: council-tools table [-h] [REPORT]\n\nPrints a table") and "REPORT a report of council; without one, or as -, standard input" in " ".join(told.split()), told)
+
+
+
+def table_of(names, weights, fractions, quota, total, title=""):
+    """Returns a report of these fractions, and the table of it."""
+    lines = [f"title\t{title}"] * bool(title) + [f"members\t{len(names)}", f"quota\t{quota}", f"total\t{total}", "minimal\t1"]
+    for name, weight, (dp, pg) in zip(names, weights, fractions):
+        lines.append("\t".join(["member", name, weight, "1", dp, cut_off(Fraction(dp)), pg, cut_off(Fraction(pg))]))
+    return Run("table", input="\n".join(lines) + "\n").out.split("\n")
+
+
+# columns that are wider than their headings, by the first row or by the last
+same("council-tools table: wide weights and fractions", table_of(["\u00c9", "B"], ["1000000000000/1", "2/30"], [("1/1000000000", "999999999/1000000000"), ("999999999/1000000000", "1/1000000000")], "3/4", "1000000000002/31", "T"), [
+    "            weight         Deegan-Packel           public good",
+    "\u00c9  1000000000000/1          1/1000000000  999999999/1000000000",
+    "B             2/30  999999999/1000000000          1/1000000000", ""])
+same("council-tools table: narrow columns", table_of("A", ["7"], [("1/1", "1/1")], "7", "7"), ["   weight  Deegan-Packel  public good", "A       7            1/1          1/1", ""])
+same("council-tools table: an index in lowest terms, and none", table_of(["a\u0085b", "  c", "\U0001f600"], ["0", "3", "1"], [("2/4", "0/3"), ("0/7", "6/8"), ("3/6", "1/4")], "4", "4"), [
+    "     weight  Deegan-Packel  public good",
+    "a b       0            1/2          0/1",
+    "  c       3            0/1          3/4",
+    "\U0001f600         1            1/2          1/4", ""])
+fault("council-tools table: no option", Run("table", "--decimals=2"), 2, "unrecognized arguments: --decimals=2 (--help says more)")
+fault("council-tools table: one report", Run("table", "-", "-"), 2, "unrecognized arguments: - (--help says more)")
+with open(f"{TEMP}/half.tsv", "w", encoding="utf-8") as it:
+    it.write("members\t1\n")
+fault("council-tools table: a fault in a file", Run("table", f"{TEMP}/half.tsv"), 1, f"{TEMP}/half.tsv: the report is not whole, or its numbers are not those of council")
+
+# ---- what a report is made of
+for value, places, down, half in [
+    ("0", 6, "0.000000", "0.000000"), ("1", 6, "1.000000", "1.000000"), ("2/3", 6, "0.666666", "0.666667"), ("1/128", 6, "0.007812", "0.007813"), ("1/20", 1, "0.0", "0.1"),
+    ("1/8", 2, "0.12", "0.13"), ("3/8", 2, "0.37", "0.38"), ("5/2", 0, "2", "3"), ("1/2", 0, "0", "1"), ("49/100", 0, "0", "0"), ("0", 0, "0", "0"), ("999/1000", 2, "0.99", "1.00"),
+    ("12345/10", 1, "1234.5", "1234.5"), ("99999/10", 0, "9999", "10000"), ("1/3", 30, "0." + "3" * 30, "0." + "3" * 30), ("2/3", 30, "0." + "6" * 30, "0." + "6" * 29 + "7"), ("1/1000000", 6, "0.000001", "0.000001"),
+    ("1/2000001", 6, "0.000000", "0.000000"), ("1/2000000", 6, "0.000000", "0.000001"), ("1/20000", 4, "0.0000", "0.0001"),
+]:
+    same(f"{value} with {places} decimals", (cut_off(Fraction(value), places), round_half_up(Fraction(value), places)), (down, half))
+same("a fraction", [write_fraction(Fraction(it)) for it in ("0", "1", "6/8", "12/5")], ["0/1", "1/1", "3/4", "12/5"])
+same("six decimals", cut_off(Fraction(5, 7)), "0.714285")
+TWO = report(write_game("ABCD", [5000, 2], [[3000, 1], [2000, 1], [1000, 1], [1000, 1]], "T"), "--list")
+whole, taken = Report(TWO.split("\n")[:-1]), []
+fed = Report(io.StringIO(TWO), taken.append)
+MEMBERS = [
+    ("A", (3000, 1), 2, 5 / 12, 2 / 5, Fraction(5, 12), Fraction(2, 5)), ("B", (2000, 1), 1, 1 / 4, 1 / 5, Fraction(1, 4), Fraction(1, 5)),
+    *((it, (1000, 1), 1, 1 / 6, 1 / 5, Fraction(1, 6), Fraction(1, 5)) for it in "CD"),
+]
+COLUMNS = ["name", "weight_1", "weight_2", "coalitions", "deegan_packel", "public_good", "deegan_packel_exact", "public_good_exact"]
+LISTED = [(("A", "B"), (5000, 2)), (("A", "C", "D"), (5000, 3))]
+for name, it, kept in [("lines", whole, LISTED), ("lines with CR", Report(TWO.replace("\n", "\r\n").split("\n")[:-1]), LISTED), ("a text", Report.from_text(TWO), LISTED), ("lines, one coalition after the other", fed, None)]:
+    same(f"{name}: the report", (it.title, it.quotas, it.totals, it.minimal, it.listed), ("T", (5000, 2), (7000, 4), 2, 2))
+    same(f"{name}: the members", it.members, MEMBERS)
+    case(f"{name}: the same list each time", it.coalitions is it.coalitions and it.coalitions == kept, it.coalitions)
+    same(f"{name}: the rows", it.rows(), [dict(zip(COLUMNS, [row[0], *row[1], *row[2:]])) for row in MEMBERS])
+    same(f"{name}: the order of the columns", list(it.rows()[-1]), COLUMNS)
+    same(f"{name}: the shares", [it.share(row, rule) for row in it.members for rule in (0, 1)], [Fraction(3, 7), Fraction(1, 4), Fraction(2, 7), Fraction(1, 4), *[Fraction(1, 7), Fraction(1, 4)] * 2])
+    same(f"{name}: the share of a member", it.share(it.members[1]), Fraction(2, 7))
+    same(f"{name}: the report in a line", repr(it), "<council.Report 'T': 4 members, 2 minimal winning coalitions>")
+same("the coalitions, one after the other", taken, LISTED)
+case("the names of the fields", (whole.coalitions[1].members, whole.coalitions[1].weights, whole.members[3].deegan_packel, whole.members[3].public_good_exact) == (("A", "C", "D"), (5000, 3), 1 / 6, Fraction(1, 5)))
+one = report(write_game("AB", [9], [[8], [1]]))
+for it in Report(one.split("\n")[:-1]), Report.from_text(one):
+    same("a report without a title and a list", (it.title, it.heading(), it.coalitions, it.listed, [list(row.items())[:2] for row in it.rows()]), ("", "A game", None, 0, [[("name", "A"), ("weight", 8)], [("name", "B"), ("weight", 1)]]))
+for title, heading in [(" ", "A game"), (" T ", " T "), ("0", "0"), ("\u3000", "A game"), ("A\u00a0", "A\u00a0")]:
+    same(f"the heading of the title {title!r}", Report(report(write_game("A", [1], [[1]], title)).split("\n")[:-1]).heading(), heading)
+# a list in a text is whole or none, and its lines are read when somebody looks at them
+for name, old, new in [("the first", "coalition\t2\t5000/2\tA\tB\n", ""), ("the last", "coalition\t3\t5000/3\tA\tC\tD\n", ""), ("one too many", "coalition\t2", "coalition\t2\t5000/2\tA\tB\ncoalition\t2")]:
+    try:
+        text = str(Report.from_text(TWO.replace(old, new)))
+    except Fault as it:
+        text = (str(it), it.status)
+    same(f"a list without or with {name}", text, ("the report is not whole, or its numbers are not those of council", 1))
+for collects in True, False:
+    for old, new, wanted in [("", "", LISTED), ("coalition\t3", "coalition\t2", None), ("coalition\t3", "coalition\t4", None)]:
+        (gc.enable if collects else gc.disable)()
+        it = Report.from_text(TWO.replace(old, new))
+        try:
+            found = it.coalitions
+        except Fault:
+            found = None
+        same(f"a list that is read{' with' if collects else ' without'} a collector", (found, gc.isenabled()), (wanted, collects))
+gc.enable()
+it = Report.from_text(TWO)
+case("coalitions share the texts of the names", all(name is it.members["ABCD".index(name)].name for coalition in it.coalitions for name in coalition.members))
+same("a fault", [(str(it), it.status) for it in (Fault("a"), Fault("b", 2), Fault("c", status=5))], [("a", 1), ("b", 2), ("c", 5)])
 
 # ---- no name moves a terminal
 run = Run("table", input=report(hostile_game()))

@@ -126,7 +126,7 @@ def write_latex(report: Report, columns: Sequence[Column], places: Optional[int]
     if report.title:
         yield f"% {report.title}"
     yield "% \\usepackage{booktabs}, and \\usepackage[T1]{fontenc} for letters with accents"
-    for letter in sorted(set(unicodedata.normalize("NFC", "".join(it.name for it in report.members)))):
+    for letter in sorted(set("".join(unicodedata.normalize("NFC", it.name) for it in report.members))):
         if letter > "\u017f" or "\x7f" < letter < "\xa0":
             # where this TeX has no such letter, its number
             name = f"u8:\\detokenize{{{letter}}}\\endcsname"
