@@ -185,7 +185,7 @@ class Reports(unittest.TestCase):
             self.assertEqual(find_refusal(51, [50, kind("16.5")]).explanation, bad.explanation)
         for words, fault in [
             ((200, [50, 49]), "quota out of range"), ((0.85, [1]), "bad quota"), ((1, [1] * (game.MEMBERS + 1)), "bad member list"), ((1, []), "bad member list"),
-            ((1, [-1, 2]), "bad weight of member 1"), ((1, [1, float("nan")]), "bad weight of member 2"), ((1, [float("inf")]), "bad weight of member 1"),
+            ((1, [50 + Fraction(1, 10**12)]), "bad weight of member 1"), ((1, [-1, 2]), "bad weight of member 1"), ((1, [1, float("nan")]), "bad weight of member 2"), ((1, [float("inf")]), "bad weight of member 1"),
             ((1, [game.WEIGHT + 1]), "bad weight of member 1"), ((10**30, [1]), "the game file is not TOML"), (([1] * (game.RULES + 1), [[1]] * (game.RULES + 1)), "bad rules"),
         ]:
             it = find_refusal(*words)
@@ -209,7 +209,7 @@ class Reports(unittest.TestCase):
         for words, more, text in [
             ((), {}, ways), ((51, [1]), {"file": "x"}, ways), ((51,), {"file": "x"}, ways), ((None, [1]), {"file": "x"}, ways), ((), {"file": "x", "game": "y"}, ways),
             ((51,), {}, parts), ((None, [1]), {}, parts), ((), {"game": "[1; 1]", "names": ["A"]}, belong), ((), {"game": "[1; 1]", "title": "T"}, belong), ((), {"file": "x", "names": []}, belong),
-            ((51, ["50"]), {}, "'50' is no number"), ((51, [None]), {}, "None is no number"), (("51", [50]), {}, "'5' is no number"),
+            ((51, ["50"]), {}, "'50' is no number"), ((51, [None]), {}, "None is no number"), ((51, [1j]), {}, "1j is no number"), (("51", [50]), {}, "'5' is no number"),
             ((51, [50]), {"names": [1.5]}, "1.5 is no name"), ((51, 50), {}, "'int' object is not iterable"),
         ]:
             with self.assertRaises(TypeError, msg=(words, more)) as caught:
@@ -217,7 +217,7 @@ class Reports(unittest.TestCase):
             self.assertEqual(str(caught.exception), text)
         for words, more, text in [
             ((51, [50]), {"names": ["A", "B"]}, "there are 1 weights, and 2 names"), ((51, [50]), {"names": []}, "there are 1 weights, and 0 names"),
-            (([], []), {"names": ["A"]}, "there are 0 weights, and 1 names"), (([1, 2], [[1]]), {}, "there are 2 quotas, and 1 lists of weights"),
+            (([], []), {"names": ["A"]}, "there are 0 weights, and 1 names"), (([1, 3], [[2]]), {}, "there are 2 quotas, and 1 lists of weights"),
             (([1, 2], [[1], [1, 2]]), {}, "the lists of weights are not equally long"), (([1, 2], [[1, 2], [1]]), {}, "the lists of weights are not equally long"),
             ((1, [1]), {"most": 0}, "most is from 1 to 4,000,000"), ((1, [1]), {"most": 4_000_001}, "most is from 1 to 4,000,000"),
         ]:
@@ -423,7 +423,7 @@ class Engines(unittest.TestCase):
                 if line != 0:
                     explained = program == real and status != 1
                     self.assertEqual((it.fault, it.status, bool(it.explanation), it.line), (text, status, explained, line if explained else None))
-        self.assertEqual([council.Refused(3, "bad", it).line for it in ("line 3, column 15: x", "line 12: x", "the line 1: x")], [3, 12, None])
+        self.assertEqual([council.Refused(3, "bad", it).line for it in ("line 3, column 15: x", "line 12: x", "the line 1: x", "line 1 of a game", "")], [3, 12, None, None, None])
         self.assertEqual((str(council.Refused(3, "bad")), str(council.Refused(3, "bad", "a\nb"))), ("bad", "bad\na\nb"))
 
     def test_what_the_program_answers(self):
@@ -483,7 +483,7 @@ class Engines(unittest.TestCase):
             (["bin/council", "home/bin/council-"], None, {}, "TOP/bin/council"), (["bin/council", "home/bin/council/x"], None, {}, "TOP/bin/council"),
             (["bin/council", "home/council", "home/PROVED"], None, {}, "TOP/home/council"), (["bin/council", "home/council"], None, {}, "TOP/bin/council"),
             (["bin/council", "home/council", "home/PROVED", "home/tools/built.sh"], None, {}, "TOP/bin/council"),
-            ([*script, built], None, {"clone": True}, f"TOP/{built}"), (["bin/council", *script, built], None, {"clone": True}, f"TOP/{built}"), (["bin/council", *script], None, {"clone": True}, "TOP/bin/council"),
+            ([*script, built], None, {"clone": True}, f"TOP/{built}"), (["bin/council", *script, built], None, {"clone": True}, f"TOP/{built}"), (["bin/council", *script], None, {"clone": True}, "TOP/bin/council"), (["bin/council", *script, built + "-"], None, {"clone": True}, "TOP/bin/council"),
             (script, None, {"clone": True}, never), (["other/council", "other/tools/built.sh", f"other{built[5:]}", *script], None, {"clone": True, "launcher": "other"}, f"TOP/other{built[5:]}"),
         ]:
             with self.subTest(files=files, named=named, more=more), self.laid_out(files, **more) as top:
@@ -496,7 +496,7 @@ class Engines(unittest.TestCase):
     def test_where_the_library_is(self):
         own, its = "home/bin/libcouncil.so", "home/lib/libcouncil.so"
         for files, more, wanted in [
-            ([], {}, None), ([own, its], {}, own), ([its], {}, its), ([own], {"COUNCIL_LIBRARY": ""}, None), ([own, "it"], {"COUNCIL_LIBRARY": "TOP/it"}, "it"),
+            ([], {}, None), ([own, its], {}, own), ([its], {}, its), ([own], {"COUNCIL_LIBRARY": ""}, None), ([own, "it"], {"COUNCIL_LIBRARY": "TOP/it"}, "it"), ([own], {"COUNCIL_LIBRARY": "TOP/bin/link"}, "clone/council"),
         ]:
             with self.subTest(files=files, more=more), self.laid_out(files, **more) as top:
                 # (it is no library, which is as if it were for another system)
@@ -504,6 +504,15 @@ class Engines(unittest.TestCase):
                     self.assertIsNone(find_library())
                 with mock.patch.object(engine, "load_library", lambda path: path):
                     self.assertEqual(find_library(), wanted and f"{top}/{wanted}")
+        # as council.h has it
+        with mock.patch("ctypes.CDLL") as load:
+            library = engine.Library("its path")
+        load.assert_called_once_with("its path")
+        self.assertEqual((library.path, library._call), ("its path", load.return_value.council_report))
+        words = [ctypes.c_char_p, ctypes.c_size_t, ctypes.POINTER(engine.Options), ctypes.c_char_p, ctypes.c_size_t, ctypes.POINTER(ctypes.c_uint64)]
+        self.assertEqual((library._call.restype, library._call.argtypes, ctypes.sizeof(engine.Options)), (ctypes.c_uint32, words, 8))
+        if Path(engine.__file__).resolve().parent == TOP / "python/src/council" and (TOP / "tools/built.sh").is_file():
+            self.assertEqual((engine.HOME, engine.CLONE), (str(TOP / "python/src/council"), str(TOP)))
         with tempfile.TemporaryDirectory() as folder, mock.patch.object(engine, "__file__", f"{folder}/a.pyz/council/engine.py"):
             self.assertEqual(engine.find_home(), os.path.realpath(folder))
 
@@ -528,12 +537,13 @@ class Parts(unittest.TestCase):
         self.check_rows(Unit("", True, 2).write, (1650, "16.50%"), (5, "0.05%"))
         self.check_rows(Unit(places=1).write, (12345678, "1,234,567.8"))
         self.check_rows(Unit().write, (1234567, "1,234,567"), (0, "0"))
+        self.check_rows(Unit("x", True, 3).write, (0, "0.000%"), (999, "0.999%"), (1000, "1.000%"), (1234567, "1,234.567%"))
         self.check_rows(Unit("", True, 2).is_share_of, (10000, True), (9999, False))
         self.check_rows(Unit("", True).is_share_of, (100, True))
         self.check_rows(Unit(places=2).is_share_of, (10000, False))
 
     def test_texts(self):
-        self.check_rows(game.quote, ('a"b\\c', '"a\\"b\\\\c"'), ("\x7f", '"\\u007F"'), ("\uffff", '"\\uFFFF"'), ("\U000e0001", '"\\U000E0001"'), ("\u4e2d \xe9", '"\u4e2d \xe9"'))
+        self.check_rows(game.quote, ('a"b\\c', '"a\\"b\\\\c"'), ("\x7f", '"\\u007F"'), ("\uffff", '"\\uFFFF"'), ("\U000e0001", '"\\U000E0001"'), ("\u4e2d \xe9", '"\u4e2d \xe9"'), ("a\nb\u009b", '"a\\u000Ab\\u009B"'))
         self.check_rows(
             game.unquote, ('a\\"\\\\', 'a"\\'), ("\\u4e2D", "\u4e2d"), ("\\U0001F600", "\U0001f600"), ("\\ud7ff\\ue000", "\ud7ff\ue000"), ("\\ud800\\uDFFF", "\ufffd\ufffd"),
             ("\\U0010ffff", "\U0010ffff"), ("\\U00110000", "\ufffd"),
@@ -541,6 +551,7 @@ class Parts(unittest.TestCase):
         self.check_rows(game.quote_for_shell, ("it's\\", "'it'\\''s\\'"), ("a\nb!'\\", "$'a\\012b\\041\\047\\134'"), ("\xe9\x7f\udcff", "$'\xe9\\177\\377'"))
         self.check_rows(
             game.is_text, ("x" * 64, 64, True), ("\xe9" * 32 + "x", 64, False), ("", 0, True), (" ", 1, True), ("a\x1f", 9, False), ("a\x7f", 9, False), ("a\n", 9, False), ("\x80", 9, True),
+            ("\ud800", 9, False), ("a\udfff", 9, False), ("\ud7ff\ue000", 6, True), ("\U0001f600", 3, False), ("\x7e\x1f", 9, False),
         )
 
     def test_game_files(self):
@@ -559,7 +570,8 @@ class Parts(unittest.TestCase):
             with self.assertRaises(Fault) as caught:
                 game.write_game(*words)
             self.assertEqual(str(caught.exception), text)
-        self.check_rows(game.find_comments, ("\n # a \n\n#b\nquota = 1\n# c\n", ["a", "b"]), ("", []))
+        self.check_rows(game.find_comments, ("\n # a \n\n#b\nquota = 1\n# c\n", ["a", "b"]), ("", []),
+            ("## a\r\n#\n#b #\r\n", ["# a", "", "b #"]), ("# a\u2028b\n#c", ["a\u2028b", "c"]), ("[1; 1]\n# c\n", []))
 
     def test_units(self):
         self.check_rows(
@@ -567,6 +579,9 @@ class Parts(unittest.TestCase):
         )
         for comments, units in [
             (['Rule 1: "a\\"b", percent, 2 decimals; column 3', "Rule 2: 1 decimal; x"], [('a"b', True, 2), ("", False, 1)]), (["Rule 2: percent", "Rule 3: percent"], [("", False, 0), ("", True, 0)]),
+            (['Rule 1: "a, b; c", 2 decimals; x', 'Rule 2: "\\\\", percent'], [("a, b; c", False, 2), ("\\", True, 0)]), (["Rule 1: percent", "Rule 1: 2 decimals"], [("", False, 2), ("", False, 0)]),
+            (['Rule 1: "", percent; "b"', "Rule 2: 2 decimals, percent"], [("", True, 0), ("", False, 0)]), ([" Rule 1: percent", "rule 2: percent"], [("", False, 0)] * 2),
+            (["Rule 1: 18 decimals", "Rule 2: 100 decimals"], [("", False, 18), ("", False, 0)]),
             (["Rule 1: 99 decimals", 'Rule 2: "b"'], [("", False, 18), ("b", False, 0)]), (["a comment", "Rule 1: 7 votes", "Rule 0: percent"], [("", False, 0)] * 2),
             (['Rule 1: "a" percent', "Rule 2: percent2 decimals"], [("", False, 0)] * 2), (["Rule 1: 10 decimals; x", 'Rule 2: "b"; percent'], [("", False, 10), ("b", False, 0)]),
         ]:
@@ -579,12 +594,14 @@ class Parts(unittest.TestCase):
         if sys.version_info < (3, 11):
             self.skipTest("this Python reads no TOML")
         one, two = (51, [50, 49, 1]), ([5, 3], [[3, 2, 2, 1], [1, 1, 1, 1]])
-        for it in (one, two):
+        for it in (one, two, ([1, 1], [[1], [1]])):
             game.check_same(council.format_game_file(*it), council.report(*it))
         report = council.report(*one)
         game.check_same(" [ 51; 50, 49, 1]", report)
+        lists = "quotas = [51]\nmember = [" + ", ".join(f'{{name = "{at}", weights = [{it}]}}' for at, it in enumerate(one[1], 1)) + "]\n"
+        game.check_same(lists, report)
         for text, fault in [
-            ("quota = ", "this is no game file"), ("quota = 51\n", "this is no game file"), ("quota = 51\nmember = [1]\n", "this is no game file"), (council.format_game_file(52, one[1]), "this is not the game of the report"),
+            ("quota = ", "this is no game file"), ("quota = 51\n", "this is no game file"), ("[x]\n", "this is no game file"), (lists.replace("[1]", "[2]"), "this is not the game of the report"), ("quota = 51\nmember = [1]\n", "this is no game file"), (council.format_game_file(52, one[1]), "this is not the game of the report"),
             (council.format_game_file(51, [50, 48, 2]), "this is not the game of the report"), (council.format_game_file(*one, names="ABC"), "this is not the game of the report"),
         ]:
             with self.assertRaises(Fault, msg=text) as caught:

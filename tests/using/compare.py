@@ -64,7 +64,7 @@ same("council-tools compare: letters of any width, members that are not in all",
     "中Ｘ   1,000/1  0.166666  0.200000        1  0.333333  0.333333   +0.166667  +0.133333        -         -         -           -          -",
     "D      1,000/1  0.166666  0.200000        -         -         -           -          -        -         -         -           -          -",
     "x            -         -         -        1  0.333333  0.333333           -          -        -         -         -           -          -", ""]))
-for value, wanted in [(Fraction(0), "0.000000"), (Fraction(-1, 3 * 10**6), "0.000000"), (Fraction(1, 2 * 10**6), "+0.000001"), (Fraction(-1), "-1.000000")]:
+for value, wanted in [(Fraction(0), "0.000000"), (Fraction(-1, 3 * 10**6), "0.000000"), (Fraction(1, 2 * 10**6), "+0.000001"), (Fraction(-1), "-1.000000"), (Fraction(-1, 2 * 10**6), "-0.000001")]:
     same(f"council-tools compare: a difference of {value}", write_signed(value), wanted)
 
 # ---- names that look like one
@@ -73,11 +73,17 @@ run = Run(TOOL, old, new)
 told = [f'{one} of report 1 and {other} of report 2' for one, other in [('"Czech Republic"', '"Czechia"'), ('"Germany (West)"', '"Germany"'), ('"Türkiye"', '"turkiye"')]]
 case("council-tools compare: names that look like one are told", run.status == 0 and [it.split(" may be")[0][len("council-tools compare: ") :] for it in run.err.split("\n")[:-1]] == told, run.err)
 run = Run(TOOL, old, new, "--same", "Czechia", "Czech Republic", "--same", "Germany", "Germany (West)", "--same", "Türkiye", "turkiye")
+same("council-tools compare: options between the reports", Run(TOOL, old, "--same", "Czechia", "Czech Republic", new).err.count(" may be "), 2)
 row = next(it.split() for it in run.out.split("\n") if it.startswith("Czechia"))
 case("council-tools compare: --same makes them one", run.err == "" and row[1:] == ["1", "0.250000", "0.250000", "1", "0.200000", "0.200000", "-0.050000", "-0.050000"], (run.err, row))
 for name, one, other, wanted in [
     ("accents, capitals and signs", "Côte d’Ivoire", "COTE D'IVOIRE", True),
     ("two accents in three letters", "éáb", "eab", True),
+    ("a sharp s", "Weißig", "WEISSIG", True),
+    ("wide letters", "ＡＢＣＤ", "abcd", True),
+    ("a figure that differs", "Party 1", "Party 2", True),
+    ("a second word of five letters that grows", "Uv abcde xyz", "Mn abcdefgh op", False),
+    ("other first words", "Abcde uvwxyz", "Mnopq abcde", False),
     ("only signs", "--", "++", True),
     ("signs and letters", "--", "Abcd", False),
     ("a beginning of four letters", "Abcd efghijk", "Abcd", True),
@@ -146,12 +152,15 @@ same("council-tools compare: as wide as the last member", Run(TOOL, last, last, 
     "A               1  0.500000  0.500000        1  0.500000  0.500000   0.000000  0.000000",
     "The last    2,000  0.500000  0.500000    2,000  0.500000  0.500000   0.000000  0.000000", ""])
 
+same("council-tools compare: files that begin with a BOM", Run(TOOL, put("bom", "\ufeff" + report("[1; 1]")), first).out.split("\n")[0], "1  A game: 1 of 1, minimal winning coalitions: 1")
+
 # ---- what is refused
 for name, words, text in [
     ("one report", [hard], "name two reports or more"),
     ("standard input twice", ["-", "-"], "name two reports or more"),
     ("two names of one report as one", [old, new, "--same", "Iceland", "Türkiye"], "--same 'Iceland' 'Türkiye': one report has both"),
     ("names that nobody has", [old, new, "--same", "a\nb", "c"], "--same $'a\\012b' 'c': no report has one of them"),
+    ("half of an option", ["--sam", old, new], "unrecognized arguments: --sam (--help says more)"),
     ("no report", [], "the following arguments are required: REPORT (--help says more)"),
 ]:
     fault(f"council-tools compare refuses {name}", Run(TOOL, *words), 2, text)
@@ -172,6 +181,6 @@ fault("council-tools compare refuses a file that is not there", Run(TOOL, hard, 
 wanted = Run(TOOL, old, new).out
 for error in ["&-"] + ["/dev/full"] * os.path.exists("/dev/full"):
     words = ["bash", "-c", f'exec "$@" 2>{error}', "bash", sys.executable, TOOLS, TOOL, old, new]
-    ran = subprocess.run(words, capture_output=True, check=False)
+    ran = subprocess.run(words, capture_output=True, check=False, env={**os.environ, "PYTHONUNBUFFERED": ""})
     same(f"council-tools compare: standard error to {error}", (ran.returncode, ran.stdout.decode()), (0, wanted))
 done()

@@ -165,7 +165,20 @@ same("council-tools page: its head, and only its own script may run", whole.out.
     f"<meta http-equiv=\"Content-Security-Policy\" content=\"default-src 'none'; style-src 'unsafe-inline'; script-src 'sha256-{hashed}'\">",
     "<title>A &amp; B: power indices</title>"])
 colors = re.findall(r"--(s[0-3]|dp|pg): (#[0-9a-f]{6});", whole.out)
-same("council-tools page: a color for each bar, in light and dark", ([it for it, _ in colors], len({it for _, it in colors})), (["s0", "s1", "s2", "s3", "dp", "pg"] * 2, 12))
+same("council-tools page: a color for each bar", [it for it, _ in colors], ["s0", "s1", "s2", "s3", "dp", "pg"] * 2)
+grounds = ["--ground: #fff; --ink: #1c1c1c; --soft: #5f6368; --line: #d8d8d8;", "--ground: #16181b; --ink: #e6e6e6; --soft: #a2a7ad; --line: #3a3e44;"]
+same("council-tools page: its grounds", re.findall(r"(?:scheme: )?(?:dark\) \{ )?:root \{ .*?(?= --s0)", whole.out), [f":root {{ color-scheme: light dark; {grounds[0]}", f"scheme: dark) {{ :root {{ {grounds[1]}"])
+same("council-tools page: in light and dark", [it for _, it in colors], [
+    "#858585", "#3f8f5b", "#8a66b5", "#9a8219", "#33557f", "#c06a2b", "#92979e", "#62b37e", "#b094dc", "#d0b84a", "#6f9fe0", "#ee9a57"])
+
+# ---- a half is rounded upwards, in each column and at each bar: 1/128 is 0.0078125
+run = Run(TOOL, input="members\t2\nquota\t31\ntotal\t32\nminimal\t2\nmember\tA\t1\t1\t1/128\t0.007812\t5/128\t0.039062\nmember\tB\t31\t2\t127/128\t0.992187\t123/128\t0.960937\n")
+same("council-tools page: a half in a column", [re.findall(r">(\d\.\d+)</td>", it) for it in run.out.split("<tr>")[2:]], [["0.007813", "0.039063", "0.0313"], ["0.992188", "0.960938", "0.9688"]])
+same("council-tools page: a half at a bar", re.findall(r'"value">(.*?)<', run.out), ["0.0313", "0.0078", "0.0391", "0.9688", "0.9922", "0.9609"])
+same("council-tools page: each bar beside the longest", re.findall(r"\* (\d\.\d+)\)", run.out), ["0.0315", "0.0079", "0.0394", "0.9764", "1.0000", "0.9685"])
+# a sharp s is as two letters s
+names = ["ß", "st", "T"]
+same("council-tools page: names in the order of their letters", re.findall(r'<td data-key="(\d)"><bdi>', Run(TOOL, input=report(write_game(names, [3], [[1]] * 3))).out), ["0", "1", "2"])
 
 # ---- lists of up to 100 coalitions are open, and of 1,000 whole
 for number, wanted in [(100, "<h2>Minimal winning coalitions</h2>\n<details open><summary>100 c"), (101, "<h2>Minimal winning coalitions</h2>\n<details><summary>101 c"),
@@ -254,6 +267,28 @@ same("council-tools page: of two games in their order", re.findall(r"the quota (
 for rule, quotas in [(1, [1, 2]), (2, [2, 1])]:
     run = Run(TOOL, input=report(write_game("AB", quotas, [[1, 1], [1, 1]])))
     case(f"council-tools page: the quota of rule {rule} of two is at most half", "At most half" not in run.out and run.err == f"council-tools page: the quota 1 of rule {rule} is at most half of the total, 2\n", run.err)
+# each report has its own coalitions, and its own game file
+first, second = (put(f"{name}.toml", write_game(name, [1], [[1]], "", [f"About {name}", f'Rule 1: "votes of {name}"'])) for name in "KL")
+lists = [put(f"{name}.tsv", report(open(f"{TEMP}/{name}.toml").read(), "--list")) for name in "KL"]
+run = Run(TOOL, "--game", first, "--game", second, "--source", "S", *lists)
+same("council-tools page: two reports and their game files", (run.status, [re.findall(r"<li>(<bdi>.*?) <|<p>(About .*?)<|under|least (.*?)\. M|data: (.*?)<", it) for it in run.out.split("<section")[1:]]), (0, [
+    [("", "", f"1 of 1 (100%) (<bdi>votes of {it}</bdi>)", ""), ("", "", "", "S"), (f"<bdi>{it}</bdi>", "", "", ""), ("", f"About {it}", "", "")] for it in "KL"]))
+fault("council-tools page: two game files in another order", Run(TOOL, "--game", second, "--game", first, *lists), 1, f"{second}: this is not the game of the report")
+lines = ["From a table of 3 rows", "one", "Left out: 2", "Added: 3", "rule 4: 4", "Rule 5: two", "A Source: three", "Source: 5", "Source four", "Rule 1 five", "Left out of it", "Added value", "From a table", "LEFT OUT: 6"]
+text = write_game("A", [1], [[1]], " ", lines)
+run = Run(TOOL, "--game", put("lines.toml", "\ufeff" + text), "--source", "", put("lines.tsv", "\ufeff" + report(text)))
+found = Page(run.out)
+same("council-tools page: what is in the list of comments", [it for it in found.texts["li"] if it in lines], [it for it in lines if it[-1].isdigit() or it[-4:] == "rows"])
+case("council-tools page: what is not", "<p>one Rule 5: two A Source: three Source four Rule 1 five Left out of it Added value From a table</p>" in run.out, run.err)
+case("council-tools page: an empty --source", "Source of the data: 5</p>" in run.out)
+same("council-tools page: a title of blanks, which its game file keeps", (found.texts["h1"], found.texts["pre"][0]), (["A game"], text))
+text = write_game("123", [5], [[4], [4], [2]], "", ["seen"])
+run = Run(TOOL, "--game", "-", low, input="\ufeff" + text)
+same("council-tools page: --game from standard input", (run.status, Page(run.out).texts["pre"]), (0, [text]))
+fault("council-tools page: another game from standard input", Run(TOOL, "--game", "-", low, input="quota = 1\n" + text.split("\n", 2)[2]), 1, "this is not the game of the report")
+fault("council-tools page: a game file that is not UTF-8", Run(TOOL, "--game", "-", low, input=b"#\xff"), 1, "what was read is not UTF-8")
+fault("council-tools page: a report that is not UTF-8", Run(TOOL, input=b"title\t\xff\n"), 1, "what was read is not UTF-8")
+fault("council-tools page: half of an option", Run(TOOL, "--sour", "x", low), 2, "unrecognized arguments: --sour (--help says more)")
 fault("council-tools page: --game of another game", Run(TOOL, "--game", path, low), 1, f"{path}: this is not the game of the report")
 fault("council-tools page: --game for one of two", Run(TOOL, "--game", path, low, low), 2, "give --game once for each report: there are 2 reports, and 1 game files")
 long = put("long.toml", "#" * 65537)

@@ -4,6 +4,7 @@
     tests/using/council-tools sweep PROGRAM
 """
 import argparse
+import contextlib
 import io
 import os
 import pty
@@ -14,8 +15,9 @@ import time
 from fractions import Fraction
 from xml.etree import ElementTree
 
-from cases import HOSTILE, PROGRAM, TEMP, TOOLS, TOP, Run, case, done, fault, hostile_game, same
+from cases import HOSTILE, PROGRAM, TEMP, TOOLS, TOP, Run, case, done, fault, hostile_game, report, same
 from council.game import Unit, write_game
+from council.reports import Fault, Report
 from council.tools import sweep as tool
 from council.tools.sweep import Axes, Progress, find_quotas, spread
 
@@ -154,6 +156,7 @@ same("council-tools sweep: the first rule", rows(sweep("--rule", "1", "--from", 
 same("council-tools sweep: up to the total of the first of two rules", [it[0] for it in rows(sweep("--from", "7", two))[::4]], ["7", "8"])
 same("council-tools sweep: indices of 1 and 0", rows(sweep("-", "--from", "2", input="[2; 2, 0]")), [["2", "1", *["1.000000"] * 2, *["1/1"] * 2], ["2", "2", *["0.000000"] * 2, *["0/1"] * 2]])
 
+same("council-tools sweep: decimals are cut off, and a quota has no commas", rows(sweep("-", "--from", "6000", input=f"[6000; {', '.join(['1000'] * 6)}]"))[0], ["6000", "1", *["0.166666"] * 2, *["1/6"] * 2])
 same("council-tools sweep: a rule above half keeps two coalitions from winning", run.err, "")
 run = sweep("--rule", "2", "--from", "1000", "--step", "1000", put("low.toml", write_game("AB", [1, 1, 1], [[1, 2000, 1]] * 2)))
 same("council-tools sweep: three rules of at most half", run.err, f"council-tools sweep: quotas up to 2,000 of rule 2 are at most half of the total, 4,000{HALF}")
@@ -220,6 +223,9 @@ for quotas in [1, 2, 1], [1, 1, 2]:
 # 85 letters t in bold are 809.2 wide
 sweep(put("head.toml", write_game("A", [1], [[1]], "t" * 85)), "--picture", f"{TEMP}/head.svg")
 same("council-tools sweep: a title of one row has room", ElementTree.parse(f"{TEMP}/head.svg").getroot().get("width"), "825")
+# an accent by itself is 1.2 wide, and ends before the line to it
+sweep(put("accent.toml", write_game(["\u0301"], [1], [[1]])), "--picture", f"{TEMP}/accent.svg")
+same("council-tools sweep: a label without width", ElementTree.parse(f"{TEMP}/accent.svg").getroot().get("width"), "696")
 same("council-tools sweep: labels move down, and up from the end", spread([5, 5, 5], [2, 2, 2], 0, 10), [4, 6, 8])
 same("council-tools sweep: labels keep their order", [spread(it, [2, 3], 1, 10) for it in ([9, 0], [9, 8], [2, 1])], [[8, 1], [8, 5], [4, 1]])
 
@@ -276,6 +282,23 @@ same("council-tools sweep: nothing in the first second", count(2000, Screen(Fals
 for name, out, err in [("rows on a terminal", Screen(), Screen()), ("no terminal", Screen(False), Screen(False))]:
     same(f"council-tools sweep: nothing with {name}", count(2000, out, err, TIMES), ("", ""))
 
+# ---- a fault in the middle
+def fail():
+    yield 1, Report(report("[1; 1]").split("\n")[:-1])
+    raise Fault("a fault")
+
+
+class Steps:
+    def __init__(self):
+        self.all = []
+        self.step, self.end = lambda: self.all.append("step"), lambda: self.all.append("end")
+
+
+steps = Steps()
+with contextlib.redirect_stdout(io.StringIO()), contextlib.suppress(Fault):
+    tool.write_rows(fail(), steps, lambda it: steps.all.append(it[0]))
+same("council-tools sweep: after a fault the line is taken away", steps.all, [1, "step", "end"])
+
 # ---- the words
 told = Run(TOOL, "--help").out
 wanted = ["GAME a game file; without one, or as -, standard input", "--rule N the rule whose quota is changed, counted from 1; else the first", "--from QUOTA the first quota; else 1",
@@ -307,6 +330,8 @@ for name, words, status, text in [
     ("a range that ends at 0", [COUNCIL, "--to", "0"], 2, "there is no quota from 1 to 0 in steps of 1"),
     ("a range in steps without end", [COUNCIL, "--from", "2", "--to", "50001", "--step", "2"], 2, "from 2 to 50001 there are 25000 quotas, and 20000 are the most: --from, --to and --step choose some"),
     ("a step of 0", [COUNCIL, "--step", "0"], 2, "there is no quota from 1 to 17 in steps of 0"),
+    ("a step back", [COUNCIL, "--step", "-1"], 2, "there is no quota from 1 to 17 in steps of -1"),
+    ("one quota more than the most", [COUNCIL, "--to", "20001"], 2, "from 1 to 20001 there are 20001 quotas, and 20000 are the most: --from, --to and --step choose some"),
     ("a range without end", [COUNCIL, "--to", "99999999"], 2, "from 1 to 99999999 there are 99999999 quotas, and 20000 are the most: --from, --to and --step choose some"),
     ("a range of twenty digits", [COUNCIL, "--to", "9" * 20], 2, f"from 1 to {'9' * 20} there are {'9' * 20} quotas, and 20000 are the most: --from, --to and --step choose some"),
     ("a file that is not there", [f"{TEMP}/none.toml"], 1, f"{TEMP}/none.toml: No such file or directory"),
@@ -316,5 +341,9 @@ for name, words, status, text in [
     ("a number that is none", [COUNCIL, "--from", "x"], 2, "argument --from: invalid int value: 'x' (--help says more)"),
 ]:
     fault(f"council-tools sweep refuses {name}", sweep(*words), status, text)
+for words in ["--to", "18"], ["--rule", "2"], ["--from", "5", "--to", "4"]:
+    sweep(COUNCIL, *words, "--picture", put("kept.svg", "kept"))
+    with open(f"{TEMP}/kept.svg", encoding="utf-8") as it:
+        same(f"council-tools sweep: a picture stays as it is if {words} is refused", it.read(), "kept")
 fault("council-tools sweep, as a user runs it, refuses no game", Run(TOOL, "--program", PROGRAM, "-", apart=True, input=""), 3, "council: bad quota; the file holds no game: it has neither a quota nor a member")
 done()
