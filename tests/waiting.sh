@@ -19,12 +19,18 @@ cat >"$own/src/waiting/tests.rt" <<'END'
 //! Tests of how often a thread looks before it sleeps, and of what wakes it.
 
 use super::{Backoff, Waker, WakerPair, Wakers};
+use crate::guarded::Guarded;
+use crate::job::Job;
 use crate::putting::RowByRow;
 use crate::send::send;
+use crate::worker_handle::WorkerHandle;
+use council_base::NoGate;
+use council_game::Game;
 use mwc_pipe::{Word, ring};
 use std::process::Abort;
 use std::sync::Wait;
 use std::sync::atomic::Ordering;
+use std::{hint, thread};
 
 /// Whether the thread sleeps, or is about to.
 fn is_asleep(waker: &Waker) -> bool {
@@ -103,6 +109,42 @@ fn words_that_were_put_in_wake_the_other_side(rt: HostRuntime) {
     };
     assert!(rt; send::<RowByRow, _, _>(&rt, [Word::Done(0)].as_slice(), &mut out, back));
     assert!(rt; !is_asleep(&wakers.gatherer));
+}
+
+/// Waits until the thread sleeps, or is about to; or, if `asleep` is false, until it was woken.
+fn waits_until(waker: &Waker, asleep: bool) -> bool {
+    for _ in 0..1_000_000_000u32 {
+        if is_asleep(waker) == asleep {
+            return true;
+        }
+        hint::spin_loop();
+    }
+    false
+}
+
+#[test]
+fn a_worker_sleeps_and_wakes_the_gatherer(rt: HostRuntime) {
+    let alloc = rt.alloc();
+    let mut names = Vec::new(alloc);
+    names.push(format!(in alloc; "A").expect(&rt, "a name")).expect(&rt, "room");
+    let weights = [1u64].to_vec(alloc).expect(&rt, "weights");
+    let game = Game::new(alloc, None, names, weights, 1).expect(&rt, "a game");
+    let job = Job {
+        guarded: Guarded::new(&game, &NoGate),
+        bits: 0,
+        most: 1,
+    };
+    let wakers = Wakers::new();
+    let rt = &rt;
+    thread::scope(thread::scope_env(), rt, |scope| {
+        let mut handle = WorkerHandle::open(scope, rt, alloc, &job, 3, &wakers).expect(rt, "a worker");
+        assert!(rt; waits_until(&wakers.workers[3], true));
+        looks_before_sleep(rt, &mut Backoff::new(), &wakers.gatherer);
+        handle.assign(rt, 0, wakers.pair(3));
+        assert!(rt; waits_until(&wakers.gatherer, false));
+        handle.dismiss(rt, wakers.pair(3));
+        assert!(rt; handle.finish(rt).is_ok());
+    });
 }
 END
 printf '\n#[cfg(test)]\nmod tests;\n' >>"$own/src/waiting.rt"
