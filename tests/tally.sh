@@ -245,6 +245,25 @@ END
     compile_preloaded few_threads
     THREADS=1 LD_PRELOAD=$temp/few_threads.so run --tally --workers 2 --bits 10 "$temp/half.toml"
     refused "a long tally of which one worker starts" 5 "a worker could not be started"
+    # one of two workers runs out of memory, and the other one takes no further slice
+    compile_preloaded refuse
+    if timeout "$((2 * seconds))" python3 - "$program" "$temp/half.toml" "$temp/refuse.so" "$seconds" >"$temp/told" 2>&1 <<'END'
+import os, select, subprocess, sys
+program, game, refuse, seconds = sys.argv[1:]
+for at in range(1, 100):
+    environment = {**os.environ, "LD_PRELOAD": refuse, "REFUSE_AT": str(at)}
+    run = subprocess.Popen([program, "--tally", "--workers", "2", "--bits", "10", game], env=environment, stderr=subprocess.PIPE)
+    try:
+        # later allocations are those of workers that go on
+        if not select.select([run.stderr], [], [], 2)[0]:
+            break
+        _, told = run.communicate(timeout=int(seconds))
+    finally:
+        run.kill()
+    assert run.returncode == 5, (at, run.returncode, told)
+assert 10 < at < 99, at
+END
+    then ok "a long tally that runs out of memory"; else failed "a long tally that runs out of memory" "$(tail -n 1 "$temp/told")"; fi
     # a fault at the end: the line is wiped before it
     name="a long tally on a terminal, and /dev/full"
     if [ ! -e /dev/full ]; then

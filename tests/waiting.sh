@@ -1,6 +1,6 @@
 #!/usr/bin/env bash
-# How threads wait: tests in Rattle, as a module of crates/mwc_gather/src/waiting.rt in a copy of
-# the crates. They run without a proof, which would take as long as the crate's own.
+# How threads wait: tests in Rattle, as modules of waiting.rt and scheduler.rt of crates/mwc_gather
+# in a copy of the crates. They run without a proof, which would take as long as the crate's own.
 . "$(dirname "$0")/common.sh"
 
 needs rt waiting || exit 0
@@ -14,7 +14,7 @@ for crate in "$top"/crates/*; do
     done
 done
 own=$temp/crates/mwc_gather
-mkdir "$own/src/waiting"
+mkdir "$own/src/waiting" "$own/src/scheduler"
 cat >"$own/src/waiting/tests.rt" <<'END'
 //! Tests of how often a thread looks before it sleeps, and of what wakes it.
 
@@ -24,21 +24,33 @@ use crate::job::Job;
 use crate::putting::RowByRow;
 use crate::send::send;
 use crate::worker_handle::WorkerHandle;
-use council_base::NoGate;
+use council_base::Gate;
 use council_game::Game;
 use mwc_pipe::{Word, ring};
+use std::alloc::Global;
 use std::process::Abort;
 use std::sync::Wait;
-use std::sync::atomic::Ordering;
+use std::sync::atomic::{AtomicBool, Ordering};
 use std::{hint, thread};
 
+/// Returns a game of members of weight 1.
+pub(crate) fn equal_game<A: Abort>(rt: &A, alloc: Global, members: u8, quota: u64) -> Game {
+    let mut names = Vec::new(alloc);
+    let mut weights = Vec::new(alloc);
+    for member in 0..members {
+        names.push(format!(in alloc; "{member}").expect(rt, "a name")).expect(rt, "room");
+        weights.push(1u64).expect(rt, "room");
+    }
+    Game::new(alloc, None, names, weights, quota).expect(rt, "a game")
+}
+
 /// Whether the thread sleeps, or is about to.
-fn is_asleep(waker: &Waker) -> bool {
+pub(crate) fn is_asleep(waker: &Waker) -> bool {
     waker.asleep.load(Ordering::SeqCst)
 }
 
 /// Waits until the thread is about to sleep, and returns how often it looked again before.
-fn looks_before_sleep<R: Wait>(rt: &R, backoff: &mut Backoff, waker: &Waker) -> u32 {
+pub(crate) fn looks_before_sleep<R: Wait>(rt: &R, backoff: &mut Backoff, waker: &Waker) -> u32 {
     for looks in 0..1_000 {
         backoff.wait(rt, waker);
         if is_asleep(waker) {
@@ -111,10 +123,10 @@ fn words_that_were_put_in_wake_the_other_side(rt: HostRuntime) {
     assert!(rt; !is_asleep(&wakers.gatherer));
 }
 
-/// Waits until the thread sleeps, or is about to; or, if `asleep` is false, until it was woken.
-fn waits_until(waker: &Waker, asleep: bool) -> bool {
+/// Waits until the thread sleeps, or is about to.
+fn waits_until_asleep(waker: &Waker) -> bool {
     for _ in 0..1_000_000_000u32 {
-        if is_asleep(waker) == asleep {
+        if is_asleep(waker) {
             return true;
         }
         hint::spin_loop();
@@ -122,32 +134,152 @@ fn waits_until(waker: &Waker, asleep: bool) -> bool {
     false
 }
 
+/// Waits until the thread has slept some twenty times.
+pub(crate) fn sleeps_often(waker: &Waker) -> bool {
+    for _ in 0..200_000_000u32 {
+        if waker.looks.load(Ordering::Relaxed) <= 64 {
+            return true;
+        }
+        hint::spin_loop();
+    }
+    false
+}
+
+/// Notes whether the gatherer was awake when a worker began its slice.
+#[derive(Drop)]
+struct Notes<'a> {
+    gatherer: &'a Waker,
+    awake: AtomicBool,
+}
+
+impl Gate for Notes<'_> {
+    fn pass(&self, _worker: u8, _slice: u16) {
+        self.awake.store(!is_asleep(self.gatherer), Ordering::SeqCst);
+    }
+}
+
 #[test]
 fn a_worker_sleeps_and_wakes_the_gatherer(rt: HostRuntime) {
     let alloc = rt.alloc();
-    let mut names = Vec::new(alloc);
-    names.push(format!(in alloc; "A").expect(&rt, "a name")).expect(&rt, "room");
-    let weights = [1u64].to_vec(alloc).expect(&rt, "weights");
-    let game = Game::new(alloc, None, names, weights, 1).expect(&rt, "a game");
+    let game = equal_game(&rt, alloc, 1, 1);
+    let wakers = Wakers::new();
+    let notes = Notes {
+        gatherer: &wakers.gatherer,
+        awake: AtomicBool::new(false),
+    };
     let job = Job {
-        guarded: Guarded::new(&game, &NoGate),
+        guarded: Guarded::new(&game, &notes),
         bits: 0,
         most: 1,
     };
-    let wakers = Wakers::new();
     let rt = &rt;
     thread::scope(thread::scope_env(), rt, |scope| {
         let mut handle = WorkerHandle::open(scope, rt, alloc, &job, 3, &wakers).expect(rt, "a worker");
-        assert!(rt; waits_until(&wakers.workers[3], true));
+        assert!(rt; waits_until_asleep(&wakers.workers[3]));
         looks_before_sleep(rt, &mut Backoff::new(), &wakers.gatherer);
         handle.assign(rt, 0, wakers.pair(3));
-        assert!(rt; waits_until(&wakers.gatherer, false));
         handle.dismiss(rt, wakers.pair(3));
         assert!(rt; handle.finish(rt).is_ok());
     });
+    // it woke the gatherer as it took its task, before it put in a word
+    assert!(rt; notes.awake.load(Ordering::SeqCst));
 }
 END
-printf '\n#[cfg(test)]\nmod tests;\n' >>"$own/src/waiting.rt"
+cat >"$own/src/scheduler/tests.rt" <<'END'
+//! Tests of who sleeps, and who is woken, while slices are handed out.
+
+use super::Scheduler;
+use crate::guarded::Guarded;
+use crate::job::Job;
+use crate::marks::Marks;
+use crate::waiting::tests::{equal_game, is_asleep, looks_before_sleep, sleeps_often};
+use crate::waiting::{Backoff, Waker, Wakers};
+use crate::word_buffer::WORDS;
+use crate::worker_handle::WorkerHandle;
+use council_base::{Gate, NoGate};
+use mwc_pipe::Word;
+use std::process::Abort;
+use std::sync::atomic::{AtomicBool, Ordering};
+use std::{hint, thread};
+
+#[test]
+fn a_worker_whose_ring_is_full_sleeps_until_words_are_taken(rt: HostRuntime) {
+    let alloc = rt.alloc();
+    // 924 coalitions, and a ring has room for 64 words
+    let game = equal_game(&rt, alloc, 12, 6);
+    let job = Job {
+        guarded: Guarded::new(&game, &NoGate),
+        bits: 0,
+        most: 1_000,
+    };
+    let wakers = Wakers::new();
+    // what the gatherer wakes here nobody else does
+    let others = Wakers::new();
+    let worker = &others.workers[5];
+    let rt = &rt;
+    thread::scope(thread::scope_env(), rt, |scope| {
+        let handle = WorkerHandle::open(scope, rt, alloc, &job, 3, &wakers).expect(rt, "a worker");
+        let mut handles = [handle];
+        let mut scheduler = Scheduler {
+            marks: Marks::new(1),
+            stopped: false,
+        };
+        let mut row = [Word::Open(0); WORDS];
+        assert!(rt; !scheduler.serve(rt, &mut handles[0], 3, &mut row, others.pair(5)));
+        assert!(rt; sleeps_often(&wakers.workers[3]));
+        looks_before_sleep(rt, &mut Backoff::new(), worker);
+        assert!(rt; scheduler.serve(rt, &mut handles[0], 3, &mut row, others.pair(5)));
+        assert!(rt; !handles[0].idle && !is_asleep(worker));
+        scheduler.read_all(rt, &job, &mut handles, &wakers);
+        let [handle] = handles;
+        assert!(rt; handle.finish(rt).is_ok());
+    });
+}
+
+/// Lets a worker begin its slice when the gatherer has slept often.
+#[derive(Drop)]
+struct AfterSleep<'a> {
+    gatherer: &'a Waker,
+    slept: AtomicBool,
+}
+
+impl Gate for AfterSleep<'_> {
+    fn pass(&self, _worker: u8, _slice: u16) {
+        self.slept.store(sleeps_often(self.gatherer), Ordering::SeqCst);
+    }
+}
+
+#[test]
+fn a_gatherer_sleeps_while_no_word_arrives(rt: HostRuntime) {
+    let alloc = rt.alloc();
+    let game = equal_game(&rt, alloc, 1, 1);
+    let wakers = Wakers::new();
+    let gate = AfterSleep {
+        gatherer: &wakers.gatherer,
+        slept: AtomicBool::new(false),
+    };
+    let job = Job {
+        guarded: Guarded::new(&game, &gate),
+        bits: 0,
+        most: 1,
+    };
+    let rt = &rt;
+    thread::scope(thread::scope_env(), rt, |scope| {
+        let handle = WorkerHandle::open(scope, rt, alloc, &job, 0, &wakers).expect(rt, "a worker");
+        let mut handles = [handle];
+        let mut scheduler = Scheduler {
+            marks: Marks::new(1),
+            stopped: false,
+        };
+        scheduler.read_all(rt, &job, &mut handles, &wakers);
+        let [handle] = handles;
+        assert!(rt; handle.finish(rt).is_ok());
+    });
+    assert!(rt; gate.slept.load(Ordering::SeqCst));
+}
+END
+printf '\n#[cfg(test)]\npub(crate) mod tests;\n' >>"$own/src/waiting.rt"
+printf '\n#[cfg(test)]\nmod tests;\n' >>"$own/src/scheduler.rt"
 (cd "$own" && timeout "$((10 * seconds))" rt try --test --seconds "$seconds") >"$temp/said" 2>&1 </dev/null
 count=0
 while read -r _ test _ end; do
@@ -155,8 +287,8 @@ while read -r _ test _ end; do
     name="waiting: ${name//_/ }"
     if [ "$end" = ok ]; then ok "$name"; else failed "$name" "it $end"; fi
     count=$((count + 1))
-done < <(grep -a '^test waiting::tests::' "$temp/said")
-wanted=$(grep -c '^#\[test\]' "$own/src/waiting/tests.rt")
+done < <(grep -aE '^test (waiting|scheduler)::tests::' "$temp/said")
+wanted=$(cat "$own"/src/*/tests.rt | grep -c '^#\[test\]')
 if [ "$count" -eq "$wanted" ]; then
     ok "waiting: all $wanted tests ran"
 else

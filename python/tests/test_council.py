@@ -185,8 +185,8 @@ class Reports(unittest.TestCase):
             self.assertEqual(find_refusal(51, [50, kind("16.5")]).explanation, bad.explanation)
         for words, fault in [
             ((200, [50, 49]), "quota out of range"), ((0.85, [1]), "bad quota"), ((1, [1] * (game.MEMBERS + 1)), "bad member list"), ((1, []), "bad member list"),
-            ((1, [50 + Fraction(1, 10**12)]), "bad weight of member 1"), ((1, [-1, 2]), "bad weight of member 1"), ((1, [1, float("nan")]), "bad weight of member 2"), ((1, [float("inf")]), "bad weight of member 1"),
-            ((1, [game.WEIGHT + 1]), "bad weight of member 1"), ((10**30, [1]), "the game file is not TOML"), (([1] * (game.RULES + 1), [[1]] * (game.RULES + 1)), "bad rules"),
+            ((1, [50 + Fraction(1, 10**12)]), "bad weight of member 1"), ((1, [-1, 2]), "bad weight of member 1"), ((1, [1, float("nan")]), "bad weight of member 2"), ((1, [Decimal("sNaN")]), "bad weight of member 1"), ((1, [Decimal("-Infinity")]), "bad weight of member 1"), ((1, [float("inf")]), "bad weight of member 1"),
+            ((1, [game.WEIGHT + 1]), "bad weight of member 1"), ((10**30, [1]), "the game file is not TOML"), ((1, [10**5000]), "the game file is not TOML"), ((1, [Decimal(10**5000)]), "the game file is not TOML"), (([1] * (game.RULES + 1), [[1]] * (game.RULES + 1)), "bad rules"),
         ]:
             it = find_refusal(*words)
             self.assertEqual(it.fault, fault)

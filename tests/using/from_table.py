@@ -289,7 +289,7 @@ fault("--no-heading and a column by its heading", game("60%", "--no-heading", "-
 fault("--no-heading and weights by their heading", game("60%", "--no-heading", "--name", "1", "--weight", "votes", table="who,votes\nA,5\n"), 2, '--no-heading: the column "votes" is chosen by its heading')
 
 # ---- a quota below 1 is a share that lacks its sign; one of at most half is doubtful
-for quota, wanted in [("0.85", "85%"), ("0,85", "85%"), (".5", "50%"), ("0.667", "66.7%"), (">0.5", "'>50%'"), (">=0.5", "50%"), ("≥.125", "12.5%"), ("heads:>=0.5", "heads:50%"), ("heads:0.55", "heads:55%"), ("heads:>0.5", "'heads:>50%'")]:
+for quota, wanted in [("0.85", "85%"), ("0,85", "85%"), (".5", "50%"), ("0.667", "66.7%"), ("0.333333333", "33.3333333%"), (">0.5", "'>50%'"), (">=0.5", "50%"), ("≥.125", "12.5%"), ("heads:>=0.5", "heads:50%"), ("heads:0.55", "heads:55%"), ("heads:>0.5", "'heads:>50%'")]:
     fault(f"a quota below 1: {quota}", game(quota, "--no-heading", table=TABLE.replace(",", " " if "heads" in quota else ",")), 2, f'the quota "{quota}" is less than 1: write {wanted} for a share of all')
 run = game("85%", table=TABLE)
 same("a quota above half is not warned of", (run.status, run.err), (0, ""))

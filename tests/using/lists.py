@@ -43,11 +43,13 @@ whole = json.loads(found["export json"])
 same("council-tools export: each coalition is in the JSON", (len(whole["coalitions"]), whole["minimal"]), (COALITIONS, COALITIONS))
 same("council-tools export: the last of them", whole["coalitions"][-1], {"members": ["37", "38", "39", "40"], "weights": [4]})
 case("council-tools page: the first of them", f"the first 1,000 of {COALITIONS:,}" in found["page"] and found["page"].count("<small>(4)</small>") == 1000)
-try:
-    text = str(Report.from_text(report("[2; 1, 1]", "--list").replace("coalition\t2", "coalition\t3")).coalitions)
-except Fault as it:
-    text = str(it)
-same("a coalition of another size than its line has", text, "the report is not whole, or its numbers are not those of council")
+for name, old, new in [("of another size than its line has", "coalition\t2", "coalition\t3"), ("without a size", "coalition\t2", "coalition\t"), ("of a name that no member has", "\t1\t2\nm", "\t1\t3\nm"),
+                       ("whose weight is no number", "coalition\t2\t2", "coalition\t2\tx"), ("that is not whole", "coalition\t2\t2\t1\t2", "coalition\t2")]:
+    try:
+        text = str(Report.from_text(report("[2; 1, 1]", "--list").replace(old, new)).coalitions)
+    except Fault as it:
+        text = str(it)
+    same(f"a coalition {name}", text, "the report is not whole, or its numbers are not those of council")
 with open(LIST, encoding="utf-8") as it:
     same("a report in a line", repr(Report(it, lambda _: None)), "<council.Report 'A game': 40 members, 91,390 minimal winning coalitions>")
 
@@ -205,11 +207,12 @@ env = {**os.environ, "PYTHONUTF8": "0", "PYTHONCOERCECLOCALE": "0", "LC_ALL": "C
 ran = subprocess.run(["bash", "-c", 'exec "$@" 2>&-', "bash", sys.executable, TOOLS, "sweep"], input="\u00e9 = 1\n".encode(), capture_output=True, env=env)
 same("council-tools sweep 2>&-", (ran.returncode, ran.stdout, ran.stderr), (3, b"", b""))
 
-# ---- the game file of a report: 65,536 letters, and of the same game
+# ---- the game file of a report: 65,536 bytes, and of the same game
 GAME = "\nquota = 2\nmember = [{name = 'A', weight = 2}]\n"
 for name, game, text in [
     ("as long as it may be", "#" * (65536 - len(GAME)) + GAME, ""),
     ("too long", "#" * (65537 - len(GAME)) + GAME, "the game file is longer than 65536 bytes"),
+    ("too long by one letter of two bytes", "#" * (65535 - len(GAME)) + "é" + GAME, "the game file is longer than 65536 bytes"),
     ("of another game", GAME.replace("quota = 2", "quota = 1"), "this is not the game of the report"),
 ]:
     with open(f"{TEMP}/game.toml", "w", encoding="utf-8") as it:

@@ -201,6 +201,13 @@ os.environ["COUNCIL_PROGRAM"] = f"{TEMP}/none"
 case("council-tools page: no program", "this page cannot tell." in Run(TOOL, council).out)
 fault("council-tools page: no program of that name", Run(TOOL, "--program", "no-such", council), 1, "no-such: no program of that name was found")
 os.environ["COUNCIL_PROGRAM"] = PROGRAM
+# one that this system cannot run is named only if the user has named it
+path = put("foreign", "\x7fELF")
+os.chmod(path, 0o755)
+fault("council-tools page: a named program that cannot run", Run(TOOL, "--program", path, council), 1, f"{path}: Exec format error")
+os.environ["COUNCIL_PROGRAM"] = path
+case("council-tools page: a program that cannot run", "this page cannot tell." in Run(TOOL, council).out)
+os.environ["COUNCIL_PROGRAM"] = PROGRAM
 case("council-tools page: the program at hand", "The program at hand when this page was made: council " in Run(TOOL, council).out)
 ran = subprocess.run
 

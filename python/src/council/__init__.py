@@ -112,15 +112,22 @@ def write_number(value: Any) -> str:
     """Writes a quota or a weight. A whole number stays exact, of whatever type it is; any other is
     written with its decimals, and council says what is wrong with it."""
     try:
-        return str(int(operator.index(value)))
+        return write_whole(operator.index(value))
     except TypeError:
         if not is_number(value):
             raise TypeError(f"{value!r} is no number") from None
     try:
         whole = int(value)
-    except (OverflowError, ValueError):
+    except OverflowError:
         return repr(float(value))
-    return str(whole) if whole == value else repr(float(value))
+    except ValueError:
+        return "nan"
+    return write_whole(whole) if whole == value else repr(float(value))
+
+
+def write_whole(number: int) -> str:
+    """Writes a whole number of any length; Python's `str` refuses more than 4,300 digits."""
+    return str(Decimal(number))
 
 
 def write_name(value: Any) -> str:

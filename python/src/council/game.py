@@ -41,8 +41,8 @@ def quote_for_shell(text: str) -> str:
 
 
 def write_game(names: Sequence[str], quotas: Sequence[int], weights: Iterable[Sequence[int]], title: str = "", comments: Iterable[str] = ()) -> str:
-    """Returns a game file, as `format_game` does; names and a title that it cannot have are a
-    Fault."""
+    """Returns a game file, as `format_game` does. No member or too many, and a title that a game
+    cannot have, are a Fault."""
     if not 1 <= len(names) <= MEMBERS:
         raise Fault(f"there are {len(names)} members, and a game has 1 to {MEMBERS}")
     if not is_text(title, TITLE):

@@ -183,8 +183,10 @@ class Report:
                 if weight not in weights:
                     weights[weight] = read_numbers(weight)
                 if int(size) != len(members):
-                    raise Fault("the report is not whole, or its numbers are not those of council")
+                    raise ValueError(size)
                 kept.append(Coalition(tuple([names[it] for it in members]), weights[weight]))
+        except (KeyError, ValueError):
+            raise Fault("the report is not whole, or its numbers are not those of council") from None
         finally:
             if collects:
                 gc.enable()

@@ -70,10 +70,10 @@ def count_decimals(value: Fraction) -> int:
     return places
 
 
-def write_plain(value: Fraction) -> str:
-    """Writes a value with its decimals, cut off after six, and with commas between thousands."""
+def write_plain(value: Fraction, most: int = 6) -> str:
+    """Writes a value with its decimals, cut off after `most`, and with commas between thousands."""
     places = 0
-    while places < 6 and (value * 10**places).denominator != 1:
+    while places < most and (value * 10**places).denominator != 1:
         places += 1
     digits = str(math.floor(value * 10**places)).rjust(places + 1, "0")
     cut = "" if value * 10**places == int(digits) else ".."

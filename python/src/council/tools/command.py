@@ -129,7 +129,7 @@ def read_comments(path: Optional[str], report: Report) -> tuple[list[str], list[
 
     def make(file: TextIO) -> str:
         text = file.read(GAME_FILE + 1)
-        if len(text) > GAME_FILE:
+        if len(text.encode()) > GAME_FILE:
             raise Fault(f"the game file is longer than {GAME_FILE} bytes")
         check_same(text, report)
         return text

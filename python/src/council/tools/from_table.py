@@ -88,7 +88,8 @@ class Quota:
 
     def refuse_small(self, value: Fraction) -> NoReturn:
         """Refuses 0.85, with which each member would win alone, and says how to write the share."""
-        share = ("heads:" if self.heads else "") + (">" if self.more else "") + write_plain(value * 100) + "%"
+        percent = write_plain(value * 100, count_decimals(value * 100))
+        share = ("heads:" if self.heads else "") + (">" if self.more else "") + percent + "%"
         word = f"'{share}'" if self.more else share
         raise Fault(f"the quota {quote(self.text)} is less than 1: write {word} for a share of all", 2)
 
@@ -432,7 +433,10 @@ def make_game(data: bytes, quotas: Sequence[Quota], words: argparse.Namespace) -
         comments.insert(0, f"Source: {' '.join(words.source.split())}")
     rules, used = [], iter(range(len(read)))
     for rule, quota in enumerate(quotas, 1):
-        rules.append(Rule(rule, quota, members, decimal=words.decimal if quota.is_open() else None) if quota.heads else Rule(rule, quota, members, columns, next(used), read, decimal))
+        if quota.heads:
+            rules.append(Rule(rule, quota, members, decimal=words.decimal if quota.is_open() else None))
+        else:
+            rules.append(Rule(rule, quota, members, columns, next(used), read, decimal))
         comments.append(rules[-1].comment)
     weights = zip(*(it.weights for it in rules))
     text = write_game([it.name for it in members], [it.quota for it in rules], weights, words.title or "", comments + left_out)

@@ -243,6 +243,11 @@ def find_version(named: Optional[str]) -> Optional[str]:
         done = subprocess.run([path, "--version"], stdin=subprocess.DEVNULL, stdout=subprocess.PIPE, stderr=subprocess.DEVNULL, timeout=20)
     except subprocess.TimeoutExpired:
         return None
+    except OSError:
+        # it is for another system
+        if named:
+            raise
+        return None
     lines = done.stdout.decode("utf-8", "replace").split("\n")
     return ", ".join(it for it in lines if it) if done.returncode == 0 and lines[0].startswith("council ") else None
 
