@@ -245,23 +245,41 @@ END
     compile_preloaded few_threads
     THREADS=1 LD_PRELOAD=$temp/few_threads.so run --tally --workers 2 --bits 10 "$temp/half.toml"
     refused "a long tally of which one worker starts" 5 "a worker could not be started"
-    # one of two workers runs out of memory, and the other one takes no further slice
+    # one of two workers runs out of memory, and the other one takes no further slice: the first
+    # takes seconds, and all of them minutes
+    sed 's/8000000/11000000/g' "$temp/three.toml" >"$temp/eleven.toml"
     compile_preloaded refuse
-    if timeout "$((2 * seconds))" python3 - "$program" "$temp/half.toml" "$temp/refuse.so" "$seconds" >"$temp/told" 2>&1 <<'END'
+    if timeout "$((5 * seconds))" python3 - "$program" "$temp" "$seconds" >"$temp/told" 2>&1 <<'END'
 import os, select, subprocess, sys
-program, game, refuse, seconds = sys.argv[1:]
-for at in range(1, 100):
-    environment = {**os.environ, "LD_PRELOAD": refuse, "REFUSE_AT": str(at)}
-    run = subprocess.Popen([program, "--tally", "--workers", "2", "--bits", "10", game], env=environment, stderr=subprocess.PIPE)
+program, folder, seconds = sys.argv[1:]
+refuse, few = f"{folder}/refuse.so", f"{folder}/few_threads.so"
+def start(loaded, at):
+    environment = {**os.environ, "LD_PRELOAD": loaded, "REFUSE_AT": str(at), "THREADS": "0"}
+    words = [program, "--tally", "--workers", "2", "--bits", "10", f"{folder}/eleven.toml"]
+    return subprocess.Popen(words, env=environment, stderr=subprocess.PIPE)
+# how many allocations there are before the first worker starts
+before, after = 0, 1 << 16
+while after - before > 1:
+    at = (before + after) // 2
+    if b"refuse: " in start(f"{refuse}:{few}", at).communicate()[1]:
+        before = at
+    else:
+        after = at
+ended = 0
+for at in range(before + 1, before + 9):
+    run = start(refuse, at)
     try:
-        # later allocations are those of workers that go on
+        # later allocations are those of workers that have done their first slices
         if not select.select([run.stderr], [], [], 2)[0]:
             break
         _, told = run.communicate(timeout=int(seconds))
     finally:
         run.kill()
-    assert run.returncode == 5, (at, run.returncode, told)
-assert 10 < at < 99, at
+    ended += 1
+    # (a thread takes memory as it starts)
+    faults = b"council: out of memory\n", b"council: a worker could not be started\n"
+    assert run.returncode == 5 and told.endswith(faults), (at, run.returncode, told)
+assert 1 < ended < 8, ended
 END
     then ok "a long tally that runs out of memory"; else failed "a long tally that runs out of memory" "$(tail -n 1 "$temp/told")"; fi
     # a fault at the end: the line is wiped before it
