@@ -12,11 +12,11 @@ import sys
 
 class Run:
     """A program whose standard error is a terminal, and its standard output too where it says so. Its clock is that of a compiled
-    preloaded/clock.c, if one is named: it goes on by a tenth of a second each time the program reads it."""
+    preloaded/clock.c, if one is named: it goes on by some tenths of a second each time the program reads it."""
 
-    def __init__(self, words, stdout=subprocess.DEVNULL, both=False, clock=None):
+    def __init__(self, words, stdout=subprocess.DEVNULL, both=False, clock=None, tenths=1):
         self.leader, follower = pty.openpty()
-        own = {**os.environ, "LD_PRELOAD": clock} if clock else None
+        own = {**os.environ, "LD_PRELOAD": clock, "CLOCK_TENTHS": str(tenths)} if clock else None
         self.process = subprocess.Popen(words, stdin=subprocess.DEVNULL, stdout=follower if both else stdout, stderr=follower, env=own)
         os.close(follower)
         # what it has said so far

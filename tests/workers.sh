@@ -56,7 +56,7 @@ slow_game() {
 }
 
 # ---- on a terminal: how far a run has come, and that a game is read from standard input
-if needs python3 "a long run on a terminal" "a barren run on a terminal" "a late coalition on a terminal" "a late fault on a terminal" "a late report on a terminal" "a game from a terminal"; then
+if needs python3 "a long run on a terminal" "a long slice on a terminal" "a barren run on a terminal" "a late coalition on a terminal" "a late fault on a terminal" "a late report on a terminal" "a game from a terminal"; then
     # the clock goes on by a tenth of a second at each look: the program looks at each slice that it
     # takes and each 1,048,576 prefixes, and shows nothing before more than a second has passed
     compile_preloaded clock
@@ -85,6 +85,19 @@ for column in (0, 1):
 assert lines[-1] == (b"3,838,380", b"1008"), lines[-1]
 END
     then ok "a long run on a terminal"; else failed "a long run on a terminal" "$(tail -n 1 "$temp/told")"; fi
+    # the same in one slice: it looks with each 1,048,576 prefixes or coalitions, and at the end
+    if timeout "$seconds" python3 - "$program" "$temp/long.toml" "$clock" >"$temp/told" 2>&1 <<'END'
+import re, sys
+from terminal import Run
+run = Run([sys.argv[1], "--workers", "1", "--bits", "0", "--most", "4000000", sys.argv[2]], clock=sys.argv[3], tenths=10)
+status = run.read_all()
+assert status == 0, status
+lines = re.findall(rb"\rcouncil: ([0-9,]+) coalitions found, 0 of 1 slices done(?=\r)", run.told)
+numbers = [int(it.replace(b",", b"")) for it in lines]
+assert len(numbers) >= 2 and numbers[-1] == 3838380, numbers
+assert all(here <= there <= here + 2**20 for here, there in zip(numbers, numbers[1:])), numbers
+END
+    then ok "a long slice on a terminal"; else failed "a long slice on a terminal" "$(tail -n 1 "$temp/told")"; fi
     # a game that takes hours: 21 of 39 members must agree, 6 of the first twelve and 15 of the
     # others, so a coalition with a seventh of the twelve is never minimal. The run is ended once it
     # was told of four times, before it has found a coalition
