@@ -255,7 +255,7 @@ class Reports(unittest.TestCase):
             (LISTED, LISTED.replace("51\nt", "51/1\nt").replace("100", "100/0").replace("50\t2", "50/0\t2").replace("49\t1", "49/0\t1").replace("3\t1\t1", "3\t1/0\t1"), unsound),
             ("members\t3", "members\t4", unsound), ("total\t100", "total\t101", unsound), ("total\t100", "total\t100/3", unsound), ("minimal\t2", "minimal\t1", unsound), ("minimal\t2", "minimal\tx", unsound),
             ("member\t3\t1\t1\t", "member\t3\t1/1\t1\t", unsound), ("member\t3\t1\t1\t1/4\t0.250000", "member\t3\t1\t1\t1/8\t0.125000", unsound),
-            ("1/4\t0.250000\n", "1/8\t0.125000\n", unsound), ("1/2\t0.500000\t1/2\t0.500000", "1/4\t0.250000\t3/4\t0.750000", unsound), ("1/2\t0.500000\n", "1/2\t0.500001\n", "line 7"), ("1/2\t0.500000\n", "1/0\t0.500000\n", "line 7"),
+            ("1/4\t0.250000\n", "1/8\t0.125000\n", unsound), ("1/2\t0.500000\t1/2\t0.500000", "1/4\t0.250000\t3/4\t0.750000", unsound), ("1/2\t0.500000\n", "1/2\t0.500001\n", "line 7"), ("1/2\t0.500000\n", "1/0\t0.500000\n", "line 7"), ("1/2\t0.500000\n", "+1/2\t0.500000\n", "line 7"), ("1/2\t0.500000\n", "1/0_2\t0.500000\n", "line 7"),
             ("1/2\t0.500000\n", "1/2\t0.500000\t\n", "line 7"), ("coalition\t2\t99", "coalition\t3\t99", "line 5"), ("coalition\t2\t99", "coalition\t1\t99", "line 5"),
         ]:
             changed = LISTED.replace(old, new)
