@@ -12,6 +12,11 @@ _council_tools() {
     from-table:--source) return ;;
     from-table:--name) return ;;
     from-table:--weight) return ;;
+    from-table:--heading) return ;;
+    from-table:--rows) return ;;
+    from-table:--drop) return ;;
+    from-table:--only) return ;;
+    from-table:--of) words="100 sum" ;;
     from-table:--decimal) words=". ," ;;
     from-table:--round) words="0 1 2 3 4 5 6 7 8 9 10 11 12" ;;
     from-table:--encoding) return ;;
@@ -30,13 +35,13 @@ _council_tools() {
     esac
     if [[ -z $words && $word == -* ]]; then
         case ${COMP_WORDS[1]} in
-        from-table) words="--help --title --source --name --weight --heading --no-heading --all-rows --no-total --sum --decimal --round --encoding" ;;
+        from-table) words="--help --title --source --name --weight --heading --no-heading --rows --drop --only --all-rows --sum --of --decimal --round --encoding --quiet" ;;
         table) words="--help" ;;
-        export) words="--help --columns --decimals --decimal --mark" ;;
+        export) words="--help --columns --decimals --decimal --game --mark" ;;
         page) words="--help --game --source --program" ;;
         bars) words="--help --decimals --game" ;;
         sweep) words="--help --rule --from --to --step --picture --index --program" ;;
-        compare) words="--help --same" ;;
+        compare) words="--help --same --game" ;;
         esac
     fi
     if [[ -n $words ]]; then

@@ -98,9 +98,10 @@ for game in "$here"/examples/*.toml "$here"/examples/*.txt; do
     run_there "in the archive, example ${game##*/}" "${game%.toml}.tsv" ./council "${words[@]}" "examples/${game##*/}"
 done
 if as_user sh -c 'command -v python3' >/dev/null; then
+    "$top/tools/council-tools" table "$top/examples/eec-1958.tsv" >"$temp/wanted"
     (cd "$here" && as_user ./council examples/eec-1958.toml | as_user bin/council-tools table) >"$temp/out" 2>"$temp/err"
     status=$?
-    printed "in the archive, council-tools table" "$top/tests/using/wanted/table.txt"
+    printed "in the archive, council-tools table" "$temp/wanted"
     # it finds the program of the archive
     name="in the archive, council-tools sweep"
     (cd "$temp/home" && as_user "$here/bin/council-tools" sweep --from 12 --to 12 "$here/examples/eec-1958.toml") >"$temp/out" 2>"$temp/err"

@@ -45,7 +45,7 @@ command -v find >/dev/null || {
     skipped "$(basename "$0")" "this machine has no find"
     exit 0
 }
-for name in council_game council_file mwc_walk mwc_pipe power_index mwc_tally mwc_closed_count mwc_gather council_report council_run; do
+for name in council_game council_file mwc_walk mwc_pipe power_index mwc_tally mwc_states mwc_gather council_report council_run; do
     are_built "$name" || exit 1
 done
 
@@ -133,13 +133,6 @@ takes_memory() {
     sweep REFUSE_FROM "$1" "$2" "out of memory" "${@:3}"
 }
 
-# starts_threads CRATE TEST: where allocations are refused, the call answers that a thread did not
-# start.
-starts_threads() {
-    sweep REFUSE_AT "$1" "$2" "not started"
-    sweep REFUSE_FROM "$1" "$2" "not started"
-}
-
 # takes_none CRATE TEST: the call works while all allocations are refused.
 takes_none() {
     local why=''
@@ -198,7 +191,6 @@ takes_none power_index counts_without_memory
 takes_memory power_index gives_all_indices
 asks_for_little power_index gives_all_indices
 takes_memory mwc_tally tallies "not started"
-starts_threads mwc_tally tallies_pieces
 # a worker that runs out of memory leaves no slice to those that start after it
 preload=:$temp/in_turn.so
 takes_memory mwc_tally tallies_in_turn "not started"
@@ -219,13 +211,8 @@ if has_shape; then ok "$name, REFUSE_FROM"; else failed "$name, REFUSE_FROM" "$w
 preload=
 shape=''
 takes_none mwc_tally tallies_a_slice_without_memory
-takes_memory mwc_closed_count counts_by_sums
-takes_memory mwc_closed_count counts_by_halves
-takes_memory mwc_closed_count counts_by_chambers
-takes_memory mwc_closed_count counts_in_part
-takes_memory mwc_closed_count counts_by_kinds
-takes_memory mwc_closed_count counts_by_kinds_under_two_rules
-takes_memory mwc_closed_count counts_by_kinds_under_four_rules
+takes_memory mwc_states counts_under_one_rule
+takes_memory mwc_states counts_under_three_rules
 # room for three handles; for each of three workers its room, and the start of its thread; and what
 # comes then
 shape='o+(o{4,})(s+)\1\2\1\2o+'
@@ -236,19 +223,16 @@ takes_memory mwc_gather puts_parts_in_order
 takes_memory mwc_gather finds_the_pieces
 takes_memory mwc_gather sends_into_a_batch
 takes_none mwc_gather marks_without_memory
-# a run of three workers: the game, with several rules also the game by contribution, the gathering
-# as above, the row of pieces, the two threads that it starts for counting, and the report
-shape='g+o*m+(m{4,})(s+)\1\2\1\2m+o+(s+)\3o+'
+# a run of three workers: the game, its states, before them with several rules the game by
+# contribution, the gathering as above, and the report
+shape='g+o+m+(m{4,})(s+)\1\2\1\2m+o+'
 for game in runs_on_brackets runs_on_toml runs_on_turned_rules; do
     for how in REFUSE_AT REFUSE_FROM; do
         sweep "$how" council_run "$game" "no memory for the game" "no memory to gather" "not started" "out of memory"
     done
 done
-# a tally by sums: the game, the counts and the report; by threads: the game, the room, the starts
-# of three threads, beside which those that run already make room for their counts, and the report
+# a tally by states: the game, its states and the report
+shape='g+o+'
 for how in REFUSE_AT REFUSE_FROM; do
-    shape='g+o+'
-    sweep "$how" council_run tallies_by_sums "no memory for the game" "out of memory"
-    shape='g+o+s[so]*o+'
-    sweep "$how" council_run tallies_by_threads "no memory for the game" "not started" "out of memory"
+    sweep "$how" council_run tallies_by_states "no memory for the game" "out of memory"
 done

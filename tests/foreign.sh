@@ -102,17 +102,17 @@ game_file 3 1 1 1 1 1 >"$temp/ten.toml"
 same "exactly the most" "$temp/ten.toml" --most 10
 same "one more than the most" "$temp/ten.toml" --most 9
 equal_members 24 12 >"$temp/many.txt"
-same "more than a million" "$temp/many.txt"
+same "more than a million" "$temp/many.txt" --most 1000000
 same "more than a million, with the most above" "$temp/many.txt" --most 4000000
 
-# ---- counted by sums, as by the program: these 29 members of different weights have tens of
-# millions of coalitions, which a walk would count one by one. With sums it takes a tenth of a
+# ---- counted by states, as by the program: these 29 members of different weights have tens of
+# millions of coalitions, which a walk would count one by one. With states it takes a tenth of a
 # second, and it may take thirty times as long
-game_file 14200 {1000..1025} >"$temp/sums.toml"
-printf '[[member]]\nname = "%s"\nweight = %s\n' AA 1026 BB 1027 CC 1028 >>"$temp/sums.toml"
+game_file 14200 {1000..1025} >"$temp/states.toml"
+printf '[[member]]\nname = "%s"\nweight = %s\n' AA 1026 BB 1027 CC 1028 >>"$temp/states.toml"
 whole=$limit
 limit=$((seconds / 20))
-same "29 members, counted by sums" "$temp/sums.toml" --tally
+same "29 members, counted by states" "$temp/states.toml" --tally
 limit=$whole
 
 # ---- counted by kinds, as by the program: these members of two kinds have 75,370,861,360

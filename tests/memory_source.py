@@ -30,7 +30,7 @@ ASKS = re.compile(rf"(?:if |let \w+ = ){GROWTH}\.is_err\(\)(?: \{{|;)$|if let Er
 PROVED = re.compile(r"prove!\(matches!\(\w+, (?:[A-Z]\w*::)?Memory\)\);$")
 # a refusal that is reported, a call that is asked whether it failed, and a growth by a great number
 # that the code makes up
-LOSS = re.compile(r"\.lose\(\)|\blost\s*\|?=(?![=>])(?! false;)|\.is_(?:err|ok)\(\)|(?:reserve\w*|with_capacity|resize)\(.*(?:\d{4}|\d_\d|<<|(?<!limits::)\b[A-Z]{2})")
+LOSS = re.compile(r"\.lose\(\)|\blost\s*\|?=(?![=>])(?! false;)|\.is_(?:err|ok)\(\)|(?:(?:reserve\w*|with_capacity)\(.*|resize\([^,]*)(?:\d{4}|\d_\d|<<|(?<!limits::)\b[A-Z]{2})")
 
 
 def code_lines(path):

@@ -9,7 +9,7 @@
 # without a proof.
 #
 #     tests/mutants.sh [NAME..]            the edits of these names, or all, half a minute to two minutes each
-#     tests/mutants.sh --some N            N of those that are neither late nor slow, others with each day and each commit
+#     tests/mutants.sh --some N            N of those that are neither late nor slow, which the sources choose
 #     tests/mutants.sh --fit [NAME..]      says only whether each can still be put into the sources
 #
 # It needs python3 and the toolchain's rt, and the libraries below each crate as `rt check` leaves
@@ -113,10 +113,10 @@ judge() {
 }
 
 found=0
-# Some of them: others with each day and each commit, and all come round.
+# Some of them, which the sources choose.
 if [ $some -gt 0 ]; then
     mapfile -t all < <(grep -LE '^test: .* (late|slow)$' "$top"/tests/mutants/*.edit)
-    first=$((($(date +%s) / 86400 + $(git -C "$top" rev-list --count HEAD 2>/dev/null || echo 0)) * some))
+    first=$(cat "$top"/crates/*/src/*.rt | cksum | cut -d" " -f1)
     set --
     for ((k = 0; k < some; k++)); do set -- "$@" "${all[(first + k) % ${#all[@]}]}"; done
 fi

@@ -16,6 +16,7 @@ types() {
     if [ "$status" -eq 0 ]; then ok "$name"; else failed "$name" "$(head -n 2 "$temp/out" | tr '\n' ' ')"; fi
 }
 types "python/src and tools/tool_pages.py" --strict python/src/council tools/tool_pages.py
+types "python/src on Python 3.9" --strict --python-version 3.9 python/src/council
 types "python/backend.py and tools" python/backend.py tools/build.py tools/reference.py
 
 if needs python3 "the package for Python" "the package for R"; then

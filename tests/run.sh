@@ -11,9 +11,9 @@
 # on this machine. The last line is `N passed, M failed`, with `, K skipped` after it if some
 # were, and the status is not 0 if any failed.
 #
-# It sees whether each of the edits of mutants/ can still be planted, and plants two of them,
-# others with each day and each commit (mutants.sh); with COUNCIL_MUTANTS=1 it plants them all, more
-# than half an hour more.
+# It sees whether each of the edits of mutants/ and of refused/ can still be planted, and plants one
+# of each, which the sources choose (mutants.sh, refused.py); with COUNCIL_MUTANTS=1 it plants them
+# all, more than an hour more.
 #
 # A machine must have bash, python3, cc (to refuse allocations), taskset (for runs on one
 # processor), and the toolchain's rt; what is missing is said, and what wants it is skipped.
@@ -79,7 +79,7 @@ else
         keep library make_library &
         library=$!
     fi
-    for name in mutants $scripts mutants_fit $programs $callers; do
+    for name in mutants ${programs:+refused} $scripts mutants_fit ${programs:+refused_fit} $programs $callers; do
         while [ "$(jobs -rp | wc -l)" -ge "$lanes" ]; do
             wait -n
         done
@@ -90,9 +90,17 @@ else
             if [ "${COUNCIL_MUTANTS:-0}" = 1 ]; then
                 keep mutants bash tests/mutants.sh &
             else
-                keep mutants bash tests/mutants.sh --some 2 &
+                keep mutants bash tests/mutants.sh --some 1 &
             fi
             ;;
+        refused)
+            if [ "${COUNCIL_MUTANTS:-0}" = 1 ]; then
+                keep refused python3 tests/refused.py &
+            else
+                keep refused python3 tests/refused.py --some 1 &
+            fi
+            ;;
+        refused_fit) keep refused_fit python3 tests/refused.py --fit & ;;
         mutants_fit) keep mutants_fit bash tests/mutants.sh --fit & ;;
         random_games) keep $name python3 tests/random_games.py "$program" 150 1 & ;;
         explained) keep $name python3 tests/explained.py "$program" 300 1 & ;;
@@ -105,11 +113,11 @@ else
     # each of its runs is to end within a second, so nothing runs beside it
     [ -z "$programs" ] || keep fuzz python3 tests/fuzz.py "$program" 300 1
     [ -z "$programs" ] || keep statutes python3 tests/fuzz.py "$program" 20 1 statutes
-    for name in $scripts mutants mutants_fit $programs ${library:+library} $callers ${programs:+fuzz statutes}; do
+    for name in $scripts mutants mutants_fit ${programs:+refused refused_fit} $programs ${library:+library} $callers ${programs:+fuzz statutes}; do
         count "$name"
     done
     if [ -z "$programs" ]; then
-        for test in cases explained every_size memory_source gate_source reading style visibility fuzz statutes random_games; do
+        for test in refused cases explained every_size memory_source gate_source reading style visibility fuzz statutes random_games; do
             echo "skipped $test: this machine has no python3"
             skipped=$((skipped + 1))
         done

@@ -40,22 +40,11 @@ for words in "--workers 1" "--workers 4" "--workers 16" "--workers 16 --list"; d
     read -ra options <<<"$words"
     on_small_stack "$words" examples/eu-27-nice "${options[@]}"
 done
-on_small_stack "a tally by sums" examples/eu-1995 --tally
-on_small_stack "a tally by halves" examples/share-register --tally
+on_small_stack "a tally by states" examples/eu-1995 --tally
 on_small_stack "a tally of chambers" examples/us-federal --tally
 on_small_stack "a tally beside a vetoer" docs/statutes/veto --tally
 on_small_stack "a tally of a chamber with heads beside another" docs/statutes/two-holders --tally
-on_small_stack "a tally by threads" examples/eu-27-nice --tally --workers 16
-# the same Council beside six seats that it shares nothing with: threads count only the Council
-member=0
-{
-    sed 's/^quotas = \[\(.*\)\]/quotas = [\1, 10]/; s/^weights = \[\(.*\)\]/weights = [\1, 0]/' "$top/examples/eu-27-nice.toml"
-    for seat in 5 4 3 3 2 1; do
-        member=$((member + 1))
-        printf '[[member]]\nname = "Seat %s"\nweights = [0, 0, 0, %s]\n' "$member" "$seat"
-    done
-} >"$temp/beside.toml"
-on_small_stack "a tally in part by threads" "$temp/beside" --tally --workers 16
+on_small_stack "a tally of three rules" examples/eu-27-nice --tally --workers 16
 
 # ---- random games of every kind, by runs and by tallies
 name="a stack of 192 KB, random games"

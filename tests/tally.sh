@@ -3,7 +3,7 @@
 # far it has come.
 . "$(dirname "$0")/common.sh"
 
-# these take less than a second, by sums milliseconds; one by one some would take minutes
+# these take less than a second, by states milliseconds; one by one some would take minutes
 limit=$((seconds / 6))
 for game in "$top"/examples/*.toml "$top"/examples/*.txt; do
     run --tally "$game"
@@ -193,44 +193,37 @@ fi
 if needs python3 "a long tally on a terminal"; then
     compile_preloaded clock
     clock=$temp/clock.so
-    # a game that takes some seconds in one thread: any 8 members win, by three rules that sums do
-    # not take, and under each rule all weights differ a little: no two members are of one
-    # kind
-    {
-        echo 'quotas = [8000000, 8000000, 8000000]'
-        for ((member = 1; member <= 40; member++)); do
-            printf '[[member]]\nname = "%s"\nweights = [%s, %s, %s]\n' "$member" "$((1000000 + member))" \
-                "$((1000041 - member))" "$((1000000 + member * 7 % 41))"
-        done
-    } >"$temp/three.toml"
+    # games of three rules where any 8, 11 or 20 members win, and no two members are alike: the
+    # first takes 600,000 states, and the others too many
+    for needed in 8 11 20; do
+        python3 - "$needed" >"$temp/any-$needed.toml" <<'END'
+import random, sys
+random.seed(5)
+needed = int(sys.argv[1])
+print("quotas =", [needed * (10**12 - 10**8)] * 3)
+for member in range(1, 41):
+    print(f'[[member]]\nname = "{member}"\nweights =', [10**12 - random.randrange(10**8) for rule in range(3)])
+END
+    done
     export PYTHONPATH=$top/tests PYTHONDONTWRITEBYTECODE=1
-    if timeout "$seconds" python3 - "$program" "$temp/three.toml" "$temp/out" "$clock" >"$temp/told" 2>&1 <<'END'
+    if timeout "$seconds" python3 - "$program" "$temp/any-8.toml" "$temp/out" "$clock" >"$temp/told" 2>&1 <<'END'
 import re, sys
 from terminal import Run
 with open(sys.argv[3], "wb") as out:
-    run = Run([sys.argv[1], "--tally", "--workers", "1", "--bits", "10", sys.argv[2]], out, clock=sys.argv[4])
+    run = Run([sys.argv[1], "--tally", "--workers", "1", sys.argv[2]], out, clock=sys.argv[4])
 status = run.read_all()
 assert status == 0, status
 with open(sys.argv[3], "rb") as out:
     report = out.read()
 assert report.startswith(b"members\t40\n") and b"minimal\t76904685\n" in report, report[:80]
-lines = re.findall(rb"\rcouncil: ([0-9,]+) coalitions found, ([0-9]+) of 1024 slices done", run.told)
-assert lines, run.told[:200]
-for column in (0, 1):
-    numbers = [int(it[column].replace(b",", b"")) for it in lines]
-    assert numbers == sorted(numbers) and numbers[0] < numbers[-1], numbers
-slices = [int(it[1]) for it in lines]
-assert all(there - here in (0, 1) for here, there in zip(slices, slices[1:])), slices
-# all coalitions of the last slice are shown, and then the line is wiped, once
-assert lines[-1] == (b"76,904,685", b"1023"), lines[-1]
 progress, wiped, remark = run.told.partition(b"\r\x1b[K")
-assert progress.endswith(b" of 1024 slices done") and b"\n" not in progress, progress[-80:]
-assert remark == b"council: each quota is at most half of its total, so two coalitions without a common member could win\r\n", remark
+numbers = [int(it) for it in re.findall(rb"\rcouncil: ([0-9]+) of 40 members decided", run.told)]
+assert numbers and numbers == list(range(numbers[0], 41)), numbers
+assert run.told.endswith(b"\r\x1b[Kcouncil: each quota is at most half of its total, so two coalitions without a common member could win\r\n"), run.told[-200:]
 END
     then ok "a long tally on a terminal"; else failed "a long tally on a terminal" "$(tail -n 1 "$temp/told")"; fi
     # a first slice of 225,792,840 coalitions: they are shown before it is done
-    sed 's/8000000/20000000/g' "$temp/three.toml" >"$temp/half.toml"
-    if timeout "$seconds" python3 - "$program" "$temp/half.toml" "$clock" >"$temp/told" 2>&1 <<'END'
+    if timeout "$seconds" python3 - "$program" "$temp/any-20.toml" "$clock" >"$temp/told" 2>&1 <<'END'
 import re, sys
 from terminal import Run
 line = re.compile(rb"\rcouncil: ([0-9,]+) coalitions found, 0 of 256 slices done")
@@ -243,22 +236,24 @@ END
     then ok "the first slice on a terminal"; else failed "the first slice on a terminal" "$(tail -n 1 "$temp/told")"; fi
     # of two workers only the first one starts, and takes no further slice
     compile_preloaded few_threads
-    THREADS=1 LD_PRELOAD=$temp/few_threads.so run --tally --workers 2 --bits 10 "$temp/half.toml"
+    THREADS=1 LD_PRELOAD=$temp/few_threads.so run --tally --workers 2 --bits 10 "$temp/any-20.toml"
     refused "a long tally of which one worker starts" 5 "a worker could not be started"
     # one of two workers runs out of memory, and the other one takes no further slice: the first
     # takes seconds, and all of them minutes
-    sed 's/8000000/11000000/g' "$temp/three.toml" >"$temp/eleven.toml"
     compile_preloaded refuse
     if timeout "$((5 * seconds))" python3 - "$program" "$temp" "$seconds" >"$temp/told" 2>&1 <<'END'
-import os, select, subprocess, sys
+import os, select, subprocess, sys, time
 program, folder, seconds = sys.argv[1:]
 refuse, few = f"{folder}/refuse.so", f"{folder}/few_threads.so"
 def start(loaded, at):
     environment = {**os.environ, "LD_PRELOAD": loaded, "REFUSE_AT": str(at), "THREADS": "0"}
-    words = [program, "--tally", "--workers", "2", "--bits", "10", f"{folder}/eleven.toml"]
+    words = [program, "--tally", "--workers", "2", "--bits", "10", f"{folder}/any-11.toml"]
     return subprocess.Popen(words, env=environment, stderr=subprocess.PIPE)
-# how many allocations there are before the first worker starts
-before, after = 0, 1 << 16
+# how many allocations there are before the first worker starts, and how long that takes
+begun = time.monotonic()
+start(f"{refuse}:{few}", 1 << 20).communicate()
+before_workers = time.monotonic() - begun
+before, after = 0, 1 << 13
 while after - before > 1:
     at = (before + after) // 2
     if b"refuse: " in start(f"{refuse}:{few}", at).communicate()[1]:
@@ -266,11 +261,11 @@ while after - before > 1:
     else:
         after = at
 ended = 0
-for at in range(before + 1, before + 9):
+for at in range(before + 1, before + 5):
     run = start(refuse, at)
     try:
         # later allocations are those of workers that have done their first slices
-        if not select.select([run.stderr], [], [], 2)[0]:
+        if not select.select([run.stderr], [], [], 2 + before_workers)[0]:
             break
         _, told = run.communicate(timeout=int(seconds))
     finally:
@@ -279,25 +274,25 @@ for at in range(before + 1, before + 9):
     # (a thread takes memory as it starts)
     faults = b"council: out of memory\n", b"council: a worker could not be started\n"
     assert run.returncode == 5 and told.endswith(faults), (at, run.returncode, told)
-assert 1 < ended < 8, ended
+assert ended > 1, ended
 END
     then ok "a long tally that runs out of memory"; else failed "a long tally that runs out of memory" "$(tail -n 1 "$temp/told")"; fi
     # a fault at the end: the line is wiped before it
     name="a long tally on a terminal, and /dev/full"
     if [ ! -e /dev/full ]; then
         skipped "$name" "there is no /dev/full"
-    elif timeout "$seconds" python3 - "$program" "$temp/three.toml" "$clock" >"$temp/told" 2>&1 <<'END'
+    elif timeout "$seconds" python3 - "$program" "$temp/any-8.toml" "$clock" >"$temp/told" 2>&1 <<'END'
 import sys
 from terminal import Run
 with open("/dev/full", "wb") as full:
     run = Run([sys.argv[1], "--tally", "--workers", "1", "--bits", "10", sys.argv[2]], full, clock=sys.argv[3])
 status = run.read_all()
 assert status == 5, status
-assert b"coalitions found" in run.told, run.told[:60]
+assert b"members decided" in run.told, run.told[:60]
 assert run.told.endswith(b"\r\x1b[Kcouncil: output failed\r\n"), run.told[-80:]
 END
     then ok "$name"; else failed "$name" "$(tail -n 1 "$temp/told")"; fi
-    run --tally --workers 1 "$temp/three.toml"
+    run --tally --workers 1 "$temp/any-8.toml"
     if succeeded "a long tally without a terminal"; then ok "a long tally without a terminal"; fi
 fi
 
@@ -389,12 +384,12 @@ write_rules "$((total / 2 + 1)), 1" "${rows[@]}"
 counted "39 random weights of nine digits, and a vetoer" "$temp/rules.toml" 4183436737 4183436737 309465122
 limit=$seconds
 
-# ---- what memory a tally of one rule takes: a little for weights up to 1,000, and never much
+# ---- what memory a tally of one rule takes: a little for weights up to 1,000, and at most 250 MB
 if needs python3 "the memory of tallies of one rule"; then
     if timeout "$seconds" python3 - "$program" "$temp" >"$temp/told" 2>&1 <<'END'
 import os, random, subprocess, sys
 rng = random.Random(7)
-for most, limit in [(1000, 32_000), (10**12, 64_000)]:
+for most, limit in [(1000, 32_000), (10**12, 250_000)]:
     weights = [rng.randrange(most // 2, most) + 1 for _ in range(40)]
     game = f"{sys.argv[2]}/heavy.txt"
     with open(game, "w", encoding="utf-8") as it:

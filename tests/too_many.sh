@@ -4,8 +4,12 @@
 many="too many minimal winning coalitions"
 
 equal_members 40 6 >"$temp/six.txt"
+run "$temp/six.txt" --list
+refused "40 equal members, quota 6, --list" 4 "$many"
+run --tally "$temp/six.txt"
+cp "$temp/out" "$temp/wanted"
 run "$temp/six.txt"
-refused "40 equal members, quota 6" 4 "$many"
+printed "40 equal members, quota 6: counted" "$temp/wanted"
 
 equal_members 40 20 >"$temp/twenty.txt"
 run "$temp/twenty.txt" --most 1 --workers 4

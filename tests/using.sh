@@ -1,36 +1,20 @@
 #!/usr/bin/env bash
-# council-tools on the stored reports, the picture in README.md, and the commands of README.md and
+# council-tools on the stored reports, and the picture and the commands of README.md and
 # docs/GUIDE.md.
 . "$(dirname "$0")/common.sh"
 cd "$top" || exit 1
 export PYTHONDONTWRITEBYTECODE=1
 
-# draws NAME WANTED COMMAND..: whether the command prints what the file WANTED holds.
-draws() {
-    local name=$1 wanted=$2
-    shift 2
-    "$@" >"$temp/out" 2>"$temp/err"
-    status=$?
-    printed "$name" "$wanted"
-}
-
 tools=$top/tools/council-tools
-if needs python3 "council-tools table" "the picture in README.md" "council-tools table on each example" "council-tools table on a refused game" "council-tools compare"; then
-    draws "council-tools table" tests/using/wanted/table.txt "$tools" table <examples/eec-1958.tsv
-    draws "the picture in README.md" docs/eec-1958.svg "$tools" bars examples/eec-1958.tsv
-    draws "council-tools compare" tests/using/wanted/compare.txt "$tools" compare examples/eec-1958.tsv examples/ec-1973.tsv
+if needs python3 "the picture in README.md" "council-tools table on each example"; then
+    "$tools" bars <examples/eec-1958.tsv >"$temp/out" 2>"$temp/err"
+    status=$?
+    printed "the picture in README.md" docs/eec-1958.svg
     why=
     for report in examples/*.tsv; do
         "$tools" table "$report" >/dev/null 2>"$temp/err" || why="$report: $(tail -n 1 "$temp/err")"
     done
     if [ -z "$why" ]; then ok "council-tools table on each example"; else failed "council-tools table on each example" "$why"; fi
-    told=$("$tools" table </dev/null 2>&1)
-    status=$?
-    if [ "$status" -eq 1 ] && [ "$told" = "council-tools table: there is no report: nothing was read (was the game refused?)" ]; then
-        ok "council-tools table on a refused game"
-    else
-        failed "council-tools table on a refused game" "status $status: $told"
-    fi
 fi
 # What each tool does with tables, names and reports of any kind, and what it refuses.
 if needs python3 tests/using; then

@@ -39,15 +39,17 @@ if [ -z "$why" ] && grep -q "^minimal	393212$" "$temp/chunks.tsv"; then ok "$nam
 
 # slow_game QUOTAS MEMBERS: a game that takes long. The last quota is of the first twelve members,
 # the second one of the others, and the first of all. The last member has little weight, and only
-# under the second rule, so no price shows it.
+# under the second rule, so no price shows it. The weights differ a little, so there are more states
+# than are counted before a list.
 slow_game() {
-    local member weights
+    local member x=7 weights
     echo "quotas = [$1]"
     for ((member = 1; member <= $2; member++)); do
+        x=$(((75 * x + 74) % 65537))
         if [ "$member" -le 12 ]; then
-            weights="1000, 0, 1000"
+            weights="$((1000000 + x % 997)), 0, $((1000000 + x % 991))"
         elif [ "$member" -lt "$2" ]; then
-            weights="1000, 1000, 0"
+            weights="$((1000000 + x % 997)), $((1000000 + x % 991)), 0"
         else
             weights="0, 1, 0"
         fi
@@ -101,7 +103,7 @@ END
     # a game that takes hours: 21 of 39 members must agree, 6 of the first twelve and 15 of the
     # others, so a coalition with a seventh of the twelve is never minimal. The run is ended once it
     # was told of four times, before it has found a coalition
-    slow_game '21000, 15000, 6000' 40 >"$temp/barren.toml"
+    slow_game '21000000, 15000000, 6000000' 40 >"$temp/barren.toml"
     if timeout "$seconds" python3 - "$program" "$temp/barren.toml" "$clock" >"$temp/told" 2>&1 <<'END'
 import re, sys
 from terminal import Run
@@ -118,7 +120,7 @@ END
     then ok "a barren run on a terminal"; else failed "a barren run on a terminal" "$(tail -n 1 "$temp/told")"; fi
     # 6 of 12 and 12 of 22 members must agree, and nothing is found for some seconds: the line that
     # tells of prefixes is wiped before the first one that does not, which is shorter
-    slow_game '18000, 12000, 6000' 35 >"$temp/found.toml"
+    slow_game '18000000, 12000000, 6000000' 35 >"$temp/found.toml"
     if timeout "$seconds" python3 - "$program" "$temp/found.toml" "$clock" >"$temp/told" 2>&1 <<'END'
 import re, sys
 from terminal import Run
@@ -129,9 +131,17 @@ run.kill()
 assert not re.search(rb"prefixes examined\rcouncil: [1-9]", run.told), run.told[-160:]
 END
     then ok "a late coalition on a terminal"; else failed "a late coalition on a terminal" "$(tail -n 1 "$temp/told")"; fi
-    # the game of 3,838,380 coalitions where one fewer is asked for: the line is wiped before the
-    # fault
-    if timeout "$seconds" python3 - "$program" "$temp/long.toml" "$clock" >"$temp/told" 2>&1 <<'END'
+    # a game of 3,838,380 coalitions and many states where one fewer is asked for: the line is wiped
+    # before the fault
+    {
+        echo 'quota = 59400000000'
+        x=7
+        for ((member = 1; member <= 40; member++)); do
+            x=$(((75 * x + 74) % 65537))
+            printf '[[member]]\nname = "%s"\nweight = %s\n' "$member" "$((10000000000 - x * 1523))"
+        done
+    } >"$temp/late.toml"
+    if timeout "$seconds" python3 - "$program" "$temp/late.toml" "$clock" >"$temp/told" 2>&1 <<'END'
 import sys
 from terminal import Run
 run = Run([sys.argv[1], "--workers", "1", "--bits", "10", "--most", "3838379", sys.argv[2]], clock=sys.argv[3])
@@ -184,14 +194,14 @@ END
     then ok "a game from a terminal"; else failed "a game from a terminal" "$(tail -n 1 "$temp/told")"; fi
 fi
 
-# ---- 16 threads list those 393212 coalitions, and then 15 count them beside the first one
+# ---- 16 threads list those 393212 coalitions
 name="threads of 393212 coalitions with 16 workers"
 compile_preloaded few_threads
 # started THREADS: the run with no more threads than that
 started() {
     THREADS=$1 LD_PRELOAD=$temp/few_threads.so run "$temp/chunks.txt" --workers 16
 }
-started 30
+started 15
 refused "$name, one too few start" 5 "a worker could not be started"
-started 31
+started 16
 printed "$name, all start" "$temp/chunks.tsv"

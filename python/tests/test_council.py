@@ -21,6 +21,7 @@ import tempfile
 import threading
 import time
 import unittest
+import warnings
 from decimal import Decimal
 from fractions import Fraction
 from pathlib import Path
@@ -35,7 +36,8 @@ except ImportError:
     sys.path.insert(0, str(HERE.parent / "src"))
     import council
 sys.path.insert(0, str(TOP / "tests"))
-import oracle  # noqa: E402 (it is beside the clone's other tests)
+import lines  # noqa: E402 (it is beside the clone's other tests, as is oracle)
+import oracle  # noqa: E402
 
 from council import engine, game, reports  # noqa: E402
 from council.engine import find_library, find_program  # noqa: E402
@@ -105,8 +107,8 @@ class Reports(unittest.TestCase):
             with self.subTest(at):
                 quotas, columns = [it for it, _ in rules], [it for _, it in rules]
                 one = len(rules) == 1
-                self.check_same(council.report(quotas[0] if one else quotas, columns[0] if one else columns, names=names, title="T"), wanted)
-                listed = council.report(quotas, columns, names=names, title="T", coalitions=True)
+                self.check_same(council.report(quotas[0] if one else quotas, columns[0] if one else columns, names=names, title="T", by=None if one else "rule"), wanted)
+                listed = council.report(quotas, columns, names=names, title="T", coalitions=True, by="rule")
                 self.check_same(listed, wanted)
                 game = oracle.Game("T", names, rules)
                 found = [tuple(names[game.ranked[place]] for place in it) for it in oracle.minimal_coalitions(game)]
@@ -158,6 +160,8 @@ class Reports(unittest.TestCase):
         self.assertEqual(council.report(51, iter([50, 49, 1]), names=range(1, 4)).members, wanted)
         votes = [mock.Mock(spec=["__index__"], __index__=lambda _, it=it: it) for it in (51, 50, 49, 1)]
         self.assertEqual(council.report(votes[0], votes[1:]).members, wanted)
+        for it in 0.29 * 100, Decimal("28.9999999999"), 29 + Fraction(1, 10**12):
+            self.assertEqual(council.report(it, [it, 1]).members[0].weights, (29,))
         exact = council.report(Fraction(10**12), [Decimal(10**12), 1]).members[0]
         self.assertEqual(exact.weights, (10**12,))
 
@@ -176,17 +180,19 @@ class Reports(unittest.TestCase):
 
     def test_refused_games(self):
         bad = find_refusal(51, [50, 16.5])
-        self.assertEqual((bad.fault, bad.status, bad.line), ("bad weight of member 2", 3, 9))
+        self.assertEqual((bad.fault, bad.status, bad.line), ("bad weight of member 2", 3, None))
+        self.assertTrue(str(bad).startswith("bad weight of member 2\nweight = 16.5\n16.5 is a number with a point"))
+        bad = find_refusal(game=bad.game)
         self.assertTrue(str(bad).startswith("bad weight of member 2\nline 9: weight = 16.5\n16.5 is a number with a point"))
         self.assertEqual(bad.game.split("\n")[bad.line - 1], "weight = 16.5")
         again = pickle.loads(pickle.dumps(bad))
         self.assertEqual((str(again), again.line, again.game, again.status), (str(bad), bad.line, bad.game, bad.status))
         for kind in (float, Fraction, Decimal):
-            self.assertEqual(find_refusal(51, [50, kind("16.5")]).explanation, bad.explanation)
+            self.assertEqual("line 9: " + find_refusal(51, [50, kind("16.5")]).explanation, bad.explanation)
         for words, fault in [
             ((200, [50, 49]), "quota out of range"), ((0.85, [1]), "bad quota"), ((1, [1] * (game.MEMBERS + 1)), "bad member list"), ((1, []), "bad member list"),
-            ((1, [50 + Fraction(1, 10**12)]), "bad weight of member 1"), ((1, [-1, 2]), "bad weight of member 1"), ((1, [1, float("nan")]), "bad weight of member 2"), ((1, [Decimal("sNaN")]), "bad weight of member 1"), ((1, [Decimal("-Infinity")]), "bad weight of member 1"), ((1, [float("inf")]), "bad weight of member 1"),
-            ((1, [game.WEIGHT + 1]), "bad weight of member 1"), ((10**30, [1]), "the game file is not TOML"), ((1, [10**5000]), "the game file is not TOML"), ((1, [Decimal(10**5000)]), "the game file is not TOML"), (([1] * (game.RULES + 1), [[1]] * (game.RULES + 1)), "bad rules"),
+            ((1, [50 + Fraction(1, 10**8)]), "bad weight of member 1"), ((1, [0.3 * 100 + 1e-8]), "bad weight of member 1"), ((1, [-1, 2]), "bad weight of member 1"), ((1, [1, float("nan")]), "bad weight of member 2"), ((1, [Decimal("sNaN")]), "bad weight of member 1"), ((1, [Decimal("-Infinity")]), "bad weight of member 1"), ((1, [float("inf")]), "bad weight of member 1"),
+            ((1, [game.WEIGHT + 1]), "bad weight of member 1"), ((10**30, [1]), "the game file is not TOML"), ((1, [10**5000]), "the game file is not TOML"), ((1, [Decimal(10**5000)]), "the game file is not TOML"), (([1] * (game.RULES + 1), [[1, 1]] * (game.RULES + 1)), "bad rules"),
         ]:
             it = find_refusal(*words)
             self.assertEqual(it.fault, fault)
@@ -205,7 +211,7 @@ class Reports(unittest.TestCase):
         self.assertEqual(find_refusal([], []).fault, "bad rules")
 
     def test_words_that_are_no_game(self):
-        ways, parts, belong = "give a quota and weights, or a file, or a game", "give a quota and weights", "names and a title belong to a quota and weights"
+        ways, parts, belong = "give a quota and weights, or a file, or a game", "give a quota and weights", "names, a title and by= belong to a quota and weights"
         for words, more, text in [
             ((), {}, ways), ((51, [1]), {"file": "x"}, ways), ((51,), {"file": "x"}, ways), ((None, [1]), {"file": "x"}, ways), ((), {"file": "x", "game": "y"}, ways),
             ((51,), {}, parts), ((None, [1]), {}, parts), ((), {"game": "[1; 1]", "names": ["A"]}, belong), ((), {"game": "[1; 1]", "title": "T"}, belong), ((), {"file": "x", "names": []}, belong),
@@ -226,6 +232,19 @@ class Reports(unittest.TestCase):
             self.assertEqual(str(caught.exception), text)
         with self.assertRaises(FileNotFoundError):
             council.report(file="no-such-file.toml")
+
+    def test_tables_by_rule_and_by_member(self):
+        by_rule = [[3, 2, 2, 1], [1, 1, 1, 1]]
+        wanted = council.report([5, 3], by_rule)
+        for more in {}, {"by": "member"}:
+            self.check_same(council.report([5, 3], list(zip(*by_rule)), **more), wanted)
+        square = [[3, 2], [1, 1]]
+        self.assertEqual([it.weights for it in council.report([4, 1], square, by="rule").members], [(3, 1), (2, 1)])
+        self.assertEqual([it.weights for it in council.report([3, 2], square, by="member").members], [(3, 2), (1, 1)])
+        self.assertEqual(council.report(iter([2, 2]), iter([[2, 1], [1, 1]])).minimal, 1)
+        for words, more in [(([3, 2], square), {}), (([3, 2], square), {"by": "x"}), (([5, 3], by_rule), {"by": "member"})]:
+            with self.assertRaises(ValueError):
+                council.report(*words, **more)
 
     def test_rows(self):
         columns = ["coalitions", "deegan_packel", "public_good", "deegan_packel_exact", "public_good_exact"]
@@ -362,6 +381,14 @@ class Reports(unittest.TestCase):
         frame = pandas.DataFrame({"votes": [3, 2, 2, 1], "heads": [1, 1, 1, 1]}, index=list("ABCD"))
         two = council.report(frame.sum() // 2 + 1, [frame[it] for it in frame], names=frame.index)
         self.assertEqual(list(pandas.DataFrame(two.rows())["weight_1"]), [3, 2, 2, 1])
+        for weights in frame, frame[["votes", "heads"]].astype(float):
+            self.assertEqual(council.report(frame.sum() // 2 + 1, weights).members, two.members)
+        self.assertEqual(council.report([5, 3], frame.to_numpy(), names=frame.index).members, two.members)
+        self.assertEqual(council.report([5, 3], frame.to_numpy().T, names=frame.index).members, two.members)
+        self.assertEqual(council.report([3, 2], frame[:2]).members[0].weights, (3, 1))
+        self.assertEqual([it.name for it in council.report(5, frame["votes"]).members], list("ABCD"))
+        self.assertEqual(council.report(5, frame[["votes"]]).members, council.report(5, frame["votes"]).members)
+        self.assertEqual([it.name for it in council.report(5, frame["votes"].reset_index(drop=True)).members], list("1234"))
 
 
 def make_library(status, data):
@@ -533,7 +560,6 @@ class Parts(unittest.TestCase):
         for it in ("", "+1", "-1", " 1", "1_0", "\uff11", "\xb2", "1/"):
             with self.assertRaises(ValueError, msg=it):
                 reports.read_numbers(it)
-        self.check_rows(game.write_grouped, ([1234567, 12], "1,234,567/12"))
         self.check_rows(Unit("", True, 2).write, (1650, "16.50%"), (5, "0.05%"))
         self.check_rows(Unit(places=1).write, (12345678, "1,234,567.8"))
         self.check_rows(Unit().write, (1234567, "1,234,567"), (0, "0"))
@@ -591,8 +617,6 @@ class Parts(unittest.TestCase):
         self.assertEqual([it.percent for it in game.read_units(["Rule 1: percent", "Rule 1: see below"], 1)], [True])
 
     def test_the_game_of_a_report(self):
-        if sys.version_info < (3, 11):
-            self.skipTest("this Python reads no TOML")
         one, two = (51, [50, 49, 1]), ([5, 3], [[3, 2, 2, 1], [1, 1, 1, 1]])
         for it in (one, two, ([1, 1], [[1], [1]])):
             game.check_same(council.format_game_file(*it), council.report(*it))
@@ -607,43 +631,47 @@ class Parts(unittest.TestCase):
             with self.assertRaises(Fault, msg=text) as caught:
                 game.check_same(text, report)
             self.assertEqual(str(caught.exception), fault)
+        with self.assertRaises(Fault):
+            game.check_same("[51; 50, 48, 2]", report)
 
-class Lines(unittest.TextTestResult):
-    """Prints a line for each test."""
+    @unittest.skipIf(sys.version_info < (3, 11), "this Python reads no TOML itself")
+    def test_a_game_file_without_tomllib(self):
+        import tomllib
 
-    def say(self, word, test, why=""):
-        name = f"{sys.argv[1]}: " if len(sys.argv) > 1 else ""
-        print(f"{word} {name}{test.id().split('.')[-1][5:].replace('_', ' ')}{': ' if why else ''}{' '.join(str(why).split())[:300]}", flush=True)
+        def read(text):
+            return game.Toml(text + "\n").read_game()
 
-    def addSuccess(self, test):
-        super().addSuccess(test)
-        if not any(test is getattr(it, "test_case", it) for it, _ in self.failures + self.errors):
-            self.say("ok", test)
+        for path in [*TOP.glob("examples/*.toml"), *TOP.glob("docs/statutes/*.toml")]:
+            text = path.read_text(encoding="utf-8")
+            self.assertEqual(read(text), tomllib.loads(text), path)
+        for text in [
+            "quota=1_000\nmember=[{name='a\\b',weight=0x1F}] # end", "", "# c", "quotas = [\n  1, # one\n  2,\n]\n[[ member ]]\nname = ''\nweights = []", 'title = "[[member]] \\u00e9 # \\"q\\""',
+            council.format_game_file([1, 2], [[3] * len(HOSTILE), [4] * len(HOSTILE)], names=HOSTILE, title="#"),
+        ]:
+            self.assertEqual(read(text), tomllib.loads(text), text)
+        for text in ["quota", "quota =", "quota = 1.5", "quota = 1\nquota = 2", "[x]", "[[x]]", "a = [1", "a = [1 2]", "a = {b = 1", "= 1", 'a = "', "a = true", "a = '''x'''", "]", "a = }"]:
+            with self.assertRaises((ValueError, LookupError), msg=text):
+                read(text)
 
-    def addFailure(self, test, err):
-        super().addFailure(test, err)
-        self.say("FAILED", test, f"{err[0].__name__}: {err[1]}")
-
-    addError = addFailure
-
-    def addSubTest(self, test, subtest, err):
-        super().addSubTest(test, subtest, err)
-        if err is not None:
-            self.say("FAILED", test, f"{subtest.id()}: {err[0].__name__}: {err[1]}")
-
-    def addSkip(self, test, reason):
-        super().addSkip(test, reason)
-        self.say("skipped", test, reason)
+    def test_what_is_hardly_meant_is_warned_of(self):
+        for words, more, told in [
+            ((50, [50, 49, 1]), {}, ["the quota 50 is at most half of the total, 100: two coalitions"]), ((51, [50, 49, 1]), {}, []), (([51, 50], [[50, 50], [50, 50]]), {}, []),
+            (([1, 1], [[1, 1], [2, 2]]), {"by": "rule"}, ["the quota 1 of rule 1 is", "the quota 1 of rule 2 is"]), ((), {"game": "[51; 1,000, 49, 51]"}, ["a comma ends a weight, also between thousands"]),
+            ((), {"game": "[300; 1,500, 49]"}, ["a comma ends"]), ((), {"game": "[600; 100,500,49]"}, []), ((), {"game": "[51; 50, 49, 1]"}, []),
+        ]:
+            with warnings.catch_warnings(record=True) as caught:
+                warnings.simplefilter("always")
+                council.report(*words, **more)
+            self.assertEqual([str(it.message)[: len(wanted)] for it, wanted in zip(caught, told)], told)
+            self.assertEqual((len(caught), {os.path.samefile(it.filename, __file__) for it in caught} <= {True}), (len(told), True))
 
 
 def main():
     """Runs all tests. A word of the command line begins each name, to say which package it is."""
-    tests = unittest.defaultTestLoader.loadTestsFromModule(sys.modules["__main__"])
-    with open(os.devnull, "w") as none:
-        done = unittest.TextTestRunner(stream=none, resultclass=Lines).run(tests)
+    passed = lines.run("".join(f"{it}: " for it in sys.argv[1:]))
     if find_library() is None and os.environ.get("COUNCIL_LIBRARY") != "":
         print("(the library was not found: the program answered)", file=sys.stderr)
-    sys.exit(not done.wasSuccessful())
+    sys.exit(not passed)
 
 
 if __name__ == "__main__":

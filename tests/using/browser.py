@@ -13,14 +13,15 @@ import os
 import re
 import shutil
 import subprocess
+import unittest
 from itertools import combinations
 
-from cases import HOSTILE, PROGRAM, TEMP, TOP, Run, case, done, hostile_game, report, same, skipped
+from cases import HOSTILE, PROGRAM, TEMP, TOP, Run, Tests, hostile_game, main, put, report
 
 CHROMIUM = shutil.which("chromium") or shutil.which("chromium-browser") or shutil.which("google-chrome")
 WIDTHS = [390, 768, 1280]
 SCHEMES = {"light": 1, "dark": 0}
-SHOWN = [re.sub("[\ufffe\u202e\u0085]", "\ufffd", it) for it in HOSTILE]
+SHOWN = [re.sub("[\ufffe\u2028\u202e\u0085]", "\ufffd", it) for it in HOSTILE]
 LOOK = """<!DOCTYPE html><meta charset="utf-8">FRAMES<pre id="seen"></pre><script>
 const box = it => { const at = it.getBoundingClientRect(); return [at.left, at.right, at.top, at.bottom]; };
 const look = page => {
@@ -54,12 +55,6 @@ window.onload = () => {
 </script>"""
 
 
-def put(name, text):
-    with open(f"{TEMP}/{name}", "w", encoding="utf-8") as it:
-        it.write(text)
-    return f"{TEMP}/{name}"
-
-
 def show(frames, scheme):
     """Returns what Chromium shows of each frame, (kind, width, text); None if it shows nothing."""
     parts = [f'<iframe data-kind="{kind}" width="{width}" height="1200" srcdoc="{html.escape(text)}"></iframe>' for kind, width, text in frames]
@@ -87,8 +82,7 @@ def measure_contrast(one, other):
 
 
 def measure_difference(one, other):
-    """Returns how different two colors look: their distance in CIELAB, of which 2 is hardly
-    seen."""
+    """Returns how different two colors look, in CIELAB; 2 is hardly seen."""
     def lab(color):
         red, green, blue = measure_light(color)
         its = [(0.4124 * red + 0.3576 * green + 0.1805 * blue) / 0.9505, 0.2126 * red + 0.7152 * green + 0.0722 * blue, (0.0193 * red + 0.1192 * green + 0.9505 * blue) / 1.089]
@@ -102,68 +96,71 @@ def are_apart(one, other):
     return one[1] <= other[0] + 0.001 or other[1] <= one[0] + 0.001 or one[3] <= other[2] + 0.001 or other[3] <= one[2] + 0.001
 
 
-# ---- the pages and pictures
-fund = Run("from-table", "85%", "heads:3", "--source", "a report & more", "--title", "A fund",
-           input="Holder,Share held\nUnited States,16.50%\nJapan,6.14%\nChina,6.08%\nAll others,71.28%\n").out
-GAMES = {"one rule": open(f"{TOP}/examples/eec-1958.toml", encoding="utf-8").read(), "two rules": open(f"{TOP}/examples/eu-27-lisbon.toml", encoding="utf-8").read(),
-         "four rules": hostile_game(4), "names and units": fund}
-PAGES, PICTURES = {}, {}
-for name, game in GAMES.items():
-    path, data = put("game.toml", game), report(game)
-    PAGES[name] = Run("page", "--program", PROGRAM, "--game", path, put("game.tsv", data)).out
-    PICTURES[f"bars, {name}"] = Run("bars", "--game", path, input=data).out
-for name, words in [("one rule", []), ("two rules", ["--rule", "2", "--from", "14"]), ("four rules", ["--from", "60", "--to", "66"]), ("names and units", ["--from", "5001", "--step", "100"])]:
-    Run("sweep", "--program", PROGRAM, put("game.toml", GAMES[name]), *words, "--picture", f"{TEMP}/sweep.svg")
-    with open(f"{TEMP}/sweep.svg", encoding="utf-8") as it:
-        PICTURES[f"sweep, {name}"] = it.read()
-
-FRAMES = [("page", width, text) for text in PAGES.values() for width in WIDTHS]
-seen = {scheme: show(FRAMES, scheme) for scheme in SCHEMES} if CHROMIUM else {}
-drawn = show([("picture", 1400, text) for text in PICTURES.values()], "light") if CHROMIUM else None
-if not CHROMIUM or not all(seen.values()) or not drawn:
-    for it in ["pages", "pictures"]:
-        skipped(f"in a browser: {it}", "Chromium shows no page here" if CHROMIUM else "this machine has no chromium")
-    done()
-    raise SystemExit
-
 ORDER = ["Germany", "France", "Italy", "Belgium", "Netherlands", "Luxembourg"]
-for scheme, its in seen.items():
-    pages = iter(its)
-    for name in PAGES:
-        for width in WIDTHS:
-            it, here = next(pages), f"in a browser: {name}, {width} pixels, {scheme}"
-            first, after, most = it["first"], it["scrolled"], it["client"]
-            case(f"{here}: nothing is wider than the window", it["wide"] <= most <= width and it["dark"] == (scheme == "dark"), (it["wide"], most, it["dark"]))
-            found = [(cell["left"] >= 0 and cell["right"] <= most and cell["seen"]) for cell in first[:3]]
-            case(f"{here}: the name and both indices are visible", found == [True] * 3 and max(it["last"]) <= most and all(re.fullmatch(r"0\.\d{6}", cell["text"]) for cell in first[1:3]), first[:3])
-            names = [after[0]["left"] == first[0]["left"], after[0]["seen"], after[-1]["seen"], after[-1]["right"] <= most, after[0]["right"] <= after[-1]["left"]]
-            case(f"{here}: after scrolling, the name and the last column are visible", all(names), (names, after[0], after[-1]))
-            if width == 1280 and name != "four rules":
-                case(f"{here}: all columns are visible", all(cell["seen"] and cell["right"] <= most for cell in first), first[-1])
-            inside = all(bar["value"][1] <= most and bar["bar"][1] <= bar["value"][0] and bar["value"][1] - bar["value"][0] > 15 for bar in it["bars"])
-            clear = all(are_apart(one["value"], other["bar"]) and are_apart(one["value"], other["value"]) for one, other in zip(it["bars"], it["bars"][1:]))
-            case(f"{here}: each bar has its number, and no other bar touches that", inside and clear and all(re.fullmatch(r"[01]\.\d{4}", bar["text"]) for bar in it["bars"]), it["bars"][:2])
-            worst = min(measure_difference(one, other) for one, other in combinations(it["colors"], 2))
-            faint = min(measure_contrast(color, it["ground"]) for color in it["colors"])
-            case(f"{here}: colors can be told apart", worst >= 20 and faint >= 3, (worst, faint, it["colors"]))
-            case(f"{here}: fractions are drawn, and come last", it["stacked"] and "exactly" in it["heads"][-1] and "exactly" in it["heads"][-2], it["heads"])
-            if name == "one rule":
-                lengths = [bar["bar"][1] - bar["bar"][0] for bar in it["bars"]]
-                case(f"{here}: bars are as long as the values", lengths[0] > lengths[1] > lengths[2] > 50 and lengths[-1] == 0, lengths)
-                sorts = (it["before"], it["down"], it["up"], it["byName"])
-                case(f"{here}: a click sorts", sorts == (ORDER, ORDER, ["Luxembourg", "Belgium", "Netherlands", "Germany", "France", "Italy"], sorted(ORDER)), sorts)
-            if name == "four rules":
-                case(f"{here}: a name is no script", it["scripts"] == 1 and it["before"] == SHOWN, it["before"])
-            if name == "names and units":
-                texts = ["Source of the data: a report & more", "85.00% of 100.00% under rule 1 (Share held) and 3 of 4 (75%) under rule 2 (heads)", "16.50%", 'share of "Share held", rule 1']
-                case(f"{here}: names, units and the source are visible", all(text in it["text"] for text in texts), it["text"])
+FUND = "Holder,Share held\nUnited States,46.50%\nJapan,26.14%\nChina,16.08%\nGermany,11.28%\n"
 
-for name, it in zip(PICTURES, drawn):
-    texts = [text for text in it["texts"] if text["box"][1] > text["box"][0]]
-    inside = [text for text in texts if text["box"][0] < it["all"][0] or text["box"][1] > it["all"][1] or text["box"][3] > it["all"][3]]
-    case(f"in a browser: {name}: all texts are in the picture", texts and not inside, inside)
-    touching = [(one["text"], other["text"]) for one, other in combinations(texts, 2) if not are_apart(one["box"], other["box"])]
-    touching += [one["text"] for one in texts for bar in it["bars"] if bar[1] > bar[0] and not are_apart(one["box"], bar)]
-    case(f"in a browser: {name}: no text touches another, or a bar", not touching, touching)
-same("in a browser: pages and pictures", (len(seen["dark"]), len(drawn)), (len(FRAMES), len(PICTURES)))
-done()
+
+@unittest.skipUnless(CHROMIUM, "this machine has no chromium")
+class Browser(Tests):
+    @classmethod
+    def setUpClass(cls):
+        fund = Run("from-table", "85%", "heads:3", "--source", "a report & more", "--title", "A fund", input=FUND).out
+        games = {**{name: open(f"{TOP}/examples/{file}.toml", encoding="utf-8").read() for name, file in [("one rule", "eec-1958"), ("two rules", "eu-27-lisbon")]}, "four rules": hostile_game(4), "names and units": fund}
+        cls.pages, cls.pictures = {}, {}
+        sweeps = {"one rule": [], "two rules": ["--rule", "2", "--from", "14"], "four rules": ["--from", "60", "--to", "66"], "names and units": ["--from", ">50%", "--step", "1"]}
+        for name, game in games.items():
+            path, data = put("game.toml", game), put("game.tsv", report(game))
+            cls.pages[name] = Run("page", "--program", PROGRAM, "--game", path, data).out
+            cls.pictures[f"bars, {name}"] = Run("bars", "--game", path, data).out
+            Run("sweep", "--program", PROGRAM, path, *sweeps[name], "--picture", f"{TEMP}/sweep.svg")
+            with open(f"{TEMP}/sweep.svg", encoding="utf-8") as it:
+                cls.pictures[f"sweep, {name}"] = it.read()
+
+    def show(self, frames, scheme):
+        found = show(frames, scheme)
+        if not found:
+            self.skipTest("Chromium shows no page here")
+        self.assertEqual(len(found), len(frames))
+        return found
+
+    def test_pages(self):
+        its = [(name, width) for name in self.pages for width in WIDTHS]
+        for scheme in SCHEMES:
+            found = self.show([("page", width, self.pages[name]) for name, width in its], scheme)
+            for (name, width), it in zip(its, found):
+                with self.subTest(name, width=width, scheme=scheme):
+                    self.check_page(name, width, it)
+                    self.assertEqual(it["dark"], scheme == "dark")
+
+    def check_page(self, name, width, it):
+        first, after, most = it["first"], it["scrolled"], it["client"]
+        self.assertTrue(it["wide"] <= most <= width, "something is wider than the window")
+        self.assertTrue(all(cell["left"] >= 0 and cell["right"] <= most and cell["seen"] for cell in first[:3]) and max(it["last"]) <= most, "the name or an index is out of sight")
+        self.assertTrue(after[0]["left"] == first[0]["left"] and after[0]["seen"] and after[-1]["seen"] and after[-1]["right"] <= most and after[0]["right"] <= after[-1]["left"], "after scrolling, the name or the last column is out of sight")
+        self.assertTrue(width < 1280 or name == "four rules" or all(cell["seen"] and cell["right"] <= most for cell in first), "a column is out of sight")
+        self.assertTrue(all(bar["value"][1] <= most and bar["bar"][1] <= bar["value"][0] and bar["value"][1] - bar["value"][0] > 15 for bar in it["bars"]), "a bar has no number")
+        self.assertTrue(all(are_apart(one["value"], other["bar"]) and are_apart(one["value"], other["value"]) for one, other in zip(it["bars"], it["bars"][1:])), "a number touches a bar")
+        self.assertGreaterEqual(min(measure_difference(one, other) for one, other in combinations(it["colors"], 2)), 20)
+        self.assertGreaterEqual(min(measure_contrast(color, it["ground"]) for color in it["colors"]), 3)
+        self.assertTrue(it["stacked"] and "exactly" in it["heads"][-1] and "exactly" in it["heads"][-2], "fractions are not drawn")
+        if name == "one rule":
+            lengths = [bar["bar"][1] - bar["bar"][0] for bar in it["bars"]]
+            self.assertTrue(lengths[0] > lengths[1] > lengths[2] > 50 and lengths[-1] == 0)
+            self.assertEqual((it["before"], it["down"], it["up"], it["byName"]), (ORDER, ORDER, ["Luxembourg", "Belgium", "Netherlands", "Germany", "France", "Italy"], sorted(ORDER)))
+        if name == "four rules":
+            self.assertEqual((it["scripts"], it["before"]), (1, SHOWN))
+        if name == "names and units":
+            texts = ["Source of the data: a report & more", "85.00% of 100.00% under rule 1 (Share held) and 3 of 4 (75%) under rule 2 (heads)", "46.50%", 'share of "Share held", rule 1']
+            self.assertEqual([text for text in texts if text not in it["text"]], [])
+
+    def test_pictures(self):
+        for name, it in zip(self.pictures, self.show([("picture", 1400, text) for text in self.pictures.values()], "light")):
+            with self.subTest(name):
+                texts = [text for text in it["texts"] if text["box"][1] > text["box"][0]]
+                self.assertEqual([text for text in texts if text["box"][0] < it["all"][0] or text["box"][1] > it["all"][1] or text["box"][3] > it["all"][3]], [])
+                touching = [(one["text"], other["text"]) for one, other in combinations(texts, 2) if not are_apart(one["box"], other["box"])]
+                touching += [one["text"] for one in texts for bar in it["bars"] if bar[1] > bar[0] and not are_apart(one["box"], bar)]
+                self.assertEqual((touching, bool(texts)), ([], True))
+
+
+main("in a browser")

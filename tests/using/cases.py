@@ -1,18 +1,19 @@
-"""What the tests of council-tools share: each prints `ok NAME`, `FAILED NAME: why` or `skipped NAME:
-why` for a case."""
+"""What the tests of council-tools share. Run one as `python3 tests/using/NAME.py PROGRAM`: each test
+is a line `ok NAME`, `FAILED NAME: why` or `skipped NAME: why`."""
 import io
 import os
 import shutil
 import subprocess
 import sys
 import tempfile
+import unittest
 
 TOP = os.path.dirname(os.path.dirname(os.path.dirname(os.path.realpath(__file__))))
 TOOLS = os.path.join(TOP, "tools/council-tools")
 PROGRAM = os.path.realpath(sys.argv[1]) if len(sys.argv) > 1 else None
 TEMP = tempfile.mkdtemp()
 sys.dont_write_bytecode = True
-sys.path.insert(0, os.path.join(TOP, "python/src"))
+sys.path[:0] = [os.path.join(TOP, "python/src"), os.path.join(TOP, "tests")]
 # the program at hand answers, wherever a tool or the package needs it
 os.environ["COUNCIL_LIBRARY"] = ""
 if PROGRAM:
@@ -24,6 +25,7 @@ HOSTILE = [
     "\\LaTeX & 100% #_{x}^2~$\\end{tabular}", "${x} {{y}} %s {0}", "\ufffe", "\u202egnp.exe", "a\u2028b\u0085c", "中文 ñ é Ł",
     "e\u0301", "\U0001f600", "x" * 64, "W" * 64, "m, n; o", "CON", " ", "\\u0041",
 ]
+LOW = "at most half of the total"
 
 
 class Run:
@@ -62,40 +64,40 @@ def inside(tool, words, data):
     return status, out.buffer.getvalue(), err.buffer.getvalue()
 
 
-def case(name, good, why=""):
-    print(f"ok {name}" if good else f"FAILED {name}: {' '.join(str(why).split())[:300]}", flush=True)
+class Tests(unittest.TestCase):
+    """Tests of a tool."""
 
-
-def same(name, found, wanted):
-    case(name, found == wanted, f"{found!r} instead of {wanted!r}")
-
-
-def fault(name, run, status, text):
-    """Checks that a run ended with this status and one line of fault, and printed nothing."""
-    wanted = f"council-tools {run.tool}: {text}\n"
-    case(name, (run.status, run.out, run.err) == (status, "", wanted), f"status {run.status}: {run.err!r}, {run.out[:60]!r}")
-
-
-def skipped(name, why):
-    print(f"skipped {name}: {why}")
-
-
-def needs(command, *names):
-    """Returns whether there is such a command; if not, the cases of these names are skipped."""
-    if shutil.which(command):
-        return True
-    for name in names:
-        skipped(name, f"this machine has no {command}")
-    return False
+    def check_refused(self, run, *parts, status=None):
+        """Checks that a run said one line, which is not long and has these parts, and nothing else."""
+        self.assertIn(run.status, (1, 2, 3, 4) if status is None else (status,), (run.err, run.out[:300]))
+        self.assertEqual(run.out, "")
+        self.assertRegex(run.err, rf"\A(council-tools {run.tool}|council-tools): [^\n]*\n\Z")
+        self.assertLess(len(run.err), 420)
+        for it in parts:
+            self.assertIn(it, run.err)
 
 
 def report(game, *words):
     """Returns the report of a game, as text."""
     data = game.encode() if isinstance(game, str) else game
-    done = subprocess.run([PROGRAM, "--tally" if "--list" not in words else "--list", *(it for it in words if it != "--list")], input=data, capture_output=True)
+    done = subprocess.run([PROGRAM, *([] if "--list" in words else ["--tally"]), *words], input=data, capture_output=True)
     if done.returncode:
         raise SystemExit(f"the program refused a game: {done.stderr.decode()}")
     return done.stdout.decode()
+
+
+def stored(name):
+    """Returns the stored report of an example."""
+    with open(f"{TOP}/examples/{name}.tsv", encoding="utf-8") as it:
+        return it.read()
+
+
+def put(name, text):
+    """Writes a file, and returns its path."""
+    path = f"{TEMP}/{name}"
+    with open(path, "w", encoding="utf-8", newline="\n") as it:
+        it.write(text)
+    return path
 
 
 def hostile_game(rules=1):
@@ -107,5 +109,10 @@ def hostile_game(rules=1):
     return write_game(HOSTILE, quotas, weights, 'A <title> & "more" \\ % = $x$')
 
 
-def done():
+def main(prefix):
+    """Runs the tests of the program that was started."""
+    import lines
+
+    passed = lines.run(f"{prefix}: ")
     shutil.rmtree(TEMP)
+    sys.exit(not passed)

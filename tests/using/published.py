@@ -1,71 +1,67 @@
 #!/usr/bin/env python3
-"""What docs/GUIDE.md says of published tables and treaties, against the program and the stored
-reports.
-
-    tests/using/published.py PROGRAM
-"""
+"""What docs/GUIDE.md says of published tables and treaties."""
 from fractions import Fraction
-from itertools import combinations
+from itertools import combinations, product
 from math import comb
 
-from cases import TOP, case, done, report, same
+from cases import TOP, Tests, main, report, stored
 from council.reports import Report
 
 
-def stored(name):
-    with open(f"{TOP}/examples/{name}.tsv", encoding="utf-8") as it:
-        return Report(it)
+def read(text):
+    return Report(text.split("\n")[:-1])
 
 
-def indices(text):
-    """Returns both indices of each member of a report, as texts."""
-    members = Report(text.split("\n")[:-1]).members
-    return [str(it.deegan_packel_exact) for it in members], [str(it.public_good_exact) for it in members]
+def find_indices(text):
+    """Returns both indices of each member of a report."""
+    members = read(text).members
+    return [it.deegan_packel_exact for it in members], [it.public_good_exact for it in members]
 
 
-# ---- Holler and Napel (2004), in sixtieths: 18, 9, 11, 11, 11 and 16, 8, 12, 12, 12
-wanted = [[str(Fraction(it, 60)) for it in row] for row in ([18, 9, 11, 11, 11], [16, 8, 12, 12, 12])]
-with open(f"{TOP}/examples/holler-1982.toml", encoding="utf-8") as it:
-    same("published: Holler 1982, Holler and Napel 2004", list(indices(report(it.read()))), wanted)
+class Published(Tests):
+    def test_holler_1982_in_sixtieths(self):
+        with open(f"{TOP}/examples/holler-1982.toml", encoding="utf-8") as it:
+            found = find_indices(report(it.read()))
+        self.assertEqual([[60 * it for it in its] for its in found], [[18, 9, 11, 11, 11], [16, 8, 12, 12, 12]])
 
-# ---- the Security Council: five vetoes, and four of the ten others
-council = stored("un-security-council")
-permanent, others = council.members[:5], council.members[5:]
-same("the Security Council: its coalitions", council.minimal, comb(10, 4))
-same("the Security Council: coalitions of a member", ({it.coalitions for it in permanent}, {it.coalitions for it in others}), ({comb(10, 4)}, {comb(9, 3)}))
-each = ({it.deegan_packel_exact for it in permanent} | {it.public_good_exact for it in permanent}, {it.deegan_packel_exact for it in others} | {it.public_good_exact for it in others})
-same("the Security Council: both indices", each, ({Fraction(1, 9)}, {Fraction(2, 45)}))
+    def test_the_security_council(self):
+        """Five vetoes, and four of the ten others."""
+        council = read(stored("un-security-council"))
+        self.assertEqual(council.minimal, comb(10, 4))
+        for members, number, index in (council.members[:5], comb(10, 4), Fraction(1, 9)), (council.members[5:], comb(9, 3), Fraction(2, 45)):
+            self.assertEqual({(it.coalitions, it.deegan_packel_exact, it.public_good_exact) for it in members}, {(number, index, index)})
 
-# ---- the Council of the Communities: Luxembourg was a dummy in 1958, and in 1973, with a smaller
-# share, it was not (Brams and Affuso 1976)
-old, new = [next(it for it in stored(name).members if it.name == "Luxembourg") for name in ("eec-1958", "ec-1973")]
-case("published: Luxembourg in 1958 and 1973", old.coalitions == 0 and new.coalitions > 0 and Fraction(new.weights[0], 58) < Fraction(old.weights[0], 17))
+    def test_luxembourg_in_1958_and_1973(self):
+        """It was a dummy, and with a smaller share it was not (Brams and Affuso 1976)."""
+        old, new = [next(it for it in read(stored(name)).members if it.name == "Luxembourg") for name in ("eec-1958", "ec-1973")]
+        self.assertTrue(old.coalitions == 0 < new.coalitions and Fraction(new.weights[0], 58) < Fraction(old.weights[0], 17))
 
-# ---- the board of Nassau County in 1964: three of its six members are dummies (Banzhaf 1965)
-with_votes, dummies = [str(Fraction(1, 3))] * 3, ["0"] * 3
-same("published: Nassau County in 1964", list(indices(report("[58; 31, 31, 28, 21, 2, 2]"))), [with_votes + dummies] * 2)
+    def test_nassau_county_in_1964(self):
+        """Three of the six members of its board are dummies (Banzhaf 1965)."""
+        self.assertEqual(list(find_indices(report("[58; 31, 31, 28, 21, 2, 2]"))), [[Fraction(1, 3)] * 3 + [0] * 3] * 2)
 
-# ---- "or 24 of 27 states": what it adds to the Treaty of Lisbon, as docs/GUIDE.md says
-union = stored("eu-27-lisbon")
-weights, quota, total = [it.weights[0] for it in union.members], union.quotas[0], union.totals[0]
-added = [out for out in combinations(range(27), 3) if total - sum(weights[at] for at in out) < quota]
-# no other coalition of 25 members or more stops being minimal: it needs even its lightest member
-heavy = [out for size in range(3) for out in combinations(range(27), size)
-         if quota <= total - sum(weights[at] for at in out) < quota + min(it for at, it in enumerate(weights) if at not in out)]
-seats = sum(it.coalitions for it in union.members)
-moved = []
-for at, it in enumerate(union.members):
-    more = sum(at not in out for out in added)
-    moved.append(abs((it.deegan_packel_exact * union.minimal + Fraction(more, 24)) / (union.minimal + len(added)) - it.deegan_packel_exact))
-    moved.append(abs(Fraction(it.coalitions + more, seats + 24 * len(added)) - it.public_good_exact))
-same("the Union: 24 of 27 states", (len(added), heavy, max(moved) < Fraction(5, 10**7), union.minimal), (22, [], True, 4377844))
+    def test_or_24_of_27_states(self):
+        """What it adds to the Treaty of Lisbon, as docs/GUIDE.md says."""
+        union = read(stored("eu-27-lisbon"))
+        weights, quota, total = [it.weights[0] for it in union.members], union.quotas[0], union.totals[0]
+        added = [out for out in combinations(range(27), 3) if total - sum(weights[at] for at in out) < quota]
+        # no other coalition of 25 members or more stops being minimal
+        heavy = [out for size in range(3) for out in combinations(range(27), size)
+                 if quota <= total - sum(weights[at] for at in out) < quota + min(it for at, it in enumerate(weights) if at not in out)]
+        seats = sum(it.coalitions for it in union.members)
+        moved = []
+        for at, it in enumerate(union.members):
+            more = sum(at not in out for out in added)
+            moved.append(abs((it.deegan_packel_exact * union.minimal + Fraction(more, 24)) / (union.minimal + len(added)) - it.deegan_packel_exact))
+            moved.append(abs(Fraction(it.coalitions + more, seats + 24 * len(added)) - it.public_good_exact))
+        self.assertEqual((len(added), heavy, max(moved) < Fraction(5, 10**7), union.minimal), (22, [], True, 4377844))
 
-# ---- the American override of docs/GUIDE.md, for each number of members of both houses
-wrong = [
-    (president, vice, senators, deputies)
-    for president in (0, 1) for vice in (0, 1) for senators in range(101) for deputies in range(436)
-    if (deputies + 72 * president >= 290 and 2 * senators + vice + 33 * president >= 134)
-    != (president and deputies >= 218 and 2 * senators + vice >= 101 or deputies >= 290 and senators >= 67)
-]
-same("the United States: both rules", wrong, [])
-done()
+    def test_the_american_override(self):
+        """The rules of docs/GUIDE.md, for each number of members of both houses."""
+        for president, vice, senators, deputies in product((0, 1), (0, 1), range(101), range(436)):
+            found = deputies + 72 * president >= 290 and 2 * senators + vice + 33 * president >= 134
+            if found != bool(president and deputies >= 218 and 2 * senators + vice >= 101 or deputies >= 290 and senators >= 67):
+                self.fail((president, vice, senators, deputies))
+
+
+main("published")

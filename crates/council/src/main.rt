@@ -7,13 +7,14 @@ ghost use Rattle.council_file.specs.Reads.{Reads};
 ghost use Rattle.council_report.specs.Outcome.{Writes};
 ghost use Rattle.council_report.specs.Report.{report};
 ghost use Rattle.council_run.specs.Run.{IsOutcome};
-ghost use Rattle.council.specs.Inner.Wants.{limit_wanted, lines_wanted};
+ghost use Rattle.council_run.specs.Plans.{is_too_many, limit_of, lines_of_plan};
+ghost use Rattle.council.specs.Inner.Wants.{plan_wanted};
 
 use council_base::{Gate, Recorder, Sink, Source, sanitize};
 use council_explain::{explain, remark_on_quotas, remark_on_thousands};
 use council_game::GameFault;
 use council_progress::{Line, Progress, Wiping};
-use council_run::{Cause, LEAST_BITS, RunFault, number_by_sums, run, status, tally};
+use council_run::{Cause, LEAST_BITS, Plan, RunFault, number_by_states, run_by, status};
 use council_words::{Arguments, collect_words, parse_arguments};
 use mwc_gather::GatherFault;
 use mwc_walk::slice_count;
@@ -41,7 +42,7 @@ fn explain_further(rt: &(impl Eprint + AllocGlobal), cause: Cause, bytes: &[u8])
             }
         }
         Cause::Gather(GatherFault::TooMany) => {
-            if let Ok(Some(number)) = number_by_sums(rt.alloc(), bytes) {
+            if let Ok(Some(number)) = number_by_states(rt.alloc(), bytes) {
                 let _ = eprintln!(rt; "  there are {number} of them");
             }
             let _ = eprintln!(rt;
@@ -94,7 +95,20 @@ fn report_unopened(
     ExitCode::from(1)
 }
 
-/// Executes what the arguments ask for: a run or a tally.
+/// Returns how the coalitions are found: by a list if one is asked for, or if they are limited.
+fn plan_of(arguments: &Arguments<'_>) -> Plan
+    ensures { result ≡ plan_wanted arguments.now }
+{
+    if arguments.tally {
+        Plan::Count
+    } else if arguments.options.list || arguments.is_limited {
+        Plan::List
+    } else {
+        Plan::Either
+    }
+}
+
+/// Runs as the arguments ask.
 fn execute<R: AllocGlobal + Threads + Wait + Sync, I: Source, G: Gate + Sync, W: Sink>(
     rt: &R,
     arguments: &Arguments<'_>,
@@ -102,18 +116,22 @@ fn execute<R: AllocGlobal + Threads + Wait + Sync, I: Source, G: Gate + Sync, W:
     gate: &G,
     writer: &mut W,
 ) -> Result<u64, RunFault>
-    ensures { IsOutcome (report (lines_wanted arguments.now)) (limit_wanted arguments.now)
+    ensures { IsOutcome (report (lines_of_plan (plan_wanted arguments.now) arguments.now.options))
+        (limit_of (plan_wanted arguments.now) arguments.now.options.most (is_too_many result))
         (Reads I.left I.is_read reader.old reader.new)
         (λ text. Writes W.held W.is_write W.is_flush text writer.old writer.new)
         (writer.new ≡ writer.old) result }
 {
-    let alloc = rt.alloc();
-    let options = &arguments.options;
-    if arguments.tally {
-        tally(rt, alloc, reader, options, gate, writer)
-    } else {
-        run(rt, alloc, reader, options, gate, writer)
-    }
+    let plan = plan_of(arguments);
+    run_by(
+        rt,
+        rt.alloc(),
+        reader,
+        &arguments.options,
+        gate,
+        writer,
+        plan,
+    )
 }
 
 /// Reports the outcome on standard error, with what there is to say of the bytes that were read, if

@@ -1,4 +1,4 @@
-//! The observer of the workers of a run or a tally.
+//! The observer of the workers of a run or a tally, and of a count by states.
 
 /// How many prefixes, or coalitions, of a slice there are between two calls of `Gate::inform`.
 pub const REPORT_EVERY: u64 = 1 << 20;
@@ -17,6 +17,9 @@ pub trait Gate {
     /// at the end of the slice for the rest, so all calls of a finished run add up to all that it
     /// found.
     fn inform(&self, _prefixes: u64, _found: u64) {}
+
+    /// Notes progress of a count by states: so many of the members are decided.
+    fn decide(&self, _decided: u8, _members: u8) {}
 }
 
 /// The gate that returns at once.

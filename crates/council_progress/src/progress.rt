@@ -126,4 +126,12 @@ impl<'a, R: Eprint + Clock + Wait> Gate for Progress<'a, R> {
         done.prefixes = done.prefixes.wrapping_add(prefixes);
         self.show(&mut done);
     }
+
+    fn decide(&self, decided: u8, members: u8) {
+        if self.is_long() {
+            let mut done = self.done.lock(self.rt);
+            done.is_shown = true;
+            let _ = eprint!(self.rt; "\rcouncil: {decided} of {members} members decided\x1b[K");
+        }
+    }
 }

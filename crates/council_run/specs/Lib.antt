@@ -1,3 +1,4 @@
 pub mod Status
 pub mod Run
 pub mod Found
+pub mod Plans

@@ -1,5 +1,5 @@
 -- What a run reads, writes and returns.
-use Rattle.std.specs.Prelude.{◌≡◌, ◌≤◌, ◌↔◌, ℕ, List, length, Option, IfSome, IsSome, Result, Ok, Err}
+use Rattle.std.specs.Prelude.{◌≡◌, ◌≤◌, ℕ, List, length, Option, IfSome, Result, Ok, Err}
 use Rattle.council_game.specs.declared.fault.GameFault.{GameFault}
 use Rattle.council_game.specs.declared.fault.GameFault.TheVariants as game
 use Rattle.council_game.specs.Votes.{minimal_coalitions}
@@ -8,7 +8,6 @@ use Rattle.council_file.specs.File.{game_of}
 use Rattle.council_report.specs.declared.fault.ReportFault.{ReportFault}
 use Rattle.council_report.specs.declared.fault.ReportFault.TheVariants as report
 use Rattle.mwc_gather.specs.declared.fault.GatherFault.TheVariants as gather
-use Rattle.mwc_closed_count.specs.Statute.{IsCountedBySums}
 use Rattle.council_run.specs.declared.fault.Cause.{Cause}
 use Rattle.council_run.specs.declared.fault.Cause.TheVariants as cause
 use Rattle.council_run.specs.declared.fault.RunFault.{RunFault}
@@ -20,10 +19,6 @@ Holds bytes answer = game_of bytes ≡ answer
 -- the number of minimal winning coalitions of a game
 abbrev pub count_of : GameView → ℕ
 count_of g = length (minimal_coalitions (votes_of g))
-
--- a number of them, which there is exactly if sums count them
-abbrev pub IsNumberOf : GameView → Option ℕ → Type 0
-IsNumberOf g number = IfSome number (λ n. n ≡ count_of g) × (IsSome number ↔ IsCountedBySums g)
 
 -- a game with at most as many as the limit says, if there is one
 abbrev pub IsWithin : Option ℕ → GameView → Type 0

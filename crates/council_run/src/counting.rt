@@ -1,6 +1,6 @@
-//! Counting the coalitions of a game, and keeping none: by sums, and what these leave by worker
-//! threads or by one walk.
-ghost use Rattle.std.specs.Prelude.{◌≡◌, IfErr, IfOk, None, false};
+//! Counting the coalitions of a game, and keeping none: by states, and if these are too many, by
+//! worker threads or by one walk.
+ghost use Rattle.std.specs.Prelude.{◌≡◌, IfErr, IfOk, IfSome, None, false};
 ghost use Rattle.council_base.specs.declared.report_lines.ReportLines.{ReportLines};
 ghost use Rattle.council_run.specs.Found.{Finds, IsWorkersFault};
 ghost use Rattle.power_index.specs.Tables.{AreCountsOfGame};
@@ -8,9 +8,9 @@ ghost use Rattle.power_index.specs.Tables.{AreCountsOfGame};
 use crate::fault::RunFault;
 use crate::found::{Coalitions, Found, on_heap};
 use crate::order::choose_game;
-use council_base::{Gate, Memory, Options};
+use council_base::{Gate, Memory, NoGate, Options};
 use council_game::Game;
-use mwc_closed_count::{Coverage, count_by_kinds, count_by_sums};
+use mwc_states::count_by_states;
 use mwc_tally::{TallyFault, tally, tally_slice};
 use mwc_walk::laws::one_slice_is_the_whole;
 use power_index::Counts;
@@ -19,31 +19,47 @@ use std::alloc::Global;
 use std::sync::Wait;
 use std::thread::Threads;
 
+/// The most states by which a game is counted. With four times as many hardly another game is.
+pub const MOST_STATES: usize = 1 << 22;
+
+/// The most states by which a game is counted before its coalitions are listed, which takes a few
+/// milliseconds.
+pub const FEW_STATES: usize = 1 << 12;
+
 /// A tally has at least 2^8 slices if there are 8 members: the last of them are the longest, and
 /// with fewer one thread would still count when the others have ended.
 pub const LEAST_BITS: u8 = 8;
 
-/// Counts all coalitions of a game that sums leave: by kinds, if its members are of few kinds, or
-/// else by worker threads behind a gate.
-fn count_rest<T: Threads + Wait + Sync, G: Gate + Sync>(
-    rt: &T,
+/// Counts the minimal winning coalitions of a game by states.
+///
+/// It decides the members in the order of what they contribute. Returns `None` if there are more
+/// than `room` states. The gate hears of each member that is decided.
+///
+/// # Errors
+///
+/// Returns `Memory` if an allocation was refused.
+pub fn count_states<G: Gate>(
     alloc: Global,
     game: &Game,
-    options: &Options,
+    room: usize,
     gate: &G,
-) -> Result<Box<Counts>, TallyFault>
-    ensures { IfOk result (λ counts. AreCountsOfGame game.now counts.value) }
+) -> Result<Option<Box<Counts>>, Memory>
+    ensures { IfOk result (λ o. IfSome o (λ counts. AreCountsOfGame game.now counts.value)) }
 {
-    match count_by_kinds(alloc, game)? {
-        Some(counts) => Ok(counts),
-        None => count_by_threads(rt, alloc, game, options, gate),
-    }
+    let ordered = game.by_contribution(alloc)?;
+    count_by_states(alloc, choose_game(game, &ordered), room, gate)
 }
 
 /// Counts all coalitions of a game by worker threads behind a gate.
-// kept out of line: sums do not take the stack that threads want
-#[inline(never)]
-fn count_by_threads<T: Threads + Wait + Sync, G: Gate + Sync>(
+///
+/// They walk over the members in the order of what these contribute.
+///
+/// # Errors
+///
+/// Returns `Start` if a thread could not be started, and else `Memory` if an allocation was
+/// refused.
+#[inline(never)] // states do not take the stack that threads want
+pub fn count_by_threads<T: Threads + Wait + Sync, G: Gate + Sync>(
     rt: &T,
     alloc: Global,
     game: &Game,
@@ -64,17 +80,6 @@ fn count_by_threads<T: Threads + Wait + Sync, G: Gate + Sync>(
     )
 }
 
-/// Counts all coalitions of a game that sums leave: by kinds, if its members are of few kinds, or
-/// else by one walk.
-fn count_rest_by_walk(alloc: Global, game: &Game) -> Result<Box<Counts>, Memory>
-    ensures { IfOk result (λ counts. AreCountsOfGame game.now counts.value) }
-{
-    match count_by_kinds(alloc, game)? {
-        Some(counts) => Ok(counts),
-        None => count_walk(alloc, game),
-    }
-}
-
 /// Counts all coalitions of a game by one walk.
 #[inline(never)]
 fn count_walk(alloc: Global, game: &Game) -> Result<Box<Counts>, Memory>
@@ -88,7 +93,7 @@ fn count_walk(alloc: Global, game: &Game) -> Result<Box<Counts>, Memory>
     on_heap(alloc, tally_slice(walked, 0, 0))
 }
 
-/// Counts all coalitions of a game by sums, and what these leave by worker threads.
+/// Counts all coalitions of a game by states, or if these are too many by worker threads.
 fn count_all<T: Threads + Wait + Sync, G: Gate + Sync>(
     rt: &T,
     alloc: Global,
@@ -98,19 +103,16 @@ fn count_all<T: Threads + Wait + Sync, G: Gate + Sync>(
 ) -> Result<Box<Counts>, TallyFault>
     ensures { IfOk result (λ counts. AreCountsOfGame game.now counts.value) }
 {
-    match count_by_sums(alloc, game)? {
-        Coverage::All(counts) => Ok(counts),
-        Coverage::Part(parts) => {
-            let left = count_rest(rt, alloc, &parts.left, options, gate)?;
-            Ok(parts.join(game, left))
-        }
-        Coverage::Nothing => count_rest(rt, alloc, game, options, gate),
+    match count_states(alloc, game, MOST_STATES, gate)? {
+        Some(counts) => Ok(counts),
+        None => count_by_threads(rt, alloc, game, options, gate),
     }
 }
 
-/// Counts the coalitions of a game by sums, and the rest by worker threads.
+/// Counts the coalitions of a game by states, or else by worker threads.
 ///
-/// The threads work behind a gate. The game may have any number of coalitions; none is kept.
+/// If there are too many states, threads work behind a gate. The game may have any number of
+/// coalitions; none is kept.
 ///
 /// # Errors
 ///
@@ -132,7 +134,7 @@ pub fn count_by_workers<T: Threads + Wait + Sync, G: Gate + Sync>(
     })
 }
 
-/// Counts the coalitions of a game by sums, and the rest by one walk.
+/// Counts the coalitions of a game by states, or if these are too many by one walk.
 ///
 /// It starts no thread.
 ///
@@ -142,13 +144,9 @@ pub fn count_by_workers<T: Threads + Wait + Sync, G: Gate + Sync>(
 pub fn count_by_walk(alloc: Global, game: &Game) -> Result<Found, RunFault>
     ensures { (lines : ReportLines) → lines.list ≡ false → Finds None lines game.now result }
 {
-    let counts = match count_by_sums(alloc, game)? {
-        Coverage::All(counts) => counts,
-        Coverage::Part(parts) => {
-            let left = count_rest_by_walk(alloc, &parts.left)?;
-            parts.join(game, left)
-        }
-        Coverage::Nothing => count_rest_by_walk(alloc, game)?,
+    let counts = match count_states(alloc, game, MOST_STATES, &NoGate)? {
+        Some(counts) => counts,
+        None => count_walk(alloc, game)?,
     };
     Ok(Found {
         counts,

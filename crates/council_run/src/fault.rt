@@ -4,6 +4,7 @@ ghost use Rattle.council_report.specs.declared.fault.ReportFault.TheVariants as 
 ghost use Rattle.mwc_gather.specs.declared.fault.GatherFault.TheVariants as gather;
 ghost use Rattle.mwc_tally.specs.declared.fault.TallyFault.TheVariants as tally;
 ghost use Rattle.council_run.specs.declared.fault.Cause.TheVariants as cause;
+ghost use Rattle.council_run.specs.Plans.{is_cause_many};
 ghost use Rattle.council_run.specs.Status.{number_of, status_of};
 
 use council_game::{GameFault, Memory};
@@ -52,6 +53,13 @@ impl Cause {
 }
 
 impl RunFault {
+    /// Returns whether there are too many coalitions.
+    pub fn is_too_many(&self) -> bool
+        ensures { result ≡ is_cause_many self.now.cause }
+    {
+        matches!(self.cause, Cause::Gather(GatherFault::TooMany))
+    }
+
     /// A fault before anything was written.
     fn early(cause: Cause) -> RunFault
         ensures { result ≡ record { cause = cause; written = 0 } }

@@ -14,12 +14,17 @@ pub mod laws;
 mod listing;
 mod number;
 mod order;
+mod plan;
 mod runs;
 
 pub use council_base::{Gate, NoGate, Options, limits};
-pub use counting::{LEAST_BITS, count_by_walk, count_by_workers};
+pub use counting::{
+    FEW_STATES, LEAST_BITS, MOST_STATES, count_by_threads, count_by_walk, count_by_workers,
+    count_states,
+};
 pub use fault::{Cause, RunFault, status};
 pub use found::{Coalitions, Found};
 pub use listing::{list_by_walk, list_by_workers};
-pub use number::number_by_sums;
-pub use runs::{run, tally};
+pub use number::number_by_states;
+pub use plan::Plan;
+pub use runs::{run, run_by, tally};

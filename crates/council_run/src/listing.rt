@@ -1,19 +1,20 @@
 //! Listing the coalitions of a game: by worker threads, or by one walk.
-ghost use Rattle.std.specs.Prelude.{◌≡◌, ◌≤◌, Err, IfErr, IfOk, IfSome, Some, length, unwrap_or};
+ghost use Rattle.std.specs.Prelude.{◌≡◌, ◌≤◌, Err, IfErr, IfOk, IfSome, IsSome, Some, length, true, unwrap_or, ◌<◌};
 ghost use Rattle.council_base.specs.declared.limits.TheConstants.{WORKERS};
 ghost use Rattle.council_base.specs.declared.report_lines.ReportLines.{ReportLines};
 ghost use Rattle.council_game.specs.Contribution.{by_contribution};
-ghost use Rattle.council_run.specs.Found.{AreListed, Finds, HoldAll, IsWorkersFault};
+ghost use Rattle.council_game.specs.Game.{GameView};
+ghost use Rattle.council_run.specs.Found.{AreListed, Finds, HoldAll, IsNotFound};
 ghost use Rattle.council_run.specs.Run.{IsWithin};
-ghost use Rattle.power_index.specs.Tables.{AreCountsOfGame};
+ghost use Rattle.power_index.specs.Tables.{AreCountsOfGame, Tables, table_total};
 
+use crate::counting::{FEW_STATES, count_states};
 use crate::fault::RunFault;
-use crate::found::{Coalitions, Found, on_heap, pieces};
+use crate::found::{Coalitions, Found, on_heap};
 use crate::order::choose_game;
-use council_base::{Gate, Memory, Options};
+use council_base::{Gate, Memory, NoGate, Options};
 use council_game::Game;
 use mwc_gather::{GatherFault, Gathered, Guarded, gather};
-use mwc_tally::tally_pieces;
 use mwc_walk::list_all;
 use power_index::Counts;
 use power_index::laws::minimal_coalitions_can_be_counted;
@@ -39,24 +40,47 @@ fn gather_all<T: Threads + Wait + Sync, G: Gate + Sync>(
     gather(rt, alloc, &guarded, bits, options.workers, options.most)
 }
 
-/// Counts the coalitions that the workers listed, by as many threads.
-fn count_gathered<T: Threads + Wait + Sync>(
-    rt: &T,
+/// Counts the coalitions that the workers listed, in one pass over a copy of them, unless they were
+/// counted before.
+fn count_gathered(
     alloc: Global,
     game: &Game,
     gathered: &Gathered,
-    threads: u8,
-) -> Result<Box<Counts>, RunFault>
-    requires threads { (1 ≤ threads) × (threads ≤ WORKERS) }
-    requires whole { HoldAll game.now gathered.now }
-    ensures counts { IfOk result (λ counts. AreCountsOfGame game.now counts.value) }
-    ensures fails { IfErr result IsWorkersFault }
+    counted: Option<Box<Counts>>,
+) -> Result<Box<Counts>, Memory>
+    requires { HoldAll game.now gathered.now }
+    ensures { IfOk result (λ counts. (g : GameView) → ((t : Tables) → AreCountsOfGame game.now t → AreCountsOfGame g t)
+        → IfSome counted (λ counts. AreCountsOfGame g counts.value) → AreCountsOfGame g counts.value) }
 {
+    if let Some(counts) = counted {
+        return Ok(counts);
+    }
     game.was_checked();
     minimal_coalitions_can_be_counted();
-    let pieces = pieces(alloc, game, gathered)?;
-    let counts = tally_pieces(rt, game, &pieces, threads)?;
-    Ok(on_heap(alloc, counts)?)
+    let all = gathered.in_order(alloc)?;
+    on_heap(alloc, Counts::of(game, &all))
+}
+
+/// Returns whether the counts of a game show more coalitions than `most`.
+fn has_more(counted: &Option<Box<Counts>>, most: u32) -> bool
+    ensures { result ≡ true → IfSome counted.now (λ counts. most < table_total counts.value) × IsSome counted.now }
+{
+    match counted {
+        Some(counts) => counts.wide_total() > u64::from(most),
+        None => false,
+    }
+}
+
+/// Counts the coalitions of a game if few states do that, and fails if there are more than `most`.
+fn count_few(alloc: Global, game: &Game, most: u32) -> Result<Option<Box<Counts>>, RunFault>
+    ensures counts { IfOk result (λ o. IfSome o (λ counts. AreCountsOfGame game.now counts.value)) }
+    ensures fails { IfErr result (λ fault. IsNotFound (Some most) game.now fault.cause × (fault.written ≡ 0)) }
+{
+    let counted = count_states(alloc, game, FEW_STATES, &NoGate)?;
+    if has_more(&counted, most) {
+        return Err(RunFault::from(GatherFault::TooMany));
+    }
+    Ok(counted)
 }
 
 /// Keeps the coalitions that workers listed: as they lie, if the game itself was walked over; else
@@ -90,9 +114,9 @@ fn keep(
 ///
 /// # Errors
 ///
-/// The first of these: out of memory for the game in that order; a fault of the gathering; out of
-/// memory for the row of its pieces; Start if a thread that counts them could not be started; out
-/// of memory for their counts, or for their list.
+/// The first of these: out of memory for the game in that order, or for its states; TooMany if few
+/// states show it; a fault of the gathering; out of memory for the row of its pieces, for their
+/// counts or for their list.
 pub fn list_by_workers<T: Threads + Wait + Sync, G: Gate + Sync>(
     rt: &T,
     alloc: Global,
@@ -103,10 +127,11 @@ pub fn list_by_workers<T: Threads + Wait + Sync, G: Gate + Sync>(
     ensures { (lines : ReportLines) → lines.list ≡ options.now.list
         → Finds (Some options.now.most) lines game.now result }
 {
+    let counted = count_few(alloc, game, options.most)?;
     let ordered = game.by_contribution(alloc)?;
     let walked = choose_game(game, &ordered);
     let gathered = gather_all(rt, alloc, walked, options, gate)?;
-    let counts = count_gathered(rt, alloc, walked, &gathered, options.workers)?;
+    let counts = count_gathered(alloc, walked, &gathered, counted)?;
     let coalitions = keep(alloc, game, ordered, gathered, options.list)?;
     Ok(Found { counts, coalitions })
 }
@@ -122,6 +147,7 @@ pub fn list_by_workers<T: Threads + Wait + Sync, G: Gate + Sync>(
 pub fn list_by_walk(alloc: Global, game: &Game, most: u32, list: bool) -> Result<Found, RunFault>
     ensures { (lines : ReportLines) → lines.list ≡ list → Finds (Some most) lines game.now result }
 {
+    count_few(alloc, game, most)?;
     minimal_coalitions_can_be_counted();
     let ordered = game.by_contribution(alloc)?;
     let walked = choose_game(game, &ordered);

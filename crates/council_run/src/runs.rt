@@ -1,27 +1,88 @@
 //! Runs: from the bytes of a game to its report.
 ghost use Rattle.std.specs.Prelude.{◌≡◌, IfErr, None, Some};
 ghost use Rattle.council_base.specs.Options.{lines_of, without_list};
+ghost use Rattle.council_base.specs.declared.report_lines.ReportLines.{ReportLines};
 ghost use Rattle.council_file.specs.Reads.{Reads};
 ghost use Rattle.council_report.specs.Outcome.{Writes};
 ghost use Rattle.council_report.specs.Report.{report};
+ghost use Rattle.council_run.specs.Found.{Finds, IsWorkersFault};
+ghost use Rattle.council_run.specs.Plans.{is_too_many, limit_of, lines_of_plan};
 ghost use Rattle.council_run.specs.Run.{IsOutcome};
 ghost use Rattle.council_run.specs.declared.fault.Cause.TheVariants as cause;
+ghost use Rattle.council_run.specs.declared.plan.Plan.TheVariants as plans;
 ghost use Rattle.mwc_gather.specs.declared.fault.GatherFault.{GatherFault};
 ghost use Rattle.mwc_gather.specs.declared.fault.GatherFault.TheVariants as gather;
 
-use crate::counting::count_by_workers;
+use crate::counting::{MOST_STATES, count_by_workers, count_states};
 use crate::fault::RunFault;
+use crate::found::{Coalitions, Found};
 use crate::listing::list_by_workers;
-use council_base::{Gate, Options, Sink, Source};
+use crate::plan::Plan;
+use council_base::{Gate, Options, ReportLines, Sink, Source};
 use council_file::read_game;
+use council_game::Game;
 use std::alloc::Global;
 use std::sync::Wait;
 use std::thread::Threads;
 
-/// Reads a game, lists its minimal winning coalitions and writes its report.
+/// Lists the coalitions of a game, or counts them by states if they are too many and not shown.
+fn list_or_count<T: Threads + Wait + Sync, G: Gate + Sync>(
+    rt: &T,
+    alloc: Global,
+    game: &Game,
+    options: &Options,
+    gate: &G,
+) -> Result<Found, RunFault>
+    ensures { (lines : ReportLines) → lines.list ≡ options.now.list
+        → Finds (limit_of plans.Either options.now.most (is_too_many result)) lines game.now result }
+{
+    match list_by_workers(rt, alloc, game, options, gate) {
+        Err(fault) if fault.is_too_many() && !options.list => {
+            match count_states(alloc, game, MOST_STATES, gate)? {
+                Some(counts) => Ok(Found {
+                    counts,
+                    coalitions: Coalitions::Counted,
+                }),
+                None => Err(fault),
+            }
+        }
+        found => found,
+    }
+}
+
+/// Finds the coalitions of a game as a plan says.
+fn find<T: Threads + Wait + Sync, G: Gate + Sync>(
+    rt: &T,
+    alloc: Global,
+    game: &Game,
+    options: &Options,
+    gate: &G,
+    plan: Plan,
+) -> Result<Found, RunFault>
+    ensures finds { (lines : ReportLines) → lines.list ≡ (lines_of_plan plan options.now).list
+        → Finds (limit_of plan options.now.most (is_too_many result)) lines game.now result }
+    ensures fails { plan ≡ plans.Count → IfErr result IsWorkersFault }
+{
+    match plan {
+        Plan::List => list_by_workers(rt, alloc, game, options, gate),
+        Plan::Count => count_by_workers(rt, alloc, game, options, gate),
+        Plan::Either => list_or_count(rt, alloc, game, options, gate),
+    }
+}
+
+/// Returns the optional lines of the report by a plan.
+fn lines_of(plan: Plan, options: &Options) -> ReportLines
+    ensures { result ≡ lines_of_plan plan options.now }
+{
+    match plan {
+        Plan::List | Plan::Either => options.lines(),
+        Plan::Count => options.lines().without_list(),
+    }
+}
+
+/// Reads a game, finds its coalitions as a plan says, and writes its report.
 ///
-/// Worker threads list them, and the call may wait for these. It writes nothing else, and returns
-/// the number of bytes written.
+/// It may wait for its workers. It writes nothing else, and returns the number of bytes written.
 ///
 /// The contract says which calls the reader and the writer got, whatever they are: no read after
 /// one that failed or gave nothing; each write gets what is left of a block of the report, and
@@ -29,12 +90,42 @@ use std::thread::Threads;
 ///
 /// # Errors
 ///
-/// The first fault that is met, in this order: of the game file; of the gathering, its Start before
-/// its Memory, Ring and TooMany; out of memory for the row of its pieces; Start if a thread that
-/// counts them could not be started; out of memory for the report; of the writer. No byte goes out
-/// before all memory is there: after each fault but `Write` the writer took nothing, and after
-/// `Write` it has the first bytes of the report. A write that takes no byte or fails, whatever the
-/// cause, is `Write`, and so is a flush that fails.
+/// The first fault that is met, in this order: of the game file; out of memory for the game in the
+/// order of contribution, or for its states; TooMany if few states show it; of the gathering, its
+/// Start before its Memory, Ring and TooMany; out of memory for the row of its pieces, for their
+/// counts or for the report; of the writer. No byte goes out before all memory is there: after each
+/// fault but `Write` the writer took nothing, and after `Write` it has the first bytes of the
+/// report. A write that takes no byte or fails, whatever the cause, is `Write`, and so is a flush
+/// that fails.
+pub fn run_by<T: Threads + Wait + Sync, R: Source, W: Sink, G: Gate + Sync>(
+    rt: &T,
+    alloc: Global,
+    reader: &mut R,
+    options: &Options,
+    gate: &G,
+    writer: &mut W,
+    plan: Plan,
+) -> Result<u64, RunFault>
+    ensures outcome { IsOutcome (report (lines_of_plan plan options.now))
+        (limit_of plan options.now.most (is_too_many result))
+        (Reads R.left R.is_read reader.old reader.new)
+        (λ text. Writes W.held W.is_write W.is_flush text writer.old writer.new)
+        (writer.new ≡ writer.old) result }
+    ensures threads { plan ≡ plans.Count → IfErr result (λ fault. (why : GatherFault) →
+        fault.cause ≡ cause.Gather why → why ≡ gather.Start) }
+{
+    let game = read_game(alloc, reader)?;
+    let found = find(rt, alloc, &game, options, gate, plan)?;
+    Ok(found.write(alloc, &game, lines_of(plan, options), writer)?)
+}
+
+/// Reads a game, lists its minimal winning coalitions and writes its report.
+///
+/// Worker threads list them. There may be at most `most`.
+///
+/// # Errors
+///
+/// As for `run_by`.
 pub fn run<T: Threads + Wait + Sync, R: Source, W: Sink, G: Gate + Sync>(
     rt: &T,
     alloc: Global,
@@ -48,23 +139,20 @@ pub fn run<T: Threads + Wait + Sync, R: Source, W: Sink, G: Gate + Sync>(
         (λ text. Writes W.held W.is_write W.is_flush text writer.old writer.new)
         (writer.new ≡ writer.old) result }
 {
-    let game = read_game(alloc, reader)?;
-    let found = list_by_workers(rt, alloc, &game, options, gate)?;
-    Ok(found.write(alloc, &game, options.lines(), writer)?)
+    run_by(rt, alloc, reader, options, gate, writer, Plan::List)
 }
 
 /// Reads a game, counts its minimal winning coalitions and writes its report.
 ///
-/// There may be any number of them; the report has no line for a coalition. It writes nothing else,
-/// and returns the number of bytes written. It may wait for its workers.
-///
-/// Sums count what they can, and worker threads walk over the rest. No coalition is kept, so the
-/// memory does not grow with their number, and `most` and `list` of the options have no effect.
-/// Threads fix at least 8 of the heaviest members in each slice, if there are 8.
+/// There may be any number of them; the report has no line for a coalition. They are counted by
+/// states. If these are too many, worker threads walk over the coalitions, and fix at least 8 of
+/// the first members in each slice, if there are 8. No coalition is kept, so the memory does not
+/// grow with their number, and `most` and `list` of the options have no effect.
 ///
 /// # Errors
 ///
-/// As for `run`, but there are never too many coalitions, and of the gathering only Start can come.
+/// As for `run_by`, but there are never too many coalitions, and of the gathering only Start can
+/// come.
 pub fn tally<T: Threads + Wait + Sync, R: Source, W: Sink, G: Gate + Sync>(
     rt: &T,
     alloc: Global,
@@ -80,7 +168,5 @@ pub fn tally<T: Threads + Wait + Sync, R: Source, W: Sink, G: Gate + Sync>(
     ensures threads { IfErr result (λ fault. (why : GatherFault) →
         fault.cause ≡ cause.Gather why → why ≡ gather.Start) }
 {
-    let game = read_game(alloc, reader)?;
-    let found = count_by_workers(rt, alloc, &game, options, gate)?;
-    Ok(found.write(alloc, &game, options.lines().without_list(), writer)?)
+    run_by(rt, alloc, reader, options, gate, writer, Plan::Count)
 }

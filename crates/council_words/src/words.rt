@@ -1,4 +1,5 @@
 //! The words of the command line.
+use clap::parser::ValueSource;
 use clap::{Arg, ArgAction, ArgMatches, Command, Error, value_parser};
 use council_base::{Options, limits};
 use std::alloc::{AllocError, Global};
@@ -21,6 +22,8 @@ pub struct Arguments<'a> {
     pub options: Options,
     /// Count the coalitions and keep none.
     pub tally: bool,
+    /// Refuse a game with more coalitions than `most`, because `--most` was given.
+    pub is_limited: bool,
     /// Explain on standard error why a game is refused.
     pub explain: bool,
 }
@@ -70,9 +73,8 @@ rules a quota, a total or a weight has one value for each rule, with / between.
              good index likewise
 
 With --tally a game may have any number of coalitions: they are counted, and
-none is kept. If it has one rule, two of which one gives each member the same
-weight, or rules that share no member but those that can veto, they are counted
-by sums or by halves, and --workers and --bits then have no effect.
+none is kept. Most games are counted by states, in up to a few seconds; others
+by worker threads, and only for these --workers and --bits have an effect.
 
 With --explain the line that says why a game is refused is followed by others:
 the line of the file, what it has, and what is allowed. They begin with blanks.
@@ -117,8 +119,9 @@ const NUMBERS: &[Number] = &[
         name: "most",
         value: "N",
         default: "1000000",
-        help: "A game with more coalitions is refused, 1 to 4000000;
---tally takes any number",
+        help: "Refuses a game with more coalitions, 1 to 4000000;
+without it and --list, a game with more is counted
+if it has few states",
         least: 1,
         greatest: limits::COALITIONS as i64,
     },
@@ -226,6 +229,7 @@ pub fn read_words<'a>(alloc: Global, words: &'a [String]) -> Result<Arguments<'a
             file: file_of(&matches),
             options: options_of(&matches).ok_or(WordsFault::Range)?,
             tally: matches.get_flag("tally"),
+            is_limited: matches!(matches.value_source("most"), Some(ValueSource::CommandLine)),
             explain: matches.get_flag("explain"),
         }),
         Err(error) => Err(WordsFault::Parse(error)),

@@ -7,3 +7,4 @@ pub mod LowestTermsAddUp
 pub mod Masks
 pub mod Minimal
 pub mod Ordered
+mod RuleOrder

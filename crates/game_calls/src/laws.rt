@@ -8,12 +8,13 @@ ghost use Rattle.council_base.specs.Coalitions.{has};
 ghost use Rattle.council_game.specs.Game.{GameView, IsGame, AreNonemptyCoalitions, first_weights, made_game, total, votes_of};
 ghost use Rattle.council_game.specs.Members.{HaveSameMembers, IsSubsetOf, size_of};
 ghost use Rattle.council_game.specs.Ranks.{rank_places};
-ghost use Rattle.council_game.specs.Renaming.{AreInverse, exchanged};
+ghost use Rattle.council_game.specs.Renaming.{AreInverse, IsRenaming, exchanged};
 ghost use Rattle.council_game.specs.Votes.{RuleView, Votes, IsVotes, wins, rule_at};
 ghost use Rattle.game_calls.specs.Quotas.{at_quota};
 ghost use Rattle.power_index.specs.Counting.{members};
 ghost use Rattle.power_index.specs.Fractions.{SameFraction, fraction_cmp, lowest_terms, AddUpToOne};
 ghost use Rattle.power_index.specs.Indices.{deegan_packel, public_good};
+ghost use Rattle.std.specs.List.Sorted.{IsPermutation};
 ghost use Rattle.std.specs.List.{filter, range_with_len};
 ghost use Rattle.std.specs.Prelude.{◌≡◌, ℕ, ◌<◌, ◌^◌, false, [], length, slice_index, slice_index_or, true, ◌+◌, ◌++◌, ◌∷◌, Bool, if◌then◌else◌, ◌↔◌, ◌*◌, ◌≤◌, List, map, Ok, Option};
 ghost use Rattle.game_calls.specs.Winning.{IsSubset, HasMinimalSubsets, HasVetoersInAll, HasMinimalSubsetOf, IsInAll, IsVetoer};
@@ -70,6 +71,14 @@ pub fn members_of_all_are_vetoers()
     ensures votes { (v : Votes) → IsVotes v → HasVetoersInAll v }
     ensures members { (g : GameView) → IsGame g → (i : ℕ) → i < length g.names
         → IsInAll g i ↔ IsVetoer g i }
+{}
+
+/// Rules in another order change nothing: coalitions of the same members win alike.
+///
+/// So sizes, counts and indices are the same (`names_do_not_matter`, `names_change_no_count`).
+pub fn order_of_rules_does_not_matter()
+    ensures { (g h : GameView) → IsGame g → IsGame h → length h.names ≡ length g.names
+        → IsPermutation g.rules h.rules → IsRenaming (λ i. i) (λ i. i) g h }
 {}
 
 /// A subset of a coalition has no more members.

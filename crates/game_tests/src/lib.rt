@@ -14,7 +14,7 @@ mod council_words_tests;
 #[cfg(test)]
 mod helpers;
 #[cfg(test)]
-mod mwc_closed_count_tests;
+mod mwc_states_tests;
 #[cfg(test)]
 mod mwc_walk_tests;
 #[cfg(test)]

@@ -1,3 +1,2 @@
 -- What only proofs, private functions and invariants need: no public contract mentions it.
 pub mod SliceCounts
-pub mod Threads

@@ -1,5 +1,4 @@
 //! Counts of worked games, by one thread and by several.
-mod pieces;
 mod refusals;
 
 ghost use Rattle.std.specs.Prelude.{◌≡◌, ◌<◌, ◌≤◌, length};

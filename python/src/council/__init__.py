@@ -15,12 +15,15 @@ from __future__ import annotations
 import numbers
 import operator
 import os
+import re
+import warnings
 from decimal import Decimal
+from fractions import Fraction
 from typing import Any, Iterable, Optional, Sequence, Union
 
-from .engine import MOST, NotFound, Refused, TooMany, compute
-from .game import GAME_FILE, format_game
-from .reports import Coalition, Member, Report
+from .engine import NotFound, Refused, TooMany, compute
+from .game import GAME_FILE, describe_low_quotas, find_slips, format_game
+from .reports import MOST, Coalition, Member, Report
 
 __all__ = ["Coalition", "Member", "NotFound", "Refused", "Report", "TooMany", "format_game_file", "report"]
 __version__ = "1.2.0"
@@ -34,6 +37,7 @@ def report(
     *,
     names: Optional[Iterable[object]] = None,
     title: str = "",
+    by: Optional[str] = None,
     file: Union[str, "os.PathLike[str]", None] = None,
     game: Union[str, bytes, None] = None,
     coalitions: bool = False,
@@ -45,13 +49,19 @@ def report(
 
     - a quota and the weights: `report(51, [50, 49, 1], names=["A", "B", "C"])`. For several rules,
       up to four, give a list of quotas, and for each a list of weights:
-      `report([5, 3], [[3, 2, 2, 1], [1, 1, 1, 1]])`. Without names, members are named 1, 2, ..
+      `report([5, 3], [[3, 2, 2, 1], [1, 1, 1, 1]])`. A list for each member, or an array, is taken
+      too if it can be told apart; of a square table `by="rule"` or `by="member"` says which it is.
+      A DataFrame has a row for each member. Without names, members have those of its index or of a
+      Series, if these are texts; else 1, 2, ..
     - `file`: the path of a game file.
     - `game`: the text of a game file, or a text such as "[51; 50, 49, 1]".
 
     With `coalitions=True` the report has the list of all minimal winning coalitions, and a game
     with more than `most` of them raises `TooMany`; `most` is at most 4,000,000. Without it, they
     are counted, however many there are.
+
+    A game in which two coalitions without a common member could both win, and a bracket text whose
+    commas seem to separate thousands, are warned of.
 
     Raises:
         Refused: council refuses the game, for example because a weight has decimals.
@@ -64,12 +74,23 @@ def report(
     if not 1 <= most <= MOST:
         raise ValueError(f"most is from 1 to {MOST:,}")
     if given[0]:
-        data = format_game_file(quota, weights, names=names, title=title).encode()
+        data = format_game_file(quota, weights, names=names, title=title, by=by).encode()
     else:
-        if names is not None or title:
-            raise TypeError("names and a title belong to a quota and weights")
+        if names is not None or title or by is not None:
+            raise TypeError("names, a title and by= belong to a quota and weights")
         data = read(file) if file is not None else game if isinstance(game, bytes) else str(game).encode("utf-8", "surrogatepass")
-    return Report.from_text(compute(data, listed=coalitions, most=most))
+    try:
+        made = Report.from_text(compute(data, listed=coalitions, most=most))
+    except Refused as fault:
+        if not given[0]:
+            raise
+        # values that were never a file have no lines
+        told = re.sub(r"(?m)^line \d+(, column \d+)?: ", "", fault.explanation)
+        raise type(fault)(fault.status, fault.fault, told, fault.game) from None
+    low = describe_low_quotas(made.quotas, made.totals)
+    for it in find_slips(data.decode()) + (low if len(low) == len(made.quotas) else []):
+        warnings.warn(it, stacklevel=2)
+    return made
 
 
 def read(path: Union[str, "os.PathLike[str]"]) -> bytes:
@@ -78,14 +99,23 @@ def read(path: Union[str, "os.PathLike[str]"]) -> bytes:
         return it.read(GAME_FILE + 1)
 
 
-def format_game_file(quota: Any, weights: Any, *, names: Optional[Iterable[object]] = None, title: str = "") -> str:
+def format_game_file(quota: Any, weights: Any, *, names: Optional[Iterable[object]] = None, title: str = "", by: Optional[str] = None) -> str:
     """Returns the text of the game file of a quota and weights, as `report` takes them."""
     if quota is None or weights is None:
         raise TypeError("give a quota and weights")
+    if names is None:
+        # the names that a Series or a DataFrame has; a list has another index
+        index = getattr(weights, "index", None)
+        own = [] if index is None or callable(index) else list(index)
+        names = own if own and all(isinstance(it, str) for it in own) else None
+    if hasattr(weights, "columns") and hasattr(weights, "to_numpy"):
+        by, weights = "member", weights.to_numpy(dtype=object)
+        quota = [quota] if is_number(quota) else quota
     if is_number(quota):
         quotas, columns = [write_number(quota)], [[write_number(it) for it in weights]]
     else:
-        quotas, columns = [write_number(it) for it in quota], [[write_number(it) for it in column] for column in weights]
+        quotas = [write_number(it) for it in quota]
+        columns = turn([[write_number(it) for it in its] for its in weights], len(quotas), by)
     if len(columns) != len(quotas):
         raise ValueError(f"there are {len(quotas)} quotas, and {len(columns)} lists of weights")
     members = len(columns[0]) if columns else 0
@@ -95,6 +125,17 @@ def format_game_file(quota: Any, weights: Any, *, names: Optional[Iterable[objec
     if len(called) != members:
         raise ValueError(f"there are {members} weights, and {len(called)} names")
     return format_game(called, quotas, zip(*columns), title)
+
+
+def turn(table: list[list[str]], rules: int, by: Optional[str]) -> list[list[str]]:
+    """Returns the weights by rule. A table that may be by rule or by member is refused."""
+    if by not in (None, "rule", "member"):
+        raise ValueError("by is \"rule\" or \"member\"")
+    by_member = [list(it) for it in zip(*table)]
+    is_by_rule, is_by_member = len(table) == rules, all(len(it) == rules for it in table)
+    if by is None and is_by_rule and is_by_member and table != by_member:
+        raise ValueError('the weights are a square table: say by="rule" if each list is a rule, by="member" if each is a member')
+    return by_member if by == "member" or (by is None and is_by_member and not is_by_rule) else table
 
 
 def is_number(value: Any) -> bool:
@@ -109,20 +150,22 @@ def is_number(value: Any) -> bool:
 
 
 def write_number(value: Any) -> str:
-    """Writes a quota or a weight. A whole number stays exact, of whatever type it is; any other is
-    written with its decimals, and council says what is wrong with it."""
+    """Writes a quota or a weight. A whole number stays exact, of whatever type it is, and what is one
+    but for 10^-9, as 0.29 * 100, is that. Any other is written with its decimals, and council says
+    what is wrong with it."""
     try:
         return write_whole(operator.index(value))
     except TypeError:
         if not is_number(value):
             raise TypeError(f"{value!r} is no number") from None
     try:
-        whole = int(value)
+        whole = round(value)
     except OverflowError:
         return repr(float(value))
     except ValueError:
         return "nan"
-    return write_whole(whole) if whole == value else repr(float(value))
+    exact = Fraction(value if isinstance(value, (numbers.Rational, Decimal)) else float(value))
+    return write_whole(whole) if abs(exact - whole) <= Fraction(1, 10**9) else repr(float(value))
 
 
 def write_whole(number: int) -> str:

@@ -18,7 +18,8 @@ import subprocess
 import threading
 from typing import Optional
 
-MOST = 4_000_000
+from .reports import MOST
+
 # room for a report without a list, and for one with a list, whose pages take no memory until they
 # are written to; if it is too small, the library is asked a second time
 ROOM, ROOM_OF_LIST = 1 << 16, 1 << 30

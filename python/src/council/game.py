@@ -2,7 +2,8 @@
 from __future__ import annotations
 
 import re
-from typing import Iterable, Sequence
+import sys
+from typing import Any, Callable, Iterable, Sequence
 
 from .reports import Fault, Report
 
@@ -85,6 +86,10 @@ class Unit:
         whole, decimals = (digits[: -self.places], "." + digits[-self.places :]) if self.places else (digits, "")
         return f"{int(whole):,}{decimals}" + ("%" if self.percent else "")
 
+    def write_plain(self, weight: int) -> str:
+        """Writes a weight as a program reads it: 1650 is 16.50, and 1234567 is 1234567."""
+        return Unit("", False, self.places).write(weight).replace(",", "")
+
     def is_share_of(self, total: int) -> bool:
         """Returns whether the weights are percentages that add up to 100."""
         return self.percent and total == 100 * 10**self.places
@@ -120,9 +125,20 @@ def read_units(comments: Iterable[str], rules: int) -> list[Unit]:
     return units
 
 
-def write_grouped(numbers: Iterable[int]) -> str:
-    """Writes a number for each rule, with commas between thousands and / between the rules."""
-    return "/".join(f"{it:,}" for it in numbers)
+def describe_low_quotas(quotas: Sequence[int], totals: Sequence[int]) -> list[str]:
+    """Says which quotas are at most half of their totals: 0.85 that was read as one vote, or a
+    game in which two coalitions without a common member both win."""
+    low = [rule for rule, (quota, total) in enumerate(zip(quotas, totals)) if 2 * quota <= total]
+    both = ": two coalitions without a common member could both win" if len(low) == len(quotas) else ""
+    of = [f" of rule {rule + 1}" if len(quotas) > 1 else "" for rule in low]
+    return [f"the quota {quotas[rule]:,}{it} is at most half of the total, {totals[rule]:,}{both}" for rule, it in zip(low, of)]
+
+
+def find_slips(text: str) -> list[str]:
+    """Returns what is hardly meant in a game file: thousands with commas in a bracket text."""
+    is_bracket = re.match(r"\s*\[\s*\d", text)
+    has_thousands = re.search(r"\b0\d\d\b", text) or (re.search(r"\d,\d{3}\b", text) and re.search(r",\s", text))
+    return ["a comma ends a weight, also between thousands: 1,000 is read as 1 and 0"] if is_bracket and has_thousands else []
 
 
 def find_comments(text: str) -> list[str]:
@@ -137,21 +153,94 @@ def find_comments(text: str) -> list[str]:
     return comments
 
 
-def check_same(text: str, report: Report) -> None:
-    """Refuses a file that is not the game of a report. A bracket text, and Python before 3.11, tell
-    nothing."""
-    try:
+# what a game file is made of: texts, numbers, names and signs, between blanks and comments
+TOKEN = re.compile(r"""(?:\s|\#[^\n]*)*("(?:[^"\\\n]|\\.)*"|'[^'\n]*'|[+-]?\d\w*|[\w-]+|[][{},=]|\Z)""", re.A)
+
+
+class Toml:
+    """Reads the TOML of a game file, for Python before 3.11. Any other text is a ValueError, or
+    another game."""
+
+    def __init__(self, text: str) -> None:
+        self.tokens, at = [""], 0
+        while at < len(text):
+            match = TOKEN.match(text, at)
+            if not match or match.end() == at:
+                raise ValueError(text[at : at + 20])
+            self.tokens.append(match[1])
+            at = match.end()
+        self.tokens.reverse()
+
+    def take(self, *wanted: str) -> str:
+        it = self.tokens.pop()
+        if wanted and it not in wanted:
+            raise ValueError(it)
+        return it
+
+    def read_all(self, end: str, read: Callable[[], None]) -> None:
+        """Reads what has commas between it, up to a bracket."""
+        while self.tokens[-1] != end:
+            read()
+            if self.tokens[-1] != end:
+                self.take(",")
+        self.take(end)
+
+    def read_pair(self, table: dict[str, Any]) -> None:
+        key = self.take()
+        self.take("=")
+        if key in table:
+            raise ValueError(key)
+        table[key] = self.read_value()
+
+    def read_value(self) -> Any:
+        it = self.take()
+        table: dict[str, Any] = {}
+        its: list[Any] = []
+        if it == "[":
+            self.read_all("]", lambda: its.append(self.read_value()))
+            return its
+        if it == "{":
+            self.read_all("}", lambda: self.read_pair(table))
+            return table
+        return it[1:-1] if it[:1] == "'" else unquote(it[1:-1]) if it[:1] == '"' else int(it, 0)
+
+    def read_game(self) -> dict[str, Any]:
+        """Returns the tables of a game file."""
+        game: dict[str, Any] = {}
+        table = game
+        self.take("")
+        while self.tokens[1:]:
+            if self.tokens[-1] == "[":
+                for it in "[", "[", "member", "]", "]":
+                    self.take(it)
+                table = {}
+                game.setdefault("member", []).append(table)
+            else:
+                self.read_pair(table)
+        return game
+
+
+def read_game(text: str) -> dict[str, Any]:
+    """Reads the TOML of a game file."""
+    if sys.version_info >= (3, 11):
         import tomllib
-    except ImportError:
-        return
-    if re.match(r"\s*\[\s*\d", text):
-        return
+
+        return tomllib.loads(text)
+    return Toml(text + "\n").read_game()
+
+
+def check_same(text: str, report: Report) -> None:
+    """Refuses a file that is not the game of a report."""
     try:
-        game = tomllib.loads(text)
+        if re.match(r"\s*\[\s*\d", text):
+            first, *others = map(int, re.findall(r"\d+", text))
+            game: dict[str, Any] = {"quota": first, "member": [{"name": str(at), "weight": it} for at, it in enumerate(others, 1)]}
+        else:
+            game = read_game(text)
         names = [it["name"] for it in game["member"]]
         quotas = game["quotas"] if "quotas" in game else [game["quota"]]
         weights = [it["weights"] if "weights" in it else [it["weight"]] for it in game["member"]]
-    except (ValueError, KeyError, TypeError):
+    except (ValueError, LookupError, TypeError, RecursionError):
         raise Fault("this is no game file") from None
     if (names, quotas, weights) != ([it.name for it in report.members], list(report.quotas), [list(it.weights) for it in report.members]):
         raise Fault("this is not the game of the report")

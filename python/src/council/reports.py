@@ -3,9 +3,15 @@ the coalitions if it lists them."""
 from __future__ import annotations
 
 import gc
+import io
+import itertools
 import math
 from fractions import Fraction
-from typing import Any, Callable, Iterable, NamedTuple, Optional
+from typing import Any, Callable, Iterable, Iterator, NamedTuple, Optional
+
+
+# the most coalitions that a report lists, and the letters that one of its lines may have
+MOST, LINE = 4_000_000, 1 << 16
 
 
 class Fault(Exception):
@@ -90,6 +96,20 @@ def read_coalition(size: str, weights: str, *names: str) -> Coalition:
     return Coalition(names, read_numbers(weights))
 
 
+def limit_lines(lines: Iterable[str]) -> Iterator[str]:
+    """Yields lines, those of a file only as far as shows that one is too long."""
+    if not isinstance(lines, io.TextIOBase):
+        yield from lines
+        return
+    for at in itertools.count(1):
+        line = lines.readline(LINE + 1)
+        if len(line) > LINE:
+            raise Fault(f"line {at} is no line of a report of council")
+        if not line:
+            return
+        yield line
+
+
 def ignore(_: Coalition) -> None:
     """Keeps nothing of a coalition."""
 
@@ -132,12 +152,12 @@ class Report:
     def _read(self, lines: Iterable[str], take: Callable[[Coalition], None]) -> dict[str, str]:
         """Reads the lines, and returns the fields of those that a report has once."""
         one: dict[str, str] = {}
-        for at, line in enumerate(lines, 1):
+        for at, line in enumerate(limit_lines(lines), 1):
             kind, *fields = line.rstrip("\r\n").split("\t")
             try:
-                if kind == "member":
+                if kind == "member" and len(self.members) < 40:
                     self.members.append(read_member(*fields))
-                elif kind == "coalition":
+                elif kind == "coalition" and self.listed < MOST:
                     take(read_coalition(*fields))
                     self.listed += 1
                 elif kind in ("title", "members", "quota", "total", "minimal"):

@@ -7,17 +7,17 @@ MOST <- 4000000
 GAME_FILE <- 65536L
 
 council <- function(quota, weights, names = NULL, title = "", file = NULL, game = NULL,
-                    coalitions = FALSE, program = NULL) {
+                    coalitions = FALSE, program = NULL, by = NULL) {
   given <- c(!missing(quota) || !missing(weights), !is.null(file), !is.null(game))
   if (sum(given) != 1) {
     stop("give a quota and weights, or a file, or a game")
   }
-  if (!given[1] && (!is.null(names) || !identical(title, ""))) {
-    stop("names and a title belong to a quota and weights")
+  if (!given[1] && (!is.null(names) || !identical(title, "") || !is.null(by))) {
+    stop("names, a title and by = belong to a quota and weights")
   }
   bytes <- if (given[1]) {
     if (missing(quota) || missing(weights)) stop("give a quota and weights")
-    format_game(quota, weights, names, title)
+    format_game(quota, weights, names, title, by)
   } else if (given[2]) {
     read_bytes(file)
   } else {
@@ -25,9 +25,24 @@ council <- function(quota, weights, names = NULL, title = "", file = NULL, game 
   }
   done <- run_program(find_program(program), bytes, coalitions)
   if (done$status != 0) {
-    stop(refuse(done$status, done$err, bytes, sys.call()))
+    stop(refuse(done$status, done$err, bytes, sys.call(), given[1]))
   }
-  read_report(done$out, coalitions)
+  table <- read_report(done$out, coalitions)
+  warn_of_slips(bytes, attr(table, "quota"), attr(table, "total"))
+  table
+}
+
+# Warns of what is hardly meant: quotas of at most half, and thousands in a bracket text, whose
+# commas end a weight.
+warn_of_slips <- function(bytes, quota, total) {
+  text <- rawToChar(bytes)
+  has <- function(pattern) grepl(pattern, text, perl = TRUE, useBytes = TRUE)
+  if (has("^\\s*\\[\\s*[0-9]") && (has("\\b0[0-9]{2}\\b") || (has("[0-9],[0-9]{3}\\b") && has(",\\s")))) {
+    warning("a comma ends a weight, also between thousands: 1,000 is read as 1 and 0", call. = FALSE)
+  }
+  if (all(2 * quota <= total)) {
+    warning("a quota is at most half of its total: two coalitions without a common member could both win", call. = FALSE)
+  }
 }
 
 # Reads a game file, and no more of it than shows that it is too long.
@@ -71,10 +86,12 @@ run_program <- function(program, bytes, coalitions) {
   list(status = status, out = read(files[2]), err = read(files[3]))
 }
 
-# Returns the condition of a game that the program refuses.
-refuse <- function(status, lines, bytes, call) {
+# Returns the condition of a game that the program refuses. Values that were never a file have no
+# lines.
+refuse <- function(status, lines, bytes, call, is_values) {
   fault <- if (length(lines)) sub("^council: ", "", lines[1]) else paste("council ended with status", status)
   explanation <- sub("^  ", "", lines[-1])
+  if (is_values) explanation <- sub("^line [0-9]+(, column [0-9]+)?: ", "", explanation)
   first <- regmatches(explanation[1], regexec("^line ([0-9]+)(, column [0-9]+)?:", explanation[1]))[[1]]
   line <- as.integer(first[2])
   errorCondition(
@@ -85,11 +102,16 @@ refuse <- function(status, lines, bytes, call) {
 }
 
 # Returns the bytes of the game file of a quota and weights.
-format_game <- function(quota, weights, names, title) {
+format_game <- function(quota, weights, names, title, by = NULL) {
   columns <- if (is.list(weights)) weights else if (is.matrix(weights)) {
     lapply(seq_len(ncol(weights)), function(rule) weights[, rule])
   } else {
     list(weights)
+  }
+  as_given <- columns
+  if (is.list(weights) || is.matrix(weights)) {
+    is_sure <- is.data.frame(weights) || !is.null(base::names(columns)) || !is.null(dimnames(weights))
+    columns <- turn(columns, length(quota), by, is_sure)
   }
   if (length(columns) != length(quota)) {
     stop("there are ", length(quota), " quotas, and ", length(columns), " columns of weights")
@@ -98,7 +120,7 @@ format_game <- function(quota, weights, names, title) {
   if (length(members) == 0 || any(members != members[1])) {
     stop("the columns of weights are not equally long")
   }
-  if (is.null(names)) names <- find_names(weights, members[1])
+  if (is.null(names)) names <- find_names(if (identical(columns, as_given)) weights else if (is.matrix(weights)) t(weights), members[1])
   if (length(names) != members[1]) {
     stop("there are ", members[1], " weights, and ", length(names), " names")
   }
@@ -115,6 +137,19 @@ format_game <- function(quota, weights, names, title) {
   unlist(bytes)
 }
 
+# Returns the weights by rule. A table that may be by rule or by member is refused, unless it is a
+# data frame, or names its rules or members.
+turn <- function(columns, rules, by, is_sure) {
+  if (!is.null(by) && !by %in% c("rule", "member")) stop("by is \"rule\" or \"member\"")
+  is_by_rule <- length(columns) == rules
+  is_by_member <- length(columns) > 0 && all(lengths(columns) == rules)
+  turned <- if (is_by_member) lapply(seq_len(rules), function(rule) vapply(columns, function(it) as.numeric(it[[rule]]), 0))
+  if (is.null(by) && !is_sure && is_by_rule && is_by_member && !identical(unname(turned), unname(lapply(columns, as.numeric)))) {
+    stop("the weights are a square table: say by = \"rule\" if each column is a rule, by = \"member\" if each is a member")
+  }
+  if (is_by_member && (identical(by, "member") || (is.null(by) && !is_by_rule))) turned else columns
+}
+
 # Returns the names that the weights have themselves; else 1, 2, ..
 find_names <- function(weights, members) {
   own <- if (is.data.frame(weights)) {
@@ -127,14 +162,18 @@ find_names <- function(weights, members) {
   if (is.null(own)) seq_len(members) else own
 }
 
-# Writes whole numbers exactly; others with their decimals, and council says what is wrong with them.
+# Writes whole numbers exactly, and what is one but for 10^-9, as 0.29 * 100, as that; others with
+# their decimals, and council says what is wrong with them.
 write_numbers <- function(values, what) {
   if (!is.numeric(values)) stop("a ", what, " is no number")
   if (anyNA(values)) stop("a ", what, " is NA")
   values <- as.numeric(values)
   text <- tolower(sprintf("%.15g", values))
-  whole <- is.finite(values) & values == floor(values)
-  text[whole] <- sprintf("%.0f", values[whole])
+  near <- round(values)
+  whole <- is.finite(values) & abs(values - near) <= 1e-9
+  text[whole] <- sprintf("%.0f", near[whole])
+  hidden <- !whole & is.finite(values) & !grepl("[.e]", text)
+  text[hidden] <- sprintf("%.17g", values[hidden])
   text
 }
 

@@ -7,7 +7,7 @@ by the program \command{council}, whose functions are proved to meet their contr
 }
 \usage{
 council(quota, weights, names = NULL, title = "", file = NULL, game = NULL,
-        coalitions = FALSE, program = NULL)
+        coalitions = FALSE, program = NULL, by = NULL)
 }
 \arguments{
 \item{quota}{the quota: a coalition wins if its weight is at least that. For several rules, up to four, a
@@ -23,6 +23,8 @@ council(quota, weights, names = NULL, title = "", file = NULL, game = NULL,
   counted, however many there are.}
 \item{program}{the program; else the one that \code{options(council.program =)} or the environment
   variable \env{COUNCIL_PROGRAM} names, or the one on the PATH.}
+\item{by}{of a square table of weights without names: \code{"rule"} if each column is a rule,
+  \code{"member"} if each is a member.}
 }
 \value{
 A data frame with a row for each member, in the order of the game:

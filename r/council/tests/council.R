@@ -26,6 +26,9 @@ stopifnot(
   identical(attr(parties, "title"), "T")
 )
 
+# what an error says
+said <- function(expr) tryCatch({ expr; "nothing" }, council_refused = function(it) "refused", error = conditionMessage)
+
 # names of the weights, and 1, 2, .. without any
 stopifnot(
   identical(council(51, c(x = 50, y = 49, z = 1))$name, c("x", "y", "z")),
@@ -56,6 +59,22 @@ stopifnot(
   identical(council(c(1, 2), cbind(1, 2))$weight_2, 2)
 )
 
+# what is hardly meant is warned of
+warned <- function(expr) tryCatch({ expr; "nothing" }, warning = conditionMessage)
+stopifnot(
+  grepl("at most half", warned(council(50, c(50, 49, 1)))), warned(council(51, c(50, 49, 1))) == "nothing", warned(council(c(50, 51), cbind(c(50, 50), c(50, 50)))) == "nothing",
+  grepl("thousands", warned(council(game = "[1051; 1,000, 49, 1, 1000]"))), grepl("thousands", warned(council(game = "[300; 1,500, 49, 1]"))), warned(council(game = "[600; 100,500,49]")) == "nothing"
+)
+
+# a table by rule and by member
+square <- cbind(c(3, 2), c(1, 1))
+stopifnot(
+  identical(council(c(5, 3), t(unname(votes)))$weight_1, c(3, 2, 2, 1)),
+  grepl("square table", said(council(c(3, 2), square))), grepl("square table", said(council(c(3, 2), list(c(3, 2), c(1, 1))))), grepl("^by is", said(council(c(3, 2), square, by = "x"))),
+  identical(council(c(4, 1), square, by = "rule")$weight_2, c(1, 1)), identical(council(c(3, 2), square, by = "member")$weight_2, c(2, 1)),
+  identical(council(c(4, 1), as.data.frame(square))$weight_1, c(3, 2)), identical(council(c(4, 1), list(votes = c(3, 2), heads = c(1, 1)))$weight_1, c(3, 2))
+)
+
 # the coalitions
 listed <- council(51, c(A = 50, B = 49, C = 1), coalitions = TRUE)
 stopifnot(identical(attr(listed, "coalitions"), list(c("A", "B"), c("A", "C"))), length(attr(council(4, rep(1, 10), coalitions = TRUE), "coalitions")) == choose(10, 4))
@@ -84,8 +103,8 @@ refused <- function(...) {
 }
 bad <- refused(51, c(50, 16.5))
 stopifnot(
-  inherits(bad, "council_refused"), inherits(bad, "error"), identical(bad$fault, "bad weight of member 2"), identical(bad$status, 3L), identical(bad$line, 9L),
-  identical(bad$explanation[1], "line 9: weight = 16.5"), length(bad$explanation) > 1, any(grepl("multiply", bad$explanation)),
+  inherits(bad, "council_refused"), inherits(bad, "error"), identical(bad$fault, "bad weight of member 2"), identical(bad$status, 3L), identical(bad$line, NA_integer_),
+  identical(bad$explanation[1], "weight = 16.5"), length(bad$explanation) > 1, any(grepl("multiply", bad$explanation)),
   conditionMessage(bad) == paste(c(bad$fault, bad$explanation), collapse = "\n"), identical(conditionCall(bad), quote(council(...))),
   rawToChar(bad$game) == "quota = 51\n\n[[member]]\nname = \"1\"\nweight = 50\n\n[[member]]\nname = \"2\"\nweight = 16.5\n"
 )
@@ -100,9 +119,10 @@ stopifnot(
   identical(refused(game = "[51; 50, 49,, 1]")$fault, "bad bracket text"),
   identical(refused(game = "\nquota = ")$line, 2L),
   identical(refused(1, c(1, Inf))$fault, "bad weight of member 2"),
-  identical(refused(1, 1234567.5)$explanation[1], "line 5: weight = 1234567.5"),
-  identical(refused(1, 0.1)$explanation[1], "line 5: weight = 0.1"),
-  identical(refused(1, 1e15)$explanation[1], "line 5: weight = 1000000000000000")
+  identical(refused(1, 1234567.5)$explanation[1], "weight = 1234567.5"),
+  identical(refused(1, 0.1)$explanation[1], "weight = 0.1"),
+  identical(refused(1, 1e15)$explanation[1], "weight = 1000000000000000"),
+  identical(refused(1, c(1, 1e8 + 1e-7))$fault, "bad weight of member 2"), identical(council(0.29 * 100, c(0.29 * 100, 1))$weight, c(29, 1))
 )
 
 # a file of the greatest length, and a longer one
@@ -113,10 +133,9 @@ cat(" ", file = path, append = TRUE)
 stopifnot(identical(refused(file = path)$fault, "the game file is longer than 65536 bytes"))
 
 # what is no game at all is an ordinary error
-said <- function(expr) tryCatch({ expr; "nothing" }, council_refused = function(it) "refused", error = conditionMessage)
 ways <- "give a quota and weights, or a file, or a game"
 parts <- "give a quota and weights"
-belong <- "names and a title belong to a quota and weights"
+belong <- "names, a title and by = belong to a quota and weights"
 uneven <- "the columns of weights are not equally long"
 absent <- "the program council was not found: put it on the PATH, or name it by program ="
 stopifnot(
@@ -125,7 +144,7 @@ stopifnot(
   said(council(game = "[1; 1]", names = "A")) == belong, said(council(game = "[1; 1]", title = "T")) == belong, said(council(file = "x", names = "A")) == belong,
   said(council(51, c(50, NA))) == "a weight is NA", said(council(NA_real_, 1)) == "a quota is NA", said(council(1, c("1", "1"))) == "a weight is no number",
   said(council("1", 1)) == "a quota is no number", said(council(1, TRUE)) == "a weight is no number",
-  said(council(c(1, 2), c(1, 2))) == "there are 2 quotas, and 1 columns of weights", said(council(1, cbind(1, 1))) == "there are 1 quotas, and 2 columns of weights",
+  said(council(c(1, 2), c(1, 2))) == "there are 2 quotas, and 1 columns of weights", said(council(c(1, 1, 1), cbind(c(1, 1), 1))) == "there are 3 quotas, and 2 columns of weights",
   said(council(c(1, 2), list(c(1, 2), 1))) == uneven, said(council(c(1, 2), list(1, c(1, 2)))) == uneven, said(council(numeric(0), list())) == uneven,
   said(council(51, c(50, 1), names = "A")) == "there are 2 weights, and 1 names", said(council(1, 1, names = c("A", "B"))) == "there are 1 weights, and 2 names",
   said(council(1, 1, names = NA)) == "a name is NA", said(council(file = "no-such-file.toml")) == "there is no file no-such-file.toml",

@@ -127,26 +127,6 @@ const TWO_RULES_TALLY: &[u8] = b"title\tTwo\n\
     member\tD\t1/1\t3\t1/4\t0.250000\t1/4\t0.250000\n";
 
 #[test]
-fn tallies_by_sums(rt: HostRuntime) {
+fn tallies_by_states(rt: HostRuntime) {
     runs(&rt, rt.alloc(), TWO_RULES, TWO_RULES_TALLY, true);
-}
-
-/// Two rules that give all members weight, which sums do not take: threads count.
-const SHARED_RULES: &[u8] = b"quotas = [2, 2]\n\
-    member = [{name = \"A\", weights = [2, 1]},\
-    {name = \"B\", weights = [1, 2]},\
-    {name = \"C\", weights = [1, 1]}]";
-
-const SHARED_RULES_TALLY: &[u8] = b"members\t3\n\
-    quota\t2/2\n\
-    total\t4/4\n\
-    minimal\t3\n\
-    size\t2\t3\t2\t2\t2\n\
-    member\tA\t2/1\t2\t1/3\t0.333333\t1/3\t0.333333\n\
-    member\tB\t1/2\t2\t1/3\t0.333333\t1/3\t0.333333\n\
-    member\tC\t1/1\t2\t1/3\t0.333333\t1/3\t0.333333\n";
-
-#[test]
-fn tallies_by_threads(rt: HostRuntime) {
-    runs(&rt, rt.alloc(), SHARED_RULES, SHARED_RULES_TALLY, true);
 }

@@ -12,7 +12,7 @@ from typing import Iterator, Sequence
 
 from ..game import Unit
 from ..reports import Report, round_half_up
-from .command import Words, add_report, read_comments, read_report, warn_of_low_quotas
+from .command import Words, add_report, read_comments, read_report
 from .drawing import INDICES, SHARES, measure, name_share, wrap, write_picture, write_quota, write_text
 
 # the bars of a member are 13 apart: a number of 9 has room above and below
@@ -68,4 +68,3 @@ def main(args: list[str]) -> None:
     _, units = read_comments(words.game, report)
     for line in draw(report, words.decimals, units):
         print(line)
-    warn_of_low_quotas(report.quotas, report.totals)

@@ -12,6 +12,8 @@ from typing import Iterator, Optional
 from ..game import quote
 from ..reports import Fault
 
+# the most lines of a table
+LINES = 10000
 BLANKS = " \u00a0\u2007\u2009\u202f"
 # digits in groups of three, with a blank or an apostrophe between them
 GROUPED = re.compile(rf"\d{{1,3}}([{BLANKS}'’]\d{{3}})+(?=[.,]|$)")
@@ -86,6 +88,8 @@ class Table:
 
     def __init__(self, data: bytes, encoding: Optional[str]) -> None:
         text = decode(data, encoding)
+        if max(text.count("\n"), text.count("\r")) > LINES:
+            raise Fault(f"the table has more than {LINES:,} lines: keep those of the members")
         first, _, rest = text.partition("\n")
         # csv takes no quote and no line end for a separator
         said = re.fullmatch(r'sep=([^"\r])\r?', first)
@@ -93,7 +97,7 @@ class Table:
             # an empty line instead of it keeps the line numbers
             self.delimiter, text = said[1], "\n" + rest
         else:
-            self.delimiter = max("\t;,", key=lambda it: sum(len(row) > 1 for _, row in read_rows(text, it, quiet=True)))
+            self.delimiter = max("\t;|,", key=lambda it: sum(len(row) > 1 for _, row in read_rows(text, it, quiet=True)))
         self.rows = list(read_rows(text, self.delimiter))
 
 

@@ -5,10 +5,10 @@ import argparse
 import io
 import os
 import sys
-from typing import Callable, Iterable, NoReturn, Optional, Sequence, TextIO, TypeVar, cast
+from typing import Callable, NoReturn, Optional, Sequence, TextIO, TypeVar, cast
 
 from ..engine import NotFound, Refused
-from ..game import GAME_FILE, Unit, check_same, find_comments, read_units
+from ..game import GAME_FILE, Unit, check_same, describe_low_quotas, find_comments, read_units
 from ..reports import Coalition, Fault, Report, ignore
 
 # the name of the tool that runs
@@ -94,13 +94,9 @@ def note(text: str) -> None:
 
 
 def warn_of_low_quotas(quotas: Sequence[int], totals: Sequence[int]) -> None:
-    """Warns of each quota that is at most half of its total: of 0.85 read as one vote, and of a
-    game in which two coalitions without a common member both win."""
-    low = [rule for rule, (quota, total) in enumerate(zip(quotas, totals)) if 2 * quota <= total]
-    both = ": two coalitions without a common member could both win" if len(low) == len(quotas) else ""
-    for rule in low:
-        of = f" of rule {rule + 1}" if len(quotas) > 1 else ""
-        note(f"the quota {quotas[rule]:,}{of} is at most half of the total, {totals[rule]:,}{both}")
+    """Warns of each quota that is at most half of its total, as `describe_low_quotas` does."""
+    for it in describe_low_quotas(quotas, totals):
+        note(it)
 
 
 def read_lines(path: str, make: Callable[[TextIO], T]) -> T:
@@ -117,8 +113,11 @@ def read_lines(path: str, make: Callable[[TextIO], T]) -> T:
 
 
 def read_report(path: str, take: Callable[[Coalition], None] = ignore) -> Report:
-    """Reads the report in a file; - is standard input. `take` gets its coalitions."""
-    return read_lines(path, lambda lines: Report(lines, take))
+    """Reads the report in a file; - is standard input. `take` gets its coalitions. Low quotas are
+    warned of."""
+    report = read_lines(path, lambda lines: Report(lines, take))
+    warn_of_low_quotas(report.quotas, report.totals)
+    return report
 
 
 def read_comments(path: Optional[str], report: Report) -> tuple[list[str], list[Unit]]:

@@ -2,10 +2,10 @@
 
     council-tools compare [OPTIONS] REPORT REPORT..
 
-Each game has its weights and both indices, and each but the first also the differences to the
-first. A dash means that a game does not have the member. Members are matched by their exact
+Each game has its weights and both indices, cut off after six decimals, and each but the first also
+the differences of these to the first. A dash means that a game does not have the member. Members are matched by their exact
 names. You are warned of two names that look alike if only one game has each of them: --same makes
-them one.
+them one. With --game FILE, once for each report, weights are in the unit of their game file.
 """
 from __future__ import annotations
 
@@ -15,17 +15,17 @@ import unicodedata
 from fractions import Fraction
 from typing import Dict, Iterable, Iterator, List, Sequence
 
-from ..game import quote, quote_for_shell, write_grouped
-from ..reports import Fault, Member, Report, cut_off, round_half_up
-from .command import Words, make_printable, note, read_report
+from ..game import Unit, quote, quote_for_shell
+from ..reports import Fault, Member, Report, cut_off
+from .command import Words, make_printable, note, read_comments, read_report
 
 # the members of each game, by name
 Games = List[Dict[str, Member]]
 
 
 def write_signed(value: Fraction) -> str:
-    """Writes a difference with its sign and six decimals, rounded."""
-    digits = round_half_up(abs(value), 6)
+    """Writes a difference of decimals with its sign."""
+    digits = cut_off(abs(value), 6)
     sign = "" if float(digits) == 0 else "-" if value < 0 else "+"
     return sign + digits
 
@@ -83,14 +83,18 @@ def find_members(report: Report, same: Sequence[Sequence[str]]) -> dict[str, Mem
     return members
 
 
-def make_cells(games: Games, name: str) -> Iterator[list[str]]:
+def write_weights(weights: Iterable[int], units: Sequence[Unit]) -> str:
+    """Writes a number for each rule in its unit, with / between them."""
+    return "/".join(unit.write(it) for it, unit in zip(weights, units))
+
+
+def make_cells(games: Games, units: Sequence[Sequence[Unit]], name: str) -> Iterator[list[str]]:
     """Yields the cells of a row: a group for each game, and for each difference to the first."""
-    first = games[0].get(name)
+    shown = [[cut_off(it.deegan_packel_exact), cut_off(it.public_good_exact)] if it else [] for it in (members.get(name) for members in games)]
     for at, members in enumerate(games):
-        it = members.get(name)
-        yield [write_grouped(it.weights), cut_off(it.deegan_packel_exact), cut_off(it.public_good_exact)] if it else ["-", "-", "-"]
-        if at and it and first:
-            yield [write_signed(it.deegan_packel_exact - first.deegan_packel_exact), write_signed(it.public_good_exact - first.public_good_exact)]
+        yield [write_weights(members[name].weights, units[at]), *shown[at]] if shown[at] else ["-", "-", "-"]
+        if at and shown[at] and shown[0]:
+            yield [write_signed(Fraction(it) - Fraction(first)) for it, first in zip(shown[at], shown[0])]
         elif at:
             yield ["-", "-"]
 
@@ -99,14 +103,14 @@ def measure(text: str) -> int:
     return sum(0 if unicodedata.combining(it) else 2 if unicodedata.east_asian_width(it) in "WF" else 1 for it in text)
 
 
-def write_table(games: Games) -> Iterator[str]:
+def write_table(games: Games, units: Sequence[Sequence[Unit]]) -> Iterator[str]:
     """Yields the lines of the table, with a heading over each group."""
     names = dict.fromkeys(name for members in games for name in members)
     over = ["1"]
     for at in range(2, len(games) + 1):
         over += [str(at), f"{at} - 1"]
     groups = [["weight", "DP", "PG"] if "-" not in it else ["DP", "PG"] for it in over]
-    rows: Sequence[tuple[str, Sequence[Sequence[str]]]] = [("", groups)] + [(make_printable(name), list(make_cells(games, name))) for name in names]
+    rows: Sequence[tuple[str, Sequence[Sequence[str]]]] = [("", groups)] + [(make_printable(name), list(make_cells(games, units, name))) for name in names]
     # each group is as wide as its cells, whose columns are as wide as their longest text
     widths = [[max(measure(row[1][at][column]) for row in rows) for column in range(len(group))] for at, group in enumerate(groups)]
     first = max(measure(row[0]) for row in rows)
@@ -126,17 +130,21 @@ def main(args: list[str]) -> None:
     reader = Words("compare", __doc__)
     reader.add_argument("reports", metavar="REPORT", nargs="+", help="a report of council; - is standard input")
     reader.add_argument("--same", metavar=("NAME", "OTHER"), nargs=2, action="append", default=[], help="two names that are one member")
+    reader.add_argument("--game", metavar="FILE", action="append", help="the game file of a report, once for each in their order")
     words = reader.parse_words(args)
     if len(words.reports) < 2 or words.reports.count("-") > 1:
         raise Fault("name two reports or more", 2)
     reports = [read_report(it) for it in words.reports]
+    if words.game and len(words.game) != len(reports):
+        raise Fault(f"give --game once for each report: there are {len(reports)} reports, and {len(words.game)} game files", 2)
+    units = [read_comments(path, it)[1] for path, it in zip(words.game or [None] * len(reports), reports)]
     games = [find_members(it, words.same) for it in reports]
     for first, other in words.same:
         if not any(it.name in (first, other) for report in reports for it in report.members):
             raise Fault(f"--same {quote_for_shell(first)} {quote_for_shell(other)}: no report has one of them", 2)
     for at, it in enumerate(reports, 1):
-        print(f"{at}  {make_printable(it.heading())}: {write_grouped(it.quotas)} of {write_grouped(it.totals)}, minimal winning coalitions: {it.minimal:,}")
+        print(f"{at}  {make_printable(it.heading())}: {write_weights(it.quotas, units[at - 1])} of {write_weights(it.totals, units[at - 1])}, minimal winning coalitions: {it.minimal:,}")
     print()
-    for line in write_table(games):
+    for line in write_table(games, units):
         print(line)
     warn(games)

@@ -12,8 +12,8 @@ from xml.sax.saxutils import escape
 from ..game import Unit, quote
 from ..reports import Report, round_half_up
 
-# what XML has no place for, and what would turn the direction of a line
-REFUSED = re.compile("[^\t\n\r -\ud7ff\ue000-\ufffd\U00010000-\U0010ffff]|[\x7f-\x9f\u200e\u200f\u202a-\u202e\u2066-\u2069]|[\ufdd0-\ufdef]")
+# what XML has no place for, what would turn the direction of a line, and what has no width
+REFUSED = re.compile("[^\t\n\r -\ud7ff\ue000-\ufffd\U00010000-\U0010ffff]|[\x7f-\x9f\u061c\u200b-\u200f\u2028-\u202e\u2060-\u2069\ufeff]|[\ufdd0-\ufdef]")
 COLORS = ["#33557f", "#c06a2b", "#3c8a4e", "#a03a5b", "#6b5ca5", "#8a7a1f", "#2a8a9a", "#7a4a2a", "#d0589a", "#5a5a5a"]
 DASHES = ["", "7 3", "2 3", "9 3 2 3"]
 # the share under each rule, and both indices: on white, and on the dark ground of a page

@@ -4,15 +4,16 @@
 
     csv       A line for each member, with a heading. Names and fractions are in quotes; a name that
               a spreadsheet would take for a formula has an apostrophe in front.
-    json      The whole report: numbers as numbers, fractions as two integers, and the coalitions if
-              they are listed.
+    json      The whole report: numbers as numbers, fractions as two integers, which are texts from
+              2^53 on, and the coalitions if they are listed.
     latex     A table for the package booktabs. Letters that pdflatex does not have are numbers.
     markdown  A table, in which no letter of a name has a meaning of its own.
 
 The columns of a table are name, weight, share (of the votes), coalitions, deegan_packel and
 public_good (both indices as decimals), deegan_packel_exact and public_good_exact (the same as
 fractions). With several rules there is a weight and a share for each. For a spreadsheet with a
-decimal comma, write CSV with --decimal , (in which semicolons separate the columns).
+decimal comma, write CSV with --decimal , (in which semicolons separate the columns). With the game
+file, --game FILE, weights of a table are in their unit, and have its name.
 """
 from __future__ import annotations
 
@@ -26,14 +27,14 @@ import unicodedata
 from fractions import Fraction
 from typing import Iterable, Iterator, Optional, Sequence
 
-from ..game import quote
+from ..game import Unit, quote
 from ..reports import Coalition, Fault, Member, Report, cut_off, round_half_up, write_fraction
-from .command import Words, add_report, read_lines, read_report
+from .command import Words, add_report, make_printable, read_comments, read_lines, read_report, warn_of_low_quotas
 
 FORMATS = ["csv", "json", "latex", "markdown"]
 HEADINGS = {
     "name": "Member", "weight": "Weight", "share": "Share", "coalitions": "Coalitions", "deegan_packel": "Deegan-Packel",
-    "public_good": "Public good", "deegan_packel_exact": "Deegan-Packel", "public_good_exact": "Public good",
+    "public_good": "Public good", "deegan_packel_exact": "Deegan-Packel, exact", "public_good_exact": "Public good, exact",
 }
 IN_CSV = ["name", "weight", "coalitions", "deegan_packel", "public_good", "deegan_packel_exact", "public_good_exact"]
 IN_PRINT = ["name", "weight", "deegan_packel", "public_good"]
@@ -42,29 +43,33 @@ TEXTS = ["name", "deegan_packel_exact", "public_good_exact"]
 
 
 class Column:
-    """A column: its content, and its rule if there are several."""
+    """A column: its content, its rule if there are several, and the unit of that."""
 
-    def __init__(self, kind: str, rule: Optional[int] = None) -> None:
-        self.kind, self.rule = kind, rule
+    def __init__(self, kind: str, unit: Unit, rule: Optional[int] = None) -> None:
+        self.kind, self.unit, self.rule = kind, unit, rule
 
     def heading(self) -> str:
         return self.kind if self.rule is None else f"{self.kind}_{self.rule + 1}"
 
     def title(self) -> str:
+        if self.kind in ("weight", "share") and self.unit.name:
+            return make_printable(self.unit.name) + (", share" if self.kind == "share" else "")
         return HEADINGS[self.kind] + ("" if self.rule is None else f", rule {self.rule + 1}")
 
     def write_for_people(self, report: Report, member: Member, places: Optional[int]) -> str:
         """Returns the cell of a member as people read it: whole numbers have commas between
         thousands."""
+        if self.kind == "weight":
+            return self.unit.write(member.weights[self.rule or 0])
         text = self.write(report, member, places)
-        return f"{int(text):,}" if self.kind in ("weight", "coalitions") else text
+        return f"{int(text):,}" if self.kind == "coalitions" else text
 
     def write(self, report: Report, member: Member, places: Optional[int]) -> str:
         """Returns the cell of a member. Without a number of places, decimals are as the report has
         them; else rounded."""
         kind, rule = self.kind, self.rule or 0
         if kind == "weight":
-            return str(member.weights[rule])
+            return self.unit.write_plain(member.weights[rule])
         if kind == "share":
             return round_half_up(report.share(member, rule), 6 if places is None else places)
         if kind in ("deegan_packel", "public_good"):
@@ -74,13 +79,12 @@ class Column:
         return str(it) if kind in ("name", "coalitions") else write_fraction(it)
 
 
-def choose_columns(report: Report, kinds: Iterable[str]) -> Iterator[Column]:
-    several = len(report.quotas) > 1
+def choose_columns(report: Report, kinds: Iterable[str], units: Sequence[Unit]) -> Iterator[Column]:
     for kind in kinds:
-        if several and kind in ("weight", "share"):
-            yield from (Column(kind, rule) for rule in range(len(report.quotas)))
+        if len(units) > 1 and kind in ("weight", "share"):
+            yield from (Column(kind, unit, rule) for rule, unit in enumerate(units))
         else:
-            yield Column(kind)
+            yield Column(kind, units[0])
 
 
 def write_csv(report: Report, columns: Sequence[Column], places: Optional[int], decimal: str) -> Iterator[str]:
@@ -91,9 +95,10 @@ def write_csv(report: Report, columns: Sequence[Column], places: Optional[int], 
         cells = []
         for it in columns:
             text = it.write(report, member, places)
-            if text.lstrip()[:1] in tuple("=+-@＝＋－＠"):
+            # (a spreadsheet may skip blanks and letters without a width)
+            if next((letter for letter in text if letter.isprintable() and letter != " "), "") in tuple("=+-@＝＋－＠"):
                 text = "'" + text
-            if it.kind in DECIMALS:
+            if it.kind in ("weight", *DECIMALS):
                 text = text.replace(".", decimal)
             cells.append('"' + text.replace('"', '""') + '"' if it.kind in TEXTS else text)
         yield between.join(cells)
@@ -131,33 +136,41 @@ def write_latex(report: Report, columns: Sequence[Column], places: Optional[int]
             # where this TeX has no such letter, its number
             name = f"u8:\\detokenize{{{letter}}}\\endcsname"
             yield f"\\ifcsname {name}\\else\\expandafter\\def\\csname {name}{{[U+{ord(letter):04X}]}}\\fi"
-    yield "\\begin{tabular}{" + "".join("l" if it.kind == "name" else "r" for it in columns) + "}"
+    # many columns fit a page in a smaller font, with headings of two lines
+    is_wide = len(columns) > 5
+    size = "\\scriptsize" if len(columns) < 9 else "\\tiny"
+    yield (f"{{{size}\\tabcolsep=2pt" if is_wide else "") + "\\begin{tabular}{" + "".join("l" if it.kind == "name" else "r" for it in columns) + "}"
     yield "\\toprule"
-    yield " & ".join(it.title() for it in columns) + " \\\\"
+    titles = [escape_latex(it.title()) for it in columns]
+    yield " & ".join("\\shortstack[r]{" + it.replace(", ", ",\\\\") + "}" if is_wide and ", " in it else it for it in titles) + " \\\\"
     yield "\\midrule"
     for member in report.members:
         cells = []
         for it in columns:
             text = it.write_for_people(report, member, places)
-            cells.append(escape_latex(text) if it.kind == "name" else f"${text}$" if it.kind in TEXTS else text)
+            cells.append(escape_latex(text) if it.kind in ("name", "weight") else f"${text}$" if it.kind in TEXTS else text)
         yield " & ".join(cells) + " \\\\"
     yield "\\bottomrule"
-    yield "\\end{tabular}"
+    yield "\\end{tabular}" + ("}" if is_wide else "")
 
 
 def write_markdown(report: Report, columns: Sequence[Column], places: Optional[int]) -> Iterator[str]:
     def write_row(cells: Iterable[str]) -> str:
         return "| " + " | ".join(cells) + " |"
 
-    yield write_row([it.title() for it in columns])
+    def escape(text: str) -> str:
+        return re.sub(r"([!-/:-@\[-`{-~])", r"\\\1", make_printable(text))
+
+    yield write_row([escape(it.title()) if it.unit.name else it.title() for it in columns])
     yield write_row([":--" if it.kind == "name" else "--:" for it in columns])
     for member in report.members:
         cells = [(it.kind, it.write_for_people(report, member, places)) for it in columns]
-        yield write_row([re.sub(r"([!-/:-@\[-`{-~])", r"\\\1", text) if kind == "name" else text for kind, text in cells])
+        yield write_row([escape(text) if kind == "name" else text for kind, text in cells])
 
 
-def make_pair(value: Fraction) -> list[int]:
-    return [value.numerator, value.denominator]
+def make_pair(value: Fraction) -> list[object]:
+    """Returns both numbers of a fraction; those that JavaScript rounds are texts."""
+    return [it if it < 2**53 else str(it) for it in (value.numerator, value.denominator)]
 
 
 def describe(report: Report, places: Optional[int]) -> dict[str, object]:
@@ -200,6 +213,7 @@ def write_json(lines: Iterable[str], places: Optional[int]) -> None:
             coalitions.write(next(between) + text({"members": it.members, "weights": it.weights}).replace("\n", "\n  "))
 
         report = Report(lines, take)
+        warn_of_low_quotas(report.quotas, report.totals)
         head = text(describe(report, places))
         if report.listed:
             sys.stdout.write(head[: -len("\n}")] + ',\n "coalitions": [')
@@ -217,6 +231,7 @@ def main(args: list[str]) -> None:
     reader.add_argument("--decimals", metavar="N", type=int, choices=range(1, 31),
                         help="decimals, 1 to 30, rounded from the fractions, a half upwards; else in csv and json six, cut off, and in tables four")
     reader.add_argument("--decimal", choices=[".", ","], default=".", help="the decimal sign of csv; with a comma, semicolons separate the columns")
+    reader.add_argument("--game", metavar="FILE", help="the game file of the report, for the names and units of its rules")
     reader.add_argument("--mark", action="store_true", help="a byte order mark in front of csv, by which Excel knows UTF-8")
     words = reader.parse_words(args)
     if words.format not in FORMATS:
@@ -230,7 +245,7 @@ def main(args: list[str]) -> None:
         read_lines(words.report, lambda lines: write_json(lines, words.decimals))
         return
     report = read_report(words.report)
-    columns = list(choose_columns(report, kinds))
+    columns = list(choose_columns(report, kinds, read_comments(words.game, report)[1]))
     if words.format == "csv":
         lines = write_csv(report, columns, words.decimals, words.decimal)
         sys.stdout.write("\ufeff" if words.mark else "")

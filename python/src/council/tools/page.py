@@ -19,13 +19,13 @@ from typing import Any, Iterable, Iterator, Optional, Sequence
 
 from ..engine import NotFound, find_program
 from ..game import Unit, write_game
-from ..reports import Coalition, Fault, Report, round_half_up
+from ..reports import Coalition, Fault, Report, cut_off, round_half_up
 from .command import Words, read_comments, read_lines, warn_of_low_quotas
 from .drawing import INDICES, SHARES, escape_xml, name_share, write_quota
 
 MOST = 1000
 # comments that from_table.py writes, a line each; others are a text that may be wrapped
-ITEM = re.compile(r"(From a table of|Rule [1-4]:|Left out:|Added:|Source:) ?.*", re.I)
+ITEM = re.compile(r"(From a table(?: of|,)|Rule [1-4]:|Left out:|Not read:|Taken as members:|Added:|Source:) ?.*", re.I)
 LIGHT = "".join(f" --s{rule}: {light};" for rule, (light, _) in enumerate(SHARES)) + f" --dp: {INDICES[0][1]}; --pg: {INDICES[1][1]};"
 DARK = "".join(f" --s{rule}: {dark};" for rule, (_, dark) in enumerate(SHARES)) + f" --dp: {INDICES[0][2]}; --pg: {INDICES[1][2]};"
 STYLE = """
@@ -40,11 +40,12 @@ h1, h2 { overflow-wrap: anywhere; }
 h1 { font-size: 1.6rem; line-height: 1.25; margin-top: 0; margin-bottom: .5rem; }
 h2 { font-size: 1.15rem; margin-top: 2rem; margin-bottom: .5rem; }
 section + section { border-top: 2px solid var(--line); margin-top: 3rem; padding-top: 1.5rem; }
-.wide { overflow-x: auto; position: relative; max-width: none; }
+.wide { overflow: auto; position: relative; max-width: none; max-height: 90vh; }
 table { border-collapse: separate; border-spacing: 0; width: 100%; font-variant-numeric: tabular-nums; }
 th, td { padding: .3rem .5rem; border-bottom: 1px solid var(--line); text-align: right; vertical-align: middle; }
-th { vertical-align: bottom; line-height: 1.25; }
+th { vertical-align: bottom; line-height: 1.25; position: sticky; top: 0; z-index: 1; background: var(--ground); }
 th:first-child, td:first-child { position: sticky; left: 0; z-index: 1; background: var(--ground); text-align: left; padding-left: 0; }
+th:first-child { z-index: 2; }
 th bdi, td bdi { display: inline-block; max-width: 18rem; overflow-wrap: break-word; }
 th bdi { max-width: 10rem; }
 th button { all: unset; cursor: pointer; font-weight: bold; }
@@ -65,13 +66,14 @@ pre { overflow-x: auto; border: 1px solid var(--line); padding: .6rem; font-size
 .soft, small { color: var(--soft); }
 p, li { overflow-wrap: anywhere; }
 footer { margin-top: 3rem; border-top: 2px solid var(--line); font-size: .9rem; }
+@media (max-width: 900px) { .wide { background: linear-gradient(to left, var(--line), transparent) right / 2rem 100% no-repeat; } }
 @media (max-width: 480px) {
   th, td { padding: .3rem .35rem; }
   th bdi, td bdi { max-width: 8rem; }
   .bars { grid-template-columns: 1fr; gap: .1rem; }
   .bars > div:nth-child(odd) { text-align: left; justify-self: start; margin-top: .4rem; max-width: none; }
 }
-@media print { body { font-size: 10pt; } th button::after { content: "" !important; } .wide { overflow: visible; } tr, .bars > div { break-inside: avoid; } }
+@media print { body { font-size: 10pt; } th button::after { content: "" !important; } .wide { overflow: visible; max-height: none; background: none; } tr, .bars > div { break-inside: avoid; } }
 """.replace("LIGHT", LIGHT).replace("DARK", DARK)
 SCRIPT = """
 for (const table of document.querySelectorAll("table.members")) {
@@ -128,8 +130,8 @@ def make_columns(report: Report, units: Sequence[Unit]) -> Iterator[tuple[str, l
     members, several = report.members, len(report.quotas) > 1
     dp, pg = [it.deegan_packel_exact for it in members], [it.public_good_exact for it in members]
     yield "Member", [it.name.casefold() for it in members], [write_name(it.name) for it in members]
-    yield "Deegan-Packel", dp, [round_half_up(it, 6) for it in dp]
-    yield "Public good", pg, [round_half_up(it, 6) for it in pg]
+    yield "Deegan-Packel", dp, [cut_off(it) for it in dp]
+    yield "Public good", pg, [cut_off(it) for it in pg]
     for rule, unit in enumerate(units):
         weights = [it.weights[rule] for it in members]
         of = f", rule&nbsp;{rule + 1}" if several else ""
@@ -271,7 +273,7 @@ def write_page(reports: Sequence[Section], version: Optional[str]) -> Iterator[s
     yield "<h2>How they were computed</h2>"
     at_hand = f"The program at hand when this page was made: {escape_xml(version)}." if version else "Which version of it made the report this page cannot tell."
     yield (f"<p>By the program <code>council</code>, which finds the minimal winning coalitions and gives both indices as exact fractions. {at_hand} "
-           "Decimals on this page are rounded from the fractions, a half upwards.</p><h2>Sources</h2><ul>")
+           "Both indices are cut off after six decimals, as in the report, so a column may add up to less than 1; shares, and the numbers at bars, are rounded to four.</p><h2>Sources</h2><ul>")
     yield "".join(f"<li>{it}</li>" for it in SOURCES)
     yield f"</ul></footer></main><script>{SCRIPT}</script></body></html>"
 

@@ -5,8 +5,9 @@
 GAME is a game file; without one, or as -, it is standard input. The table has a line for each
 quota and member, with the columns quota, name, deegan_packel and public_good (decimals, cut off
 after six), deegan_packel_exact and public_good_exact (fractions), separated by TABs. Without --from
-and --to it goes from 1 to the total of the rule. Lines are written as they are computed.
---picture draws a line for each member; members whose lines are the same share one.
+and --to it goes from 1 to the total of the rule. A QUOTA is in the unit of the game file, as 50.5, or
+a share of the total, as 50% or 2/3; so is --step. Lines are written as they are computed. --picture
+draws a line for each member; members whose lines are the same share one.
 """
 from __future__ import annotations
 
@@ -19,11 +20,12 @@ from fractions import Fraction
 from typing import Any, Callable, Iterable, Iterator, Optional, Sequence
 
 from ..engine import Refused, compute, find_program
-from ..game import Unit, find_comments, quote, read_units, write_game
+from ..game import GAME_FILE, Unit, find_comments, find_slips, quote, read_units, write_game
 from ..reports import Fault, Member, Report, cut_off, ignore, round_half_up, write_fraction
 from .cells import count_decimals
 from .command import Words, make_printable, note
 from .drawing import COLORS, DASHES, find_round_step, find_ticks, measure, wrap, write_picture, write_text
+from .quotas import Quota
 
 MOST = 20000
 LEFT, WIDE, SMALL = 60, 560, 10
@@ -71,8 +73,9 @@ class Progress:
             print("\r\x1b[K", end="", file=sys.stderr, flush=True)
 
 
-def write_rows(reports: Iterable[tuple[int, Report]], progress: Progress, take: Callable[[Any], None]) -> None:
-    """Writes the table row by row, as the reports come. `take` gets each of them."""
+def write_rows(reports: Iterable[tuple[int, Report]], unit: Unit, progress: Progress, take: Callable[[Any], None]) -> None:
+    """Writes the table row by row, as the reports come, with quotas in their unit. `take` gets each
+    report."""
     print("quota", "name", "deegan_packel", "public_good", "deegan_packel_exact", "public_good_exact", sep="\t")
     # a file gets each name unchanged, and a terminal none that moves it
     is_terminal = sys.stdout.isatty()
@@ -80,7 +83,7 @@ def write_rows(reports: Iterable[tuple[int, Report]], progress: Progress, take: 
         for quota, report in reports:
             for it in report.members:
                 dp, pg = it.deegan_packel_exact, it.public_good_exact
-                print(quota, make_printable(it.name) if is_terminal else it.name, cut_off(dp), cut_off(pg), write_fraction(dp), write_fraction(pg), sep="\t")
+                print(unit.write_plain(quota), make_printable(it.name) if is_terminal else it.name, cut_off(dp), cut_off(pg), write_fraction(dp), write_fraction(pg), sep="\t")
             sys.stdout.flush()
             take((quota, report))
             progress.step()
@@ -88,27 +91,26 @@ def write_rows(reports: Iterable[tuple[int, Report]], progress: Progress, take: 
         progress.end()
 
 
-def find_quotas(words: argparse.Namespace, total: int) -> range:
-    """Returns the quotas of the sweep."""
-    first = 1 if words.first is None else words.first
-    last = total if words.last is None else words.last
-    if words.step < 1 or first > last:
-        raise Fault(f"there is no quota from {first} to {last} in steps of {words.step}", 2)
-    # (Python has no length of a range of twenty digits)
-    number = (last - first) // words.step + 1
-    if number > MOST:
-        raise Fault(f"from {first} to {last} there are {number} quotas, and {MOST} are the most: --from, --to and --step choose some", 2)
-    return range(first, last + 1, words.step)
+def find_quotas(words: argparse.Namespace, total: int, unit: Unit) -> range:
+    """Returns the quotas of the sweep, whose words are in a unit or shares of the total."""
+    first, last, step = (otherwise if it is None else Quota(it).make_whole(total, 10**unit.places, None)[0]
+                         for it, otherwise in ((words.first, 1), (words.last, total), (words.step, 1)))
+    if first > last:
+        raise Fault(f"there is no quota from {unit.write(first)} to {unit.write(last)}", 2)
+    quotas = range(first, last + 1, step)
+    if len(quotas) > MOST:
+        raise Fault(f"from {unit.write(first)} to {unit.write(last)} there are {len(quotas):,} quotas, and {MOST:,} are the most: --from, --to and --step choose some", 2)
+    return quotas
 
 
-def warn_of_half(start: Report, rule: int, quotas: range) -> None:
+def warn_of_half(start: Report, rule: int, quotas: range, unit: Unit) -> None:
     """Warns of quotas of the sweep with which two coalitions without a common member could both
     win."""
     low = [it for it in quotas if 2 * it <= start.totals[rule]]
     others = [2 * quota <= total for quota, total in zip(start.quotas, start.totals)]
     if low and all(others[:rule] + others[rule + 1 :]):
         of = f" of rule {rule + 1}" if len(others) > 1 else ""
-        note(f"quotas up to {low[-1]:,}{of} are at most half of the total, {start.totals[rule]:,}: two coalitions without a common member could both win")
+        note(f"quotas up to {unit.write(low[-1])}{of} are at most half of the total, {unit.write(start.totals[rule])}: two coalitions without a common member could both win")
 
 
 def spread(wanted: Sequence[float], heights: Sequence[float], first: float, last: float) -> list[float]:
@@ -186,7 +188,7 @@ def draw(start: Report, rule: int, reports: Sequence[tuple[int, Report]], kind: 
         if len(points) == 1:
             parts.append(f'<circle cx="{x:.2f}" cy="{end:.2f}" r="4" fill="{COLORS[at % len(COLORS)]}"/>')
         parts.append(f'<polyline points="{" ".join(points)}" fill="none" {style}/>')
-        parts.append(f'<path class="leader" d="M{x:.2f} {end:.2f}L{LEFT + WIDE + 40} {y:.2f}h12" fill="none" {style}/>')
+        parts.append(f'<path class="leader" d="M{x:.2f} {end:.2f}L{LEFT + WIDE + 40} {y:.2f}h12" fill="none" stroke="#999999"/>')
         for row, text in enumerate(label):
             parts.append(write_text(LEFT + WIDE + 56, y + 4 + 15 * row, text, more=' class="member"'))
             right = max(right, LEFT + WIDE + 56 + measure(text, 12))
@@ -198,34 +200,36 @@ def main(args: list[str]) -> None:
     reader = Words("sweep", __doc__)
     reader.add_argument("game", metavar="GAME", nargs="?", default="-", help="a game file; without one, or as -, standard input")
     reader.add_argument("--rule", metavar="N", type=int, default=1, help="the rule whose quota is changed, counted from 1; else the first")
-    reader.add_argument("--from", metavar="QUOTA", dest="first", type=int, help="the first quota; else 1")
-    reader.add_argument("--to", metavar="QUOTA", dest="last", type=int, help="the last quota; else the total")
-    reader.add_argument("--step", metavar="N", type=int, default=1, help="from one quota to the next; else 1")
+    reader.add_argument("--from", metavar="QUOTA", dest="first", help="the first quota; else 1")
+    reader.add_argument("--to", metavar="QUOTA", dest="last", help="the last quota; else the total")
+    reader.add_argument("--step", metavar="QUOTA", help="from one quota to the next; else the least step")
     reader.add_argument("--picture", metavar="FILE", help="also draw the sweep, as an SVG file")
     reader.add_argument("--index", choices=sorted(KINDS), default="public_good", help="the index that is drawn; else the public good index")
     reader.add_argument("--program", help="the program council; else the one of this clone or archive, or the one on the PATH")
     words = reader.parse_words(args)
     if words.game == "-":
-        game = sys.stdin.buffer.read()
+        game = sys.stdin.buffer.read(GAME_FILE + 1)
     else:
         with open(words.game, "rb") as it:
-            game = it.read()
+            game = it.read(GAME_FILE + 1)
     program = find_program(words.program) if words.program else None
     start = Report.from_text(compute(game, program=program))
+    for remark in find_slips(game.decode()):
+        note(remark)
     if not 1 <= words.rule <= len(start.quotas):
         raise Fault(f"there is no rule {words.rule}: the game has {len(start.quotas)}", 2)
     rule = words.rule - 1
-    quotas = find_quotas(words, start.totals[rule])
+    unit = read_units(find_comments(game.decode("utf-8-sig")), len(start.quotas))[rule]
+    quotas = find_quotas(words, start.totals[rule], unit)
     reports = sweep(program, start, rule, quotas)
     # the first report shows that no quota is out of range
     first = next(reports)
-    warn_of_half(start, rule, quotas)
+    warn_of_half(start, rule, quotas, unit)
     rows, progress = itertools.chain([first], reports), Progress(len(quotas))
     if not words.picture:
-        write_rows(rows, progress, ignore)
+        write_rows(rows, unit, progress, ignore)
         return
     with open(words.picture, "w", encoding="utf-8", newline="\n") as it:
-        unit = read_units(find_comments(game.decode("utf-8-sig")), len(start.quotas))[rule]
         kept: list[tuple[int, Report]] = []
-        write_rows(rows, progress, kept.append)
+        write_rows(rows, unit, progress, kept.append)
         it.writelines(line + "\n" for line in draw(start, rule, kept, words.index, unit))

@@ -1,6 +1,0 @@
-use Rattle.mwc_closed_count.proofs.{Imports.arith, Pairs.each-pairs}
-use Rattle.mwc_closed_count.proofs.counted_game.pairs_of_member.Goals as goal
-
-pub returns : goal.returns
-returns c = each-pairs _ c.args.first.now c.args.second.now c.was_checked.ensures.game c.requires.chambers c.args.size c.requires.size c.args.member c.requires.member
-    c.loop-own.own _ c.loop-own.invariant (omega arith)

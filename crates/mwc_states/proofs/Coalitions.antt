@@ -1,0 +1,152 @@
+-- The minimal winning coalitions of a game are the sets that complete its quotas; how many of them
+-- pass a test.
+use Rattle.std.proofs.Common.{◌≡◌, ◌∙◌, ℕ, zero, suc, ◌<◌, ◌≤◌, Bool, true, false, not, ◌&&◌, ◌==◌, List, [], ◌∷◌, length, get_or, set}
+use Rattle.std.proofs.Common.{filter, refl, sym, ap, arith, inl, inr, leb, map, sum, sum_by, length-set, get_or-set_same, get_or-set_other, ◌^◌}
+use Rattle.std.specs.{List.range_with_len, List.list_all, Cmp.both_ways as same_test}
+use Rattle.std.proofs.lemmas.Bool.{and_parts, and_from, not-true, not_from_false, cases_eq, cases_lt, Decides.nat_tests}
+use Rattle.std.proofs.lemmas.List.{get_or_past, length-map, Sums.sum_by-cons, Folds.list_all-map, FromFn.fill_by_all, FromFn.get_or-map-range_with_len, FromFn.length-map-range_with_len}
+use Rattle.council_base.specs.Coalitions.{has, size, without}
+use Rattle.council_base.proofs.Shared.{Digits.has-kept, Digits.has-gone, Lists.filter-both}
+use Rattle.council_game.specs.Votes.{RuleView, Votes, IsVotes, rule_at, wins, minimal, minimal_coalitions, down, weight}
+use Rattle.council_game.proofs.Shared.{Lists.all-at, Lists.all-of, Lists.all-rules, Meanings.needs-each-member, WinningByPlaces.rule-is}
+use Rattle.power_index.specs.Tables.{AreSizeCounts}
+use Rattle.mwc_states.specs.declared.what.What.TheVariants.{Minimal}
+use Rattle.mwc_states.specs.Inner.Sets.{weigh, meets, without_one, count_sets}
+use Rattle.mwc_states.specs.Inner.States.{completes}
+use Rattle.mwc_states.specs.Inner.Links.{accepts, AreSizesOf}
+use Rattle.mwc_states.specs.Inner.Games.{AreRowsOf}
+use Rattle.mwc_states.proofs.Masks.{set_of, count-coalitions, weigh-set}
+
+-- ---- a set without one of its members
+each-less : (f : List Bool → Bool) (xs : List Bool) → list_all f (without_one xs) ≡ true
+    → (p : ℕ) → p < length xs → get_or xs p false ≡ true → f (set xs p false) ≡ true
+unfolding without_one
+each-less f [] all p lt inside = absurd (omega arith)
+each-less f (true ∷ xs) all zero lt inside = (and_parts _ _ all).0
+each-less f (true ∷ xs) all (suc p) lt inside =
+    each-less (λ less. f (true ∷ less)) xs (sym (list_all-map f (λ less. true ∷ less) (without_one xs)) ∙ (and_parts _ _ all).1) p (omega arith) inside
+each-less f (false ∷ xs) all zero lt inside = cc
+each-less f (false ∷ xs) all (suc p) lt inside =
+    each-less (λ less. f (false ∷ less)) xs (sym (list_all-map f (λ less. false ∷ less) (without_one xs)) ∙ all) p (omega arith) inside
+
+all-less : (f : List Bool → Bool) (xs : List Bool) → ((p : ℕ) → p < length xs → get_or xs p false ≡ true → f (set xs p false) ≡ true)
+    → list_all f (without_one xs) ≡ true
+unfolding without_one
+all-less f [] each = refl
+all-less f (true ∷ xs) each =
+    and_from _ _ (each 0 (omega arith) refl)
+    (list_all-map f (λ less. true ∷ less) (without_one xs) ∙ all-less (λ less. f (true ∷ less)) xs (λ p lt inside. each (suc p) (omega arith) inside))
+all-less f (false ∷ xs) each =
+    list_all-map f (λ less. false ∷ less) (without_one xs) ∙ all-less (λ less. f (false ∷ less)) xs (λ p lt inside. each (suc p) (omega arith) inside)
+
+pub set-at : (n c p : ℕ) → p < n → get_or (set_of n c) p false ≡ has n p c
+set-at n c p lt = get_or-map-range_with_len (λ q. has n q c) 0 n p p false lt (omega arith)
+
+long-set : (n c : ℕ) → length (set_of n c) ≡ n
+long-set n c = length-map-range_with_len (λ q. has n q c) 0 n
+
+set-less : (n c p : ℕ) → p < n → has n p c ≡ true → set (set_of n c) p false ≡ set_of n (without n p c)
+set-less n c p lt inside =
+    fill_by_all (λ q. has n q (without n p c)) (set (set_of n c) p false) n false (length-set (set_of n c) p false ∙ long-set n c)
+    (λ q below. elim (cases_eq q p) [
+      | inl same ↦
+          ap (λ (k : ℕ). get_or (set (set_of n c) p false) k false) same
+          ∙ get_or-set_same (set_of n c) p false false (omega (arith, long-set n c, lt)) ∙ sym (ap (λ (k : ℕ). has n k (without n p c)) same ∙ has-gone n p c inside)
+      | inr other ↦ get_or-set_other (set_of n c) p q false false other ∙ set-at n c q below ∙ sym (has-kept n q p c below lt other inside)
+    ])
+
+-- ---- sums under a rule
+column-sum : (rows : List (List ℕ)) (ws : List ℕ) (r : ℕ) → length rows ≡ length ws
+    → ((p : ℕ) → p < length rows → get_or (get_or rows p []) r 0 ≡ get_or ws p 0) → sum_by (λ member. get_or member r 0) rows ≡ sum ws
+column-sum [] [] r long same = refl
+column-sum [] (w ∷ ws) r long same = absurd (omega arith)
+column-sum (row ∷ rows) [] r long same = absurd (omega arith)
+column-sum (row ∷ rows) (w ∷ ws) r long same =
+    let rest = column-sum rows ws r (omega arith) (λ p lt. same (suc p) (omega arith)) in
+    omega (arith, same 0 (omega arith), rest, sum_by-cons (λ (member : List ℕ). get_or member r 0) row rows, sum_by-cons (λ (x : ℕ). x) w ws)
+
+zeros : (rows : List (List ℕ)) (p : ℕ) → get_or {A = ℕ} (map {B = ℕ} (λ _. 0) rows) p 0 ≡ 0
+zeros [] p = refl
+zeros (row ∷ rows) zero = refl
+zeros (row ∷ rows) (suc p) = zeros rows p
+
+no-sum : (rows : List (List ℕ)) → sum (map {B = ℕ} (λ _. 0) rows) ≡ 0
+no-sum [] = refl
+no-sum (row ∷ rows) = omega (arith, sum_by-cons (λ (x : ℕ). x) 0 (map (λ (_ : List ℕ). 0) rows), no-sum rows)
+
+-- ---- who wins meets the quotas
+all-past : (t : ℕ → Bool) (k n : ℕ) → k ≤ n → ((i : ℕ) → k ≤ i → t i ≡ true) → list_all t (range_with_len 0 n) ≡ list_all t (range_with_len 0 k)
+all-past t k n le past = same_test _ _
+    (λ all. all-of t k (λ i lt. all-at t n i (omega arith) all))
+    (λ all. all-of t n (λ i lt. elim (cases_lt i k) [ inl below ↦ all-at t k i below all | inr above ↦ past i above ]))
+
+module _ (v : Votes) (members : List (List ℕ)) (need : List ℕ) (game : IsVotes v) (rows : AreRowsOf v members need) where
+  abbrev n : ℕ
+  n = v.members
+
+  wins-meets : (c : ℕ) → wins v.rules c ≡ meets (weigh members (set_of n c)) need
+  unfolding wins meets
+  wins-meets c =
+      let t : ℕ → Bool = λ i. leb (get_or need i 0) (weigh members (set_of n c) i) in
+      let past : (i : ℕ) → length v.rules ≤ i → t i ≡ true = λ i le. grind (arith, nat_tests, rows.quotas i, get_or_past) in
+      let same : (i : ℕ) → i < length v.rules → t i ≡ leb (rule_at v.rules i).quota (weight (rule_at v.rules i).weights c) =
+      λ i lt. (λ k. leb (rows.quotas i k) (weigh-set members (rule_at v.rules i).weights i n c rows.long (rule-is v i game lt).full (λ p below. rows.weights p i below) k)) in
+      sym (all-past t (length v.rules) 4 game.few_rules past ∙ all-rules (λ r. leb r.quota (weight r.weights c)) t v.rules same)
+
+  pub minimal-completes : (c : ℕ) → minimal v c ≡ completes Minimal members (need ∷ []) (set_of n c)
+  unfolding completes
+  minimal-completes c =
+      let f : List Bool → Bool = λ less. not (meets (weigh members less) need) in
+      let law = needs-each-member v c in
+      let less : (p : ℕ) → p < n → has n p c ≡ true → f (set (set_of n c) p false) ≡ not (wins v.rules (without n p c)) =
+      λ p lt inside. ap f (set-less n c p lt inside) ∙ ap not (sym (wins-meets (without n p c))) in
+      same_test _ _
+      (λ min.
+      let parts = law.0 min in
+      and_from _ _ (sym (wins-meets c) ∙ parts.0) (and_from _ _ (all-less f (set_of n c) (λ p lt inside.
+      (let below : p < n = omega (arith, lt, long-set n c) in
+      let here : has n p c ≡ true = sym (set-at n c p below) ∙ inside in
+      less p below here ∙ not_from_false _ (parts.1 p below here)))) refl))
+      (λ done.
+      let outer = and_parts _ _ done in
+      let inner = and_parts _ _ outer.1 in
+      law.1 (
+        wins-meets c ∙ outer.0,
+        λ p lt inside. not-true _ (sym (less p lt inside)
+            ∙ each-less f (set_of n c) inner.0 p (omega (arith, lt, long-set n c)) (set-at n c p lt ∙ inside)),
+      ))
+
+  -- what all members weigh together under a rule
+  pub light : (r : ℕ) → sum_by (λ member. get_or member r 0) members ≤ 40000000000000
+  light r = elim (cases_lt r (length v.rules)) [
+    | inl lt ↦ (let rule = rule-is v r game lt in
+        omega (
+          arith,
+          rule.light,
+          column-sum members (rule_at v.rules r).weights r (rows.long ∙ sym rule.full)
+              (λ p below. rows.weights p r (omega (arith, below, rows.long))),
+        ))
+    | inr past ↦ omega (
+      arith,
+      column-sum members (map (λ _. 0) members) r (sym (length-map members (λ _. 0))) (λ p below.
+          rows.weights p r (omega (arith, below, rows.long))
+          ∙ ap (λ (rule : RuleView). get_or rule.weights p 0) (get_or_past v.rules r (record { quota = 0; weights = [] }) past) ∙ sym (zeros members p)),
+      no-sum members,
+    )
+  ]
+
+  -- how many minimal winning coalitions pass a test, from how many sets that a graph accepts do
+  pub sizes-are : (levels : List (List (List ℕ))) (test : List Bool → Bool) (p : ℕ → Bool) (sizes : List ℕ) → length levels ≡ n
+      → ((xs : List Bool) → length xs ≡ n → accepts levels 2 xs ≡ completes Minimal members (need ∷ []) xs)
+      → ((c : ℕ) → test (set_of n c) ≡ p c) → AreSizesOf levels test sizes → AreSizeCounts n p (minimal_coalitions v) sizes
+  unfolding minimal_coalitions
+  sizes-are levels test p sizes long same tests are = record {
+    long = are.long;
+    each = λ s small.
+        let test_of : List Bool → Bool = λ xs. test xs && accepts levels 2 xs in
+        let both : (c : ℕ) → (test_of (set_of n c) && (size n c == s)) ≡ (minimal v c && (p c && (size n c == s))) =
+        λ c. grind (arith, nat_tests, tests c, same (set_of n c) (long-set n c), minimal-completes c) in
+        are.each s small ∙ ap (λ (k : ℕ). count_sets k test_of s) long ∙ count-coalitions n test_of s
+        ∙ (λ i. length (filter (λ c. both c i) (down (2 ^ n))))
+        ∙ ap (λ (l : List ℕ). length l) (sym (filter-both (minimal v) (λ c. p c && (size n c == s)) (down (2 ^ n))));
+  }

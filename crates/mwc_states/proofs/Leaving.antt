@@ -1,0 +1,168 @@
+-- What is left of a state once a member is decided.
+use Rattle.std.proofs.Common.{◌≡◌, ◌∙◌, ℕ, ◌+◌, ◌-◌, ◌<◌, ◌≤◌, Bool, true, false, not, ◌&&◌, cond, List, [], ◌∷◌, length, get_or, take, drop, max, ◌⊎◌, inl, inr, Result, Ok, Err, IfOk}
+use Rattle.std.proofs.Common.{ap, sym, refl, arith, subst}
+use Rattle.std.specs.{Bool.MatchBool, List.list_all}
+use Rattle.std.proofs.lemmas.{Bool.Decides.nat_tests, Bool.and_parts, Bool.false≢true, Bool.not_from_true, Bool.and_left}
+use Rattle.std.proofs.lemmas.{List.Folds.list_all-map, List.Folds.list_all_more, List.Folds.list_all_at, List.drop_more}
+use Rattle.council_base.specs.declared.limits.TheConstants.{RULES}
+use Rattle.mwc_states.specs.declared.what.What.{What}
+use Rattle.mwc_states.specs.declared.what.What.TheVariants.{Minimal, Winning}
+use Rattle.mwc_states.specs.{Inner.Sets.weigh, Inner.Sets.meets, Inner.Sets.without_one, Inner.Sets.is_empty, Inner.Sums.row_at, Inner.States.needs_each, Inner.States.completes}
+use Rattle.mwc_states.specs.{Inner.Later.misses_all, Inner.Later.fits, Inner.Later.spares_none, Inner.Later.misses_left, Inner.Later.IsLeft, Inner.Later.HasNoneLeft, Inner.Later.AddsMiss}
+use Rattle.mwc_states.proofs.{Meeting.reach, Meeting.reached, Meeting.meets-left, Meeting.meets-most, Meeting.meets-through}
+
+pub fits-meets : (what : What) (members : List (List ℕ)) (need : List ℕ) (set : List Bool) → fits what members need set ≡ true → meets (weigh members set) need ≡ true
+fits-meets what members need set fitting = (and_parts (meets (weigh members set) need) (needs_each what members set need) fitting).0
+
+-- the row y is what is left of x, as far as sets of the later members tell
+abbrev pub Alike : List (List ℕ) → List ℕ → Bool → List ℕ → List ℕ → Type 0
+Alike members member taken x y = (set : List Bool) → meets (weigh (member ∷ members) (taken ∷ set)) x ≡ meets (weigh members set) y
+
+needs-left : (what : What) (members : List (List ℕ)) (member : List ℕ) (taken : Bool) (x y : List ℕ) (set : List Bool) → Alike members member taken x y
+    → needs_each what (member ∷ members) (taken ∷ set) x ≡ (spares_none what taken members x set && needs_each what members set y)
+unfolding without_one weigh
+needs-left Minimal members member true x y set alike = ap (λ b. not (meets (weigh members set) x) && b)
+    (list_all-map (λ less. not (meets (weigh (member ∷ members) less) x)) (λ less. true ∷ less) (without_one set)
+    ∙ (λ i. list_all (λ less. not (alike less i)) (without_one set)))
+needs-left Minimal members member false x y set alike =
+    list_all-map (λ less. not (meets (weigh (member ∷ members) less) x)) (λ less. false ∷ less) (without_one set)
+    ∙ (λ i. list_all (λ less. not (alike less i)) (without_one set))
+needs-left Winning members member taken x y set alike = refl
+
+pub completes-left : (what : What) (members : List (List ℕ)) (member : List ℕ) (taken : Bool) (need later_need : List ℕ) (misses : List (List ℕ)) (set : List Bool)
+    → Alike members member taken need later_need
+    → completes what (member ∷ members) (need ∷ misses) (taken ∷ set) ≡ (fits what members later_need set && misses_left what members member taken need misses set)
+unfolding completes
+completes-left what members member taken x y misses set alike = grind (arith, nat_tests, alike set, needs-left what members member taken x y set alike)
+
+-- ---- one more miss
+module _ (what : What) (members : List (List ℕ)) (need miss most raised : List ℕ)
+    (apart : meets (λ r. get_or need r 0) miss ≡ false) (is : (r : ℕ) → get_or most r 0 ≡ max (get_or miss r 0) (get_or need r 0))
+    (alike : (set : List Bool) → meets (weigh members set) raised ≡ meets (weigh members set) most) where
+  raised-alike : (set : List Bool) → fits what members need set ≡ true → meets (weigh members set) raised ≡ meets (weigh members set) miss
+  raised-alike set fitting =
+      alike set ∙ meets-most (weigh members set) miss need most is (fits-meets what members need set fitting)
+
+  pub adds-miss : {old new : List (List ℕ)} → ((w : ℕ → ℕ) → misses_all w new ≡ (misses_all w old && not (meets w raised))) → AddsMiss what members need miss old new
+  adds-miss {old = old} adds = record {
+    keeps = λ set fitting. adds (weigh members set) ∙ ap (λ b. misses_all (weigh members set) old && not b) (raised-alike set fitting);
+    apart = apart;
+  }
+
+  pub adds-none : (old : List (List ℕ)) → ((set : List Bool) → fits what members need set ≡ true → meets (weigh members set) raised ≡ false) → AddsMiss what members need miss old old
+  adds-none old missed = record {
+    keeps = λ set fitting. grind (arith, nat_tests, missed set fitting, raised-alike set fitting);
+    apart = apart;
+  }
+
+-- what weighs no more than a row meets no more than it
+meets-less : (members : List (List ℕ)) (row other : List ℕ) (set : List Bool) → ((r : ℕ) → r < RULES → weigh members set r ≤ get_or row r 0)
+    → meets (weigh members set) other ≡ true → meets (λ r. get_or row r 0) other ≡ true
+meets-less members row other set few met = reached (λ r. get_or row r 0) other (λ r lt. omega (arith, reach (weigh members set) other met r lt, few r lt))
+
+-- ---- a need of 0
+all-spared : (p : List Bool → Bool) → ((less : List Bool) → p less ≡ false) → (set : List Bool) → list_all p (without_one set) ≡ is_empty set
+unfolding without_one is_empty
+all-spared p none [] = refl
+all-spared p none (true ∷ set) = and_left (p (false ∷ set)) _ (none (false ∷ set))
+all-spared p none (false ∷ set) = list_all-map p (λ less. false ∷ less) (without_one set) ∙ all-spared (λ less. p (false ∷ less)) (λ less. none (false ∷ less)) set
+
+IsNone : List ℕ → Type 0
+IsNone row = (r : ℕ) → r < RULES → get_or row r 0 ≡ 0
+
+fits-none : (what : What) (members : List (List ℕ)) (need : List ℕ) → IsNone need → (what ≡ Minimal) ⊎ (length members ≡ 0)
+    → (set : List Bool) → length set ≡ length members → fits what members need set ≡ is_empty set
+unfolding is_empty IsNone
+fits-none Minimal members need none over set long =
+    let met : (set : List Bool) → meets (weigh members set) need ≡ true = λ set. reached (weigh members set) need (λ r lt. omega (arith, none r lt)) in
+    ap (λ b. b && needs_each Minimal members set need) (met set) ∙ all-spared (λ less. not (meets (weigh members less) need)) (λ less. not_from_true _ (met less)) set
+fits-none Winning members need none (inl other) set long = cc
+fits-none Winning members need none (inr last) [] long =
+    ap (λ b. b && true) (reached (weigh members []) need (λ r lt. omega (arith, none r lt)))
+fits-none Winning members need none (inr last) (taken ∷ set) long = absurd (omega (arith, long, last))
+
+weigh-empty : (members : List (List ℕ)) (set : List Bool) (r : ℕ) → is_empty set ≡ true → weigh members set r ≡ 0
+unfolding weigh is_empty
+weigh-empty [] set r is = refl
+weigh-empty (member ∷ members) [] r is = refl
+weigh-empty (member ∷ members) (true ∷ set) r is = absurd (false≢true is)
+weigh-empty (member ∷ members) (false ∷ set) r is = weigh-empty members set r is
+
+-- ---- what is left to miss, one after another
+-- the need first
+left-need : (members : List (List ℕ)) (need later_need member : List ℕ) (new : List (List ℕ)) → AddsMiss Minimal members later_need need [] new
+    → IsLeft Minimal members member true need [] later_need new
+left-need members need later_need member new adds = record {
+  keeps = λ set fitting. grind (arith, nat_tests, adds.keeps set fitting);
+  apart = λ set few. grind (arith, nat_tests, adds.apart, meets-less members later_need need set few);
+}
+
+none-left_need : (members : List (List ℕ)) (need later_need member : List ℕ) → meets (λ r. get_or later_need r 0) need ≡ true
+    → HasNoneLeft Minimal members member true need [] later_need
+none-left_need members need later_need member over set fitting =
+    grind (arith, nat_tests, meets-through (weigh members set) later_need need, fits-meets Minimal members later_need set fitting)
+
+pub need-added : {E : Type 0} (what : What) (taken : Bool) (members : List (List ℕ)) (need later_need : List ℕ) (misses new : List (List ℕ)) (r : Result Bool E)
+    → what ≡ Minimal → taken ≡ true → misses ≡ []
+    → IfOk r (λ added. MatchBool added (AddsMiss what members later_need need misses new) (meets (λ r. get_or later_need r 0) need ≡ true))
+    → IfOk r (λ added. (member : List ℕ) → MatchBool added (IsLeft what members member taken need [] later_need new) (HasNoneLeft what members member taken need [] later_need))
+need-added Minimal true members need later_need misses new (Ok true) is set none adds =
+    λ member. left-need members need later_need member new (subst (λ old. AddsMiss Minimal members later_need need old new) none adds)
+need-added Minimal true members need later_need misses new (Ok false) is set none over = λ member. none-left_need members need later_need member over
+need-added what taken members need later_need misses new (Err e) is set none h = h
+need-added what false members need later_need misses new (Ok added) is set none h = cc
+need-added Winning true members need later_need misses new (Ok added) is set none h = cc
+
+module _ (what : What) (members : List (List ℕ)) (member : List ℕ) (taken : Bool) (need : List ℕ) (misses : List (List ℕ)) (later_need : List ℕ) where
+  pub none-left_more : HasNoneLeft what members member taken need [] later_need → HasNoneLeft what members member taken need misses later_need
+  none-left_more none set fitting = grind (arith, nat_tests, none set fitting)
+
+  -- one miss more
+  pub left-more : {old new : List (List ℕ)} {left : List ℕ} (i : ℕ) → IsLeft what members member taken need (take i misses) later_need old
+      → i < length misses → ((r : ℕ) → get_or left r 0 ≡ get_or (get_or misses i []) r 0 - cond taken (get_or member r 0) 0)
+      → AddsMiss what members later_need left old new → IsLeft what members member taken need (take (i + 1) misses) later_need new
+  left-more {left = left} i h lt is adds =
+      let more : (set : List Bool) → misses_left what members member taken need (take (i + 1) misses) set
+      ≡ (misses_left what members member taken need (take i misses) set && not (meets (weigh members set) left)) = λ set.
+      let last = list_all_more (λ row. not (meets (weigh (member ∷ members) (taken ∷ set)) row)) misses i [] lt in
+      grind (arith, nat_tests, meets-left (get_or misses i []) left member members taken set is) in
+      record {
+        keeps = λ set fitting. grind (arith, nat_tests, more set, adds.keeps set fitting, h.keeps set fitting);
+        apart = λ set few. grind (arith, nat_tests, more set, h.apart set few, adds.apart, meets-less members later_need left set few);
+      }
+
+  pub none-left_miss : (left : List ℕ) (i : ℕ) → i < length misses
+      → ((r : ℕ) → get_or left r 0 ≡ get_or (get_or misses i []) r 0 - cond taken (get_or member r 0) 0) → meets (λ r. get_or later_need r 0) left ≡ true
+      → HasNoneLeft what members member taken need misses later_need
+  none-left_miss left i lt is over set fitting =
+      let met = meets-through (weigh members set) later_need left (fits-meets what members later_need set fitting) over in
+      let none = list_all_at (λ row. not (meets (weigh (member ∷ members) (taken ∷ set)) row)) misses i [] lt in
+      grind (arith, nat_tests, meets-left (get_or misses i []) left member members taken set is)
+
+-- ---- where a state leads
+module _ (what : What) (members : List (List ℕ)) (member : List ℕ) (taken : Bool) (state : List (List ℕ)) (less later_need : List ℕ) (some : 0 < length state)
+    (is : (r : ℕ) → get_or less r 0 ≡ get_or (row_at state 0) r 0 - cond taken (get_or member r 0) 0)
+    (alike : (set : List Bool) → meets (weigh members set) later_need ≡ meets (weigh members set) less) where
+  completes-next : (set : List Bool) → completes what (member ∷ members) state (taken ∷ set)
+      ≡ (fits what members later_need set && misses_left what members member taken (row_at state 0) (drop 1 state) set)
+  completes-next set = ap (λ rows. completes what (member ∷ members) rows (taken ∷ set)) (drop_more state 0 [] some)
+      ∙ completes-left what members member taken (row_at state 0) later_need (drop 1 state) set
+      (λ set. meets-left (row_at state 0) less member members taken set is ∙ sym (alike set))
+
+  pub leads-dead : HasNoneLeft what members member taken (row_at state 0) (drop 1 state) later_need
+      → (set : List Bool) → completes what (member ∷ members) state (taken ∷ set) ≡ false
+  leads-dead none set = grind (arith, nat_tests, completes-next set, none set)
+
+  pub leads-complete : {later_misses : List (List ℕ)} → IsLeft what members member taken (row_at state 0) (drop 1 state) later_need later_misses
+      → ((r : ℕ) → r < RULES → get_or later_need r 0 ≡ 0) → (what ≡ Minimal) ⊎ (length members ≡ 0)
+      → (set : List Bool) → length set ≡ length members → completes what (member ∷ members) state (taken ∷ set) ≡ is_empty set
+  unfolding IsNone
+  leads-complete left none over set long =
+      let apart : is_empty set ≡ true → misses_left what members member taken (row_at state 0) (drop 1 state) set ≡ true = λ e.
+      left.apart set (λ r lt. omega (arith, weigh-empty members set r e)) in
+      grind (arith, nat_tests, completes-next set, fits-none what members later_need none over set long)
+
+  pub leads-open : {later_misses : List (List ℕ)} → IsLeft what members member taken (row_at state 0) (drop 1 state) later_need later_misses
+      → (set : List Bool) → completes what (member ∷ members) state (taken ∷ set) ≡ completes what members (later_need ∷ later_misses) set
+  unfolding completes
+  leads-open left set = grind (arith, nat_tests, completes-next set, left.keeps set)

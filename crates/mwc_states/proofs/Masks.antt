@@ -1,0 +1,109 @@
+-- Coalitions, which are numbers, as sets: how many of them pass a test, and what they weigh.
+use Rattle.std.proofs.Common.{◌≡◌, ◌∙◌, ℕ, zero, suc, ◌+◌, ◌^◌, ◌<◌, Bool, true, false, ◌&&◌, ◌==◌, cond, List, [], ◌∷◌, length, get_or, map}
+use Rattle.std.proofs.Common.{filter, sum_by, refl, sym, ap, arith}
+use Rattle.std.specs.List.{range_with_len}
+use Rattle.std.proofs.lemmas.{Bool.Decides.nat_tests, List.Sums.length-filter, List.Sums.sum_by-cons}
+use Rattle.council_base.specs.Coalitions.{has, size}
+use Rattle.council_game.specs.Votes.{down, weight}
+use Rattle.council_game.proofs.Shared.Sets.{double-pow, first-in, first-out, rest-in, rest-out, sum-down, sum-none}
+use Rattle.mwc_states.specs.Inner.Sets.{weigh, count_sets}
+
+-- the set of a coalition of n members, member by member
+abbrev pub set_of : ℕ → ℕ → List Bool
+set_of n c = map (λ p. has n p c) (range_with_len 0 n)
+
+-- ---- the first member, and the others
+map-later : {X : Type 0} (f g : ℕ → X) (a n : ℕ) → ((p : ℕ) → p < a + n → f (suc p) ≡ g p) → map f (range_with_len (a + 1) n) ≡ map g (range_with_len a n)
+map-later f g a zero same = refl
+map-later f g a (suc n) same =
+    let e : a + 1 ≡ suc a = omega arith in
+    let here : f (a + 1) ≡ g a = ap f e ∙ same a (omega arith) in
+    λ i. here i ∷ map-later f g (a + 1) n (λ p lt. same p (omega arith)) i
+
+pub set-out : (n c : ℕ) → c < 2 ^ n → set_of (suc n) c ≡ false ∷ set_of n c
+set-out n c lt = λ i. first-out n c lt i ∷ map-later (λ p. has (suc n) p c) (λ p. has n p c) 0 n (λ p _. rest-out n p c) i
+
+pub set-in : (n c : ℕ) → c < 2 ^ n → set_of (suc n) (2 ^ n + c) ≡ true ∷ set_of n c
+set-in n c lt =
+    λ i. first-in n c lt i ∷ map-later (λ p. has (suc n) p (2 ^ n + c)) (λ p. has n p c) 0 n (λ p below. rest-in n p c (omega (arith, below))) i
+
+filter-map : (f : ℕ → Bool) (ps : List ℕ) → length (filter (λ b. b) (map f ps)) ≡ length (filter f ps)
+filter-map f [] = refl
+filter-map f (p ∷ ps) = grind (arith, nat_tests, filter-map f ps)
+
+-- how many members a set has
+abbrev number : List Bool → ℕ
+number set = length (filter (λ b. b) set)
+
+size-number : (n c : ℕ) → size n c ≡ number (set_of n c)
+size-number n c = sym (filter-map (λ p. has n p c) (range_with_len 0 n))
+
+-- ---- how many sets pass a test
+sum-two : (f : ℕ → ℕ) (m n : ℕ) → sum_by f (down (m + n)) ≡ sum_by (λ c. f (n + c)) (down m) + sum_by f (down n)
+unfolding down
+sum-two f zero n = let e : zero + n ≡ n = omega arith in omega (arith, ap (λ (k : ℕ). sum_by f (down k)) e)
+sum-two f (suc m) n =
+    let e : suc m + n ≡ suc (n + m) = omega arith in
+    let back : n + m ≡ m + n = omega arith in
+    ap (λ (k : ℕ). sum_by f (down k)) e
+    ∙ simp sum_by-cons (let rest = ap (λ (k : ℕ). sum_by f (down k)) back ∙ sum-two f m n in omega (arith, rest))
+
+abbrev passing : ℕ → (List Bool → Bool) → ℕ → ℕ
+passing n test s = sum_by (λ c. cond (test (set_of n c) && (number (set_of n c) == s)) 1 0) (down (2 ^ n))
+
+by-first : (n : ℕ) (test : List Bool → Bool) (s : ℕ) → passing (suc n) test s
+    ≡ sum_by (λ c. cond (test (true ∷ set_of n c) && (suc (number (set_of n c)) == s)) 1 0) (down (2 ^ n)) + passing n (λ set. test (false ∷ set)) s
+by-first n test s =
+    let one : List Bool → ℕ = λ set. cond (test set && (number set == s)) 1 0 in
+    let h : ℕ = 2 ^ n in
+    ap (λ (k : ℕ). sum_by (λ c. one (set_of (suc n) c)) (down k)) (double-pow n)
+    ∙ sum-two (λ c. one (set_of (suc n) c)) h h
+    ∙ (λ i. sum-down (λ c. one (set_of (suc n) (h + c))) (λ c. one (true ∷ set_of n c)) h (λ c lt. ap one (set-in n c lt)) i
+    + sum-down (λ c. one (set_of (suc n) c)) (λ c. one (false ∷ set_of n c)) h (λ c lt. ap one (set-out n c lt)) i)
+
+count-passing : (n : ℕ) (test : List Bool → Bool) (s : ℕ) → count_sets n test s ≡ passing n test s
+unfolding count_sets down
+count-passing zero test zero = grind (arith, nat_tests)
+count-passing zero test (suc s) = grind (arith, nat_tests)
+count-passing (suc n) test zero =
+    let none = sum-down (λ c. cond (test (true ∷ set_of n c) && (suc (number (set_of n c)) == 0)) 1 0) (λ c. 0) (2 ^ n) (λ c _. grind (arith, nat_tests)) in
+    grind (arith, by-first n test 0, none, sum-none (λ c. 0) (2 ^ n) (λ c _. refl), count-passing n (λ set. test (false ∷ set)) 0)
+count-passing (suc n) test (suc s) =
+    let within = sum-down (λ c. cond (test (true ∷ set_of n c) && (suc (number (set_of n c)) == suc s)) 1 0)
+    (λ c. cond (test (true ∷ set_of n c) && (number (set_of n c) == s)) 1 0) (2 ^ n) (λ c _. grind (arith, nat_tests)) in
+    omega (arith, by-first n test (suc s), within, count-passing n (λ set. test (true ∷ set)) s, count-passing n (λ set. test (false ∷ set)) (suc s))
+
+pub count-coalitions : (n : ℕ) (test : List Bool → Bool) (s : ℕ)
+    → count_sets n test s ≡ length (filter (λ c. test (set_of n c) && (size n c == s)) (down (2 ^ n)))
+count-coalitions n test s =
+    count-passing n test s ∙ (λ i. sum_by (λ c. cond (test (set_of n c) && ((sym (size-number n c)) i == s)) 1 0) (down (2 ^ n)))
+    ∙ sym (length-filter (λ c. test (set_of n c) && (size n c == s)) (down (2 ^ n)))
+
+-- ---- what a coalition weighs under a rule
+pub weigh-cons : (m : List ℕ) (ms : List (List ℕ)) (b : Bool) (set : List Bool) (r : ℕ)
+    → weigh (m ∷ ms) (b ∷ set) r ≡ cond b (get_or m r 0) 0 + weigh ms set r
+unfolding weigh
+weigh-cons m ms true set r = refl
+weigh-cons m ms false set r = omega arith
+
+weigh-from : (members : List (List ℕ)) (ws : List ℕ) (r n a c : ℕ)
+    → ((p : ℕ) → p < length members → get_or (get_or members p []) r 0 ≡ get_or ws (a + p) 0)
+    → weigh members (map (λ p. has n p c) (range_with_len a (length members))) r
+    ≡ sum_by (λ p. get_or ws p 0) (filter (λ p. has n p c) (range_with_len a (length members)))
+unfolding weigh
+weigh-from [] ws r n a c same = refl
+weigh-from (m ∷ ms) ws r n a c same =
+    let rest = weigh-from ms ws r n (a + 1) c (λ p lt.
+    (let at : a + suc p ≡ a + 1 + p = omega arith in same (suc p) (omega arith) ∙ ap (λ (k : ℕ). get_or ws k 0) at)) in
+    let first : get_or m r 0 ≡ get_or ws a 0 = same 0 (omega arith) ∙ ap (λ (k : ℕ). get_or ws k 0) (let z : a + 0 ≡ a = omega arith in z) in
+    let here = weigh-cons m ms (has n a c) (map (λ p. has n p c) (range_with_len (a + 1) (length ms))) r in
+    let more = sum_by-cons (λ p. get_or ws p 0) a (filter (λ p. has n p c) (range_with_len (a + 1) (length ms))) in
+    grind (arith, nat_tests)
+
+pub weigh-set : (members : List (List ℕ)) (ws : List ℕ) (r n c : ℕ) → length members ≡ n → length ws ≡ n
+    → ((p : ℕ) → p < n → get_or (get_or members p []) r 0 ≡ get_or ws p 0) → weigh members (set_of n c) r ≡ weight ws c
+unfolding weight
+weigh-set members ws r n c long full same =
+    let from = weigh-from members ws r n 0 c (λ p lt. same p (omega (arith, lt, long)) ∙ ap (λ (k : ℕ). get_or ws k 0) (let z : p ≡ 0 + p = omega arith in z)) in
+    ap (λ (k : ℕ). weigh members (map (λ p. has n p c) (range_with_len 0 k)) r) (sym long) ∙ from
+    ∙ (λ i. sum_by (λ p. get_or ws p 0) (filter (λ p. has ((sym full) i) p c) (range_with_len 0 ((long ∙ sym full) i))))

@@ -1,0 +1,72 @@
+-- Weights that meet rows.
+use Rattle.std.proofs.Common.{◌≡◌, ◌∙◌, ℕ, ◌-◌, ◌<◌, ◌≤◌, Bool, true, false, cond, leb, List, [], ◌∷◌, length, get_or, max}
+use Rattle.std.proofs.Common.{sum_by, ap, sym, refl, subst, arith, zero-add}
+use Rattle.std.specs.List.{range_with_len}
+use Rattle.std.proofs.lemmas.{Bool.leb-true, Bool.le-leb, Bool.Decides.same_from_decides}
+use Rattle.std.proofs.lemmas.{List.FromFn.get_or-range_with_len, List.Sums.AllPass-from_list_all, List.Sums.list_all-from_AllPass, List.Sums.sum_by-cons, List.nil_from_length}
+use Rattle.council_base.specs.declared.limits.TheConstants.{RULES}
+use Rattle.mwc_states.specs.Inner.Sets.{weigh, meets}
+
+-- weights are at least as great as a row under each rule
+abbrev pub Reaches : (ℕ → ℕ) → List ℕ → Type 0
+Reaches weights row = (r : ℕ) → r < RULES → get_or row r 0 ≤ weights r
+
+pub reach : (w : ℕ → ℕ) (row : List ℕ) → meets w row ≡ true → Reaches w row
+unfolding meets
+reach w row is r lt =
+    let test : ℕ → Bool = λ r. leb (get_or row r 0) (w r) in
+    let at : get_or (range_with_len 0 RULES) r 0 ≡ r = get_or-range_with_len 0 RULES r 0 lt ∙ zero-add r in
+    leb-true _ _ (subst (λ (k : ℕ). test k ≡ true) at (AllPass-from_list_all test (range_with_len 0 RULES) is r 0 lt))
+
+pub reached : (w : ℕ → ℕ) (row : List ℕ) → Reaches w row → meets w row ≡ true
+unfolding meets
+reached w row h = list_all-from_AllPass (λ r. leb (get_or row r 0) (w r)) (range_with_len 0 RULES)
+    (λ k d lt. let at : k ≡ get_or (range_with_len 0 RULES) k d = sym (get_or-range_with_len 0 RULES k d lt ∙ zero-add k) in
+    subst (λ (r : ℕ). leb (get_or row r 0) (w r) ≡ true) at (le-leb _ _ (h k lt)))
+
+pub meets-same : (v w : ℕ → ℕ) (x y : List ℕ) → (Reaches v x → Reaches w y) → (Reaches w y → Reaches v x) → meets v x ≡ meets w y
+meets-same v w x y to from =
+    same_from_decides (meets v x) (meets w y) (λ e. to (reach v x e), λ h. reached v x (from h)) (reach w y, reached w y)
+
+-- who meets a row meets each row that it meets
+pub meets-through : (w : ℕ → ℕ) (x y : List ℕ) → meets w x ≡ true → meets (λ r. get_or x r 0) y ≡ true → meets w y ≡ true
+meets-through w x y meets_x over = reached w y (λ r lt. omega (arith, reach w x meets_x r lt, reach (λ r. get_or x r 0) y over r lt))
+
+-- the greater of a row and one that is met
+pub meets-most : (w : ℕ → ℕ) (x y z : List ℕ) → ((r : ℕ) → get_or z r 0 ≡ max (get_or x r 0) (get_or y r 0)) → meets w y ≡ true → meets w z ≡ meets w x
+meets-most w x y z is meets_y = meets-same w w z x (λ h r lt. omega (arith, is r, h r lt)) (λ h r lt. omega (arith, is r, h r lt, reach w y meets_y r lt))
+
+-- a row that is raised, and is met by the same weights
+pub meets-raised_same : (w : ℕ → ℕ) (x y : List ℕ) → ((r : ℕ) → get_or x r 0 ≤ get_or y r 0) → (meets w x ≡ true → meets w y ≡ true) → meets w y ≡ meets w x
+meets-raised_same w x y above met =
+    meets-same w w y x (λ h r lt. omega (arith, above r, h r lt)) (λ h. reach w y (met (reached w x h)))
+
+-- one member less
+pub meets-left : (x y member : List ℕ) (members : List (List ℕ)) (taken : Bool) (set : List Bool)
+    → ((r : ℕ) → get_or y r 0 ≡ get_or x r 0 - cond taken (get_or member r 0) 0) → meets (weigh (member ∷ members) (taken ∷ set)) x ≡ meets (weigh members set) y
+unfolding weigh
+meets-left x y member members true set is = meets-same _ _ x y (λ h r lt. omega (arith, is r, h r lt)) (λ h r lt. omega (arith, is r, h r lt))
+meets-left x y member members false set is = meets-same _ _ x y (λ h r lt. omega (arith, is r, h r lt)) (λ h r lt. omega (arith, is r, h r lt))
+
+-- ---- what sets weigh
+pub weigh-nil : (members : List (List ℕ)) (r : ℕ) → weigh members [] r ≡ 0
+unfolding weigh
+weigh-nil [] r = refl
+weigh-nil (member ∷ members) r = refl
+
+pub weigh-within : (members : List (List ℕ)) (set : List Bool) (r : ℕ) → weigh members set r ≤ sum_by (λ member. get_or member r 0) members
+unfolding weigh
+weigh-within [] set r = omega arith
+weigh-within (member ∷ members) [] r = omega arith
+weigh-within (member ∷ members) (true ∷ set) r = simp sum_by-cons (omega (arith, weigh-within members set r))
+weigh-within (member ∷ members) (false ∷ set) r = simp sum_by-cons (omega (arith, weigh-within members set r))
+
+-- ---- all members together
+pub meets-total : (members : List (List ℕ)) (total row : List ℕ) (set : List Bool) → ((r : ℕ) → get_or total r 0 ≡ sum_by (λ member. get_or member r 0) members)
+    → meets (weigh members set) row ≡ true → meets (λ r. get_or total r 0) row ≡ true
+meets-total members total row set is met = reached _ row (λ r lt. omega (arith, is r, weigh-within members set r, reach _ row met r lt))
+
+pub none-needed : (members : List (List ℕ)) (total row : List ℕ) → ((r : ℕ) → get_or total r 0 ≡ sum_by (λ member. get_or member r 0) members)
+    → length members ≡ 0 → meets (λ r. get_or total r 0) row ≡ true → (r : ℕ) → r < RULES → get_or row r 0 ≡ 0
+none-needed members total row is none met r lt =
+    omega (arith, is r, reach _ row met r lt, ap (sum_by (λ member. get_or member r 0)) (nil_from_length members none))

@@ -1,0 +1,5 @@
+use Rattle.council_game.specs.{Game.votes_of, Votes.minimal_coalitions}
+use Rattle.mwc_states.proofs.count.count_by_states.Given as goal
+
+abbrev pub ghost-of_sizes : goal.ghost-of_sizes
+ghost-of_sizes g a = minimal_coalitions (votes_of a.game.now)

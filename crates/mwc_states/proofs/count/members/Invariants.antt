@@ -1,0 +1,6 @@
+use Rattle.council_game.specs.{Game.votes_of}
+use Rattle.mwc_states.specs.Inner.Games.{AreFirstRows}
+use Rattle.mwc_states.proofs.count.members.Given as goal
+
+abbrev pub invariant-loop-place : goal.invariant-loop-place
+invariant-loop-place l = AreFirstRows (votes_of l.game).rules l.rows.items l.place

@@ -1,0 +1,6 @@
+use Rattle.std.proofs.Common.{map}
+use Rattle.mwc_states.specs.Inner.Graphs.{IsBuilding}
+use Rattle.mwc_states.proofs.graph.build.Given as goal
+
+abbrev pub invariant-loop-level : goal.invariant-loop-level
+invariant-loop-level g l = IsBuilding l.what l.members l.need (map (λ links. links.items) l.levels.items) l.table l.level l.room

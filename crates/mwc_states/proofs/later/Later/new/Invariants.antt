@@ -1,0 +1,6 @@
+use Rattle.std.specs.List.{All}
+use Rattle.mwc_states.specs.Inner.Sums.{AreSums}
+use Rattle.mwc_states.proofs.later.Later.new.Given as goal
+
+abbrev pub invariant-loop-rule : goal.invariant-loop-rule
+invariant-loop-rule l = All (λ list. AreSums list.rule l.members list.rows.items) l.sums.items

@@ -1,0 +1,18 @@
+use Rattle.std.proofs.Common.{◌∙◌, ◌&&◌, not, get_or, ap, sym, rules, tests}
+use Rattle.std.specs.List.{list_any}
+use Rattle.std.proofs.lemmas.{Fn.filter_same}
+use Rattle.mwc_states.specs.Inner.Sets.{meets}
+use Rattle.mwc_states.specs.Inner.Later.{misses_all}
+use Rattle.mwc_states.proofs.{Implied.misses_all-implied, Implied.misses_all-filter, Implied.misses_all-insert}
+use Rattle.mwc_states.proofs.misses.add.Goals as goal
+
+pub returns-then-is_implied : goal.returns-then-is_implied
+returns-then-is_implied c weights = misses_all-implied weights c.args.miss.now c.args.rows.now.items
+    (ap (list_any (λ row. meets (λ r. get_or c.args.miss.now r 0) row)) (sym c.deref.ensures.value) ∙ sym c.is_implied.ensures ∙ c.if-is_implied.true)
+
+pub returns : goal.returns
+returns c weights =
+    let kept = filter_same _ (λ row. not (meets (λ r. get_or row r 0) c.args.miss.now)) _ (λ x b q k. search (rules, tests)) _ _ c.retain.ensures.filtered in
+    ap (misses_all weights) c.in_ok-insert.ensures.items ∙ misses_all-insert weights c.args.miss.now c.retain.new.self.items c.partition_point-at.result
+    ∙ ap (λ rows. misses_all weights rows && not (meets weights c.args.miss.now)) kept
+    ∙ misses_all-filter weights c.args.miss.now c.args.rows.now.items

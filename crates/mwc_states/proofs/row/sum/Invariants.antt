@@ -1,0 +1,6 @@
+use Rattle.std.proofs.Common.{take}
+use Rattle.mwc_states.specs.Inner.Later.{IsTotal}
+use Rattle.mwc_states.proofs.row.sum.Given as goal
+
+abbrev pub invariant-loop-row : goal.invariant-loop-row
+invariant-loop-row l = IsTotal (take l.row-index l.rows) l.sum

@@ -1,0 +1,6 @@
+use Rattle.mwc_states.proofs.Imports.{arith, get_or_default, common_steps}
+use Rattle.mwc_states.proofs.SizeRows.{row-read}
+use Rattle.mwc_states.proofs.size_rows.SizeRows.counts.Goals as goal
+
+pub returns-clause-counts : goal.returns-clause-counts
+returns-clause-counts c s = grind (arith, common_steps, get_or_default, row-read)

@@ -1,0 +1,6 @@
+use Rattle.std.proofs.Common.{arith}
+use Rattle.mwc_states.proofs.Lowering.{sums-lowered}
+use Rattle.mwc_states.proofs.sums.Sums.new.Goals as goal
+
+pub returns : goal.returns
+returns c = sums-lowered (c.in_ok-rows.ensures (omega arith)) c.keep_least.ensures.same c.keep_least.ensures.least c.keep_least.ensures.below c.keep_least.ensures.ascending

@@ -1,0 +1,6 @@
+use Rattle.std.proofs.Common.{drop}
+use Rattle.mwc_states.specs.Inner.Sums.{AreListed}
+use Rattle.mwc_states.proofs.sums.list.Given as goal
+
+abbrev pub invariant-loop-i : goal.invariant-loop-i
+invariant-loop-i l = AreListed l.rule (drop l.i l.members) l.sums.items

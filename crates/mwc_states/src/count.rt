@@ -1,0 +1,90 @@
+//! The counts of a game.
+ghost use Rattle.std.specs.Prelude.{◌≡◌, ◌<◌, ℕ, [], IfOk, IfSome, length, slice_index, slice_index_or};
+ghost use Rattle.council_game.specs.Game.{votes_of};
+ghost use Rattle.council_game.specs.Votes.{rule_at};
+ghost use Rattle.mwc_states.specs.Inner.Games.{AreRowsOf};
+ghost use Rattle.power_index.specs.Tables.{AreCountsOfGame};
+
+use crate::graph::build;
+use crate::row::Row;
+use crate::set_counts::count;
+use crate::what::What;
+use council_base::{Gate, Memory, limits};
+use council_game::Game;
+use power_index::Counts;
+use std::alloc::Global;
+
+/// Returns the weights of the member of a rank place.
+fn weights_at(game: &Game, place: usize) -> Row
+    requires { place < length game.now.names }
+    ensures { (r : ℕ) → slice_index result r
+        ≡ slice_index (rule_at (votes_of game.now).rules r).weights place }
+{
+    let member = game.member_at(place);
+    let mut row = [0; limits::RULES];
+    for r in 0..game.rules() {
+        row[r] = game.rule_weight(r, member);
+    }
+    row
+}
+
+/// Returns the quotas of a game.
+fn quotas(game: &Game) -> Row
+    ensures { (r : ℕ) → slice_index result r ≡ (rule_at (votes_of game.now).rules r).quota }
+{
+    let mut row = [0; limits::RULES];
+    for r in 0..game.rules() {
+        row[r] = game.rule_quota(r);
+    }
+    row
+}
+
+/// Lists the weights of the members by rank place.
+fn members(alloc: Global, game: &Game) -> Result<Vec<Row>, Memory>
+    ensures long { IfOk result (λ rows. length rows.items ≡ length game.now.names) }
+    ensures weights { IfOk result (λ rows. (p r : ℕ) → p < length game.now.names
+        → slice_index (slice_index_or rows.items p []) r
+        ≡ slice_index (rule_at (votes_of game.now).rules r).weights p) }
+{
+    let mut rows = Vec::with_capacity(alloc, game.members())?;
+    for place in 0..game.members() {
+        rows.push(weights_at(game, place))?;
+    }
+    Ok(rows)
+}
+
+/// Counts the minimal winning coalitions of a game by states.
+///
+/// The members are decided by rank place, so put those first who contribute more
+/// (`Game::by_contribution`). The gate hears of each member that is decided. Returns `None` if
+/// there are more than `room` states, at most 2^26, or the states of a level are too long.
+///
+/// # Errors
+///
+/// Returns `Memory` if an allocation was refused.
+pub fn count_by_states<G: Gate>(
+    alloc: Global,
+    game: &Game,
+    room: usize,
+    gate: &G,
+) -> Result<Option<Box<Counts>>, Memory>
+    ensures { IfOk result (λ o. IfSome o (λ counts. AreCountsOfGame game.now counts.value)) }
+{
+    game.was_checked();
+    let members = members(alloc, game)?;
+    let need = quotas(game);
+    let Some(levels) = build(
+        alloc,
+        What::Minimal,
+        &members,
+        &need,
+        game.rules(),
+        room,
+        gate,
+    )?
+    else {
+        return Ok(None);
+    };
+    let counts = count(alloc, &levels)?;
+    Ok(Some(Box::new(alloc, Counts::of_sizes(game, counts.all, counts.each))?))
+}

@@ -1,0 +1,73 @@
+//! The graph of states, level by level.
+ghost use Rattle.std.specs.Prelude.{◌≡◌, ◌<◌, ◌≤◌, ◌^◌, ℕ, [], ◌∷◌, IfOk, IfSome, length, map, slice_index, sum_by};
+ghost use Rattle.council_base.specs.declared.limits.TheConstants.{MEMBERS, RULES, TOTAL};
+ghost use Rattle.mwc_states.specs.Inner.Graphs.{IsGraphOf};
+
+use crate::later::Later;
+use crate::level::{Links, decide_level};
+use crate::row::Row;
+use crate::table::Table;
+use crate::what::What;
+use council_base::{Gate, Memory};
+use std::alloc::Global;
+
+/// The most sums of later members that are listed under each rule, for so many states of a level.
+fn sums_for(states: usize, rules: usize) -> usize {
+    states
+        .saturating_mul(4)
+        .saturating_add(1 << 13)
+        .min((1 << 20) / rules.max(1))
+}
+
+/// Makes the table of the first level, whose only state is the need.
+fn first_table(alloc: Global, need: &Row) -> Result<Table, Memory>
+    ensures { IfOk result (λ table. table ≡ (need.now ∷ []) ∷ []) }
+{
+    let mut table = Table::new(alloc);
+    table.push(&[*need])?;
+    Ok(table)
+}
+
+/// Builds the graph of the sets of members that complete a need.
+///
+/// Each level decides the next member. Returns `None` if there are more than `room` states, or too
+/// many rows. The gate hears of each level.
+pub(crate) fn build<G: Gate>(
+    alloc: Global,
+    what: What,
+    members: &[Row],
+    need: &Row,
+    rules: usize,
+    room: usize,
+    gate: &G,
+) -> Result<Option<Vec<Links>>, Memory>
+    requires some { 1 ≤ length members.now }
+    requires few { length members.now ≤ MEMBERS }
+    requires rules { rules ≤ RULES }
+    requires light { (r : ℕ) → r < RULES → sum_by (λ member. slice_index member r) members.now ≤ TOTAL }
+    ensures { IfOk result (λ o. IfSome o (λ levels.
+        IsGraphOf what members.now need.now (map (λ links. links.items) levels.items))) }
+{
+    let mut levels = Vec::with_capacity(alloc, members.len())?;
+    let mut table = first_table(alloc, need)?;
+    let mut room = room.min(1 << 26);
+    for level in 0..members.len() {
+        if table.len() > room {
+            return Ok(None);
+        }
+        room -= table.len();
+        let later = Later::new(
+            alloc,
+            &members[level + 1..],
+            rules,
+            sums_for(table.len(), rules),
+        )?;
+        let Some((links, next)) = decide_level(alloc, what, &table, &members[level], &later)? else {
+            return Ok(None);
+        };
+        levels.push(links)?;
+        table = next;
+        gate.decide(level as u8 + 1, members.len() as u8);
+    }
+    Ok(Some(levels))
+}

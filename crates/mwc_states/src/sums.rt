@@ -1,0 +1,139 @@
+//! Sums of the subsets of some members.
+ghost use Rattle.std.specs.Prelude.{◌≡◌, ◌+◌, ◌<◌, ◌≤◌, ◌^◌, ℕ, true, Bool, List, length, slice_index, sum_by, IfOk, OnOk};
+ghost use Rattle.council_base.specs.declared.limits.TheConstants.{RULES};
+ghost use Rattle.mwc_states.specs.Inner.Sets.{weigh, meets};
+ghost use Rattle.mwc_states.specs.Inner.Sums.{row_at, IsAscending, AddsSum, AddsMember, AreListed, AreSums};
+
+use crate::row::{self, Row, ZERO};
+use council_base::Memory;
+use std::alloc::Global;
+
+/// Adds a sum that is at least as great as the others under a rule.
+///
+/// If the last one is the same under the rule, it becomes the lesser of both under each rule.
+#[tactic(auto, unfolding(crate::specs::Inner::Sums::HasSum))]
+fn push(sums: &mut Vec<Row>, sum: &Row, rule: usize) -> Result<(), Memory>
+    requires { rule < RULES }
+    ensures { OnOk result (AddsSum rule sum.now sums.old.items sums.new.items) }
+{
+    let len = sums.len();
+    if len > 0 && sums[len - 1][rule] == sum[rule] {
+        sums[len - 1] = row::min(&sums[len - 1], sum);
+    } else {
+        sums.push(*sum)?;
+    }
+    Ok(())
+}
+
+/// Lists the sums of some members' subsets with and without one more member.
+fn add_member(alloc: Global, sums: &[Row], member: &Row, rule: usize) -> Result<Vec<Row>, Memory>
+    requires rule { rule < RULES }
+    requires ascending { IsAscending rule sums.now }
+    requires room { (k r : ℕ) → r < RULES
+        → slice_index (row_at sums.now k) r + slice_index member.now r < 2 ^ 64 }
+    ensures { IfOk result (λ all. AddsMember rule member.now sums.now all.items) }
+{
+    let mut all = Vec::new(alloc);
+    let mut i = 0;
+    let mut j = 0;
+    while j < sums.len() {
+        let with = row::add(&sums[j], member);
+        if i < sums.len() && sums[i][rule] <= with[rule] {
+            push(&mut all, &sums[i], rule)?;
+            i += 1;
+        } else {
+            push(&mut all, &with, rule)?;
+            j += 1;
+        }
+    }
+    Ok(all)
+}
+
+/// Lists the sums of all subsets of some members, ascending under a rule.
+///
+/// Stops early once there are more than `limit` sums.
+fn list(alloc: Global, members: &[Row], rule: usize, limit: usize) -> Result<Vec<Row>, Memory>
+    requires rule { rule < RULES }
+    requires few { (r : ℕ) → r < RULES
+        → sum_by (λ member. slice_index member r) members.now < 2 ^ 64 }
+    ensures { IfOk result (λ sums. length sums.items ≤ limit
+        → AreListed rule members.now sums.items) }
+{
+    let mut sums = vec![in alloc; ZERO]?;
+    for i in (0..members.len()).rev() {
+        if sums.len() > limit {
+            break;
+        }
+        sums = add_member(alloc, &sums, &members[i], rule)?;
+    }
+    Ok(sums)
+}
+
+/// Lowers each row to the least of itself and all later ones under each rule.
+fn keep_least(rows: &mut Vec<Row>)
+    ensures same { length rows.new.items ≡ length rows.old.items }
+    ensures least { (i j r : ℕ) → i ≤ j → j < length rows.new.items
+        → slice_index (row_at rows.new.items i) r ≤ slice_index (row_at rows.new.items j) r }
+    ensures below { (k r : ℕ)
+        → slice_index (row_at rows.new.items k) r ≤ slice_index (row_at rows.old.items k) r }
+    ensures ascending { (rule k : ℕ) → IsAscending rule rows.old.items
+        → slice_index (row_at rows.new.items k) rule ≡ slice_index (row_at rows.old.items k) rule }
+{
+    for k in (1..rows.len()).rev() {
+        rows[k - 1] = row::min(&rows[k - 1], &rows[k]);
+    }
+}
+
+/// The sums of all subsets of some members, ascending under a rule.
+///
+/// Under the other rules each has the least numbers of itself and all later sums. The list is empty
+/// if there would be too many.
+#[derive(Drop)]
+pub(crate) struct Sums {
+    rule: usize,
+    rows: Vec<Row>,
+    ghost in_range: { rule < RULES },
+}
+
+impl Sums {
+    /// Lists the sums of the subsets of some members, or none if there are more than `limit`.
+    pub(crate) fn new(
+        alloc: Global,
+        members: &[Row],
+        rule: usize,
+        limit: usize,
+    ) -> Result<Sums, Memory>
+        requires rule { rule < RULES }
+        requires few { (r : ℕ) → r < RULES
+            → sum_by (λ member. slice_index member r) members.now < 2 ^ 64 }
+        ensures { IfOk result (λ sums. AreSums sums.rule members.now sums.rows.items) }
+    {
+        let mut rows = list(alloc, members, rule, limit)?;
+        if rows.len() > limit {
+            return Ok(Sums {
+                rule,
+                rows: Vec::new(alloc),
+            });
+        }
+        keep_least(&mut rows);
+        Ok(Sums { rule, rows })
+    }
+
+    /// Raises a row further: to what all subsets weigh at least that meet `row`.
+    #[inline]
+    pub(crate) fn raise(&self, row: &Row, raised: &Row) -> Row
+        ensures above { (r : ℕ) → slice_index raised.now r ≤ slice_index result r }
+        ensures met { (members : List (List ℕ)) (set : List Bool)
+            → AreSums self.now.rule members self.now.rows.items
+            → meets (weigh members set) row.now ≡ true
+            → meets (weigh members set) raised.now ≡ true → meets (weigh members set) result ≡ true }
+    {
+        let rule = self.rule;
+        let at = self.rows.partition_point(|sum| sum[rule] < row[rule]);
+        if at < self.rows.len() {
+            row::max(raised, &self.rows[at])
+        } else {
+            *raised
+        }
+    }
+}

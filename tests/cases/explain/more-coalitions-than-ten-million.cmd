@@ -1,0 +1,1 @@
+council --explain --list <game

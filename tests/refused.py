@@ -1,0 +1,100 @@
+#!/usr/bin/env python3
+"""Mutants that the prover must refuse, beside those that each `rt ci` tries.
+
+    tests/refused.py --fit              says whether each can still be put into the sources
+    tests/refused.py --some N           tries N of them, which the sources choose
+    tests/refused.py [CRATE/NAME..]     tries these, or all
+
+refused/CRATE has edits of the crate CRATE, in the form of its must-fail edits. They are put into a
+copy of the crates, for which `rt ci` proves only what it has not proved on this machine. Each line
+says `ok`, or `FAILED` and why.
+"""
+import glob
+import hashlib
+import os
+import re
+import shutil
+import subprocess
+import sys
+import tempfile
+
+TOP = os.path.dirname(os.path.dirname(os.path.realpath(__file__)))
+EDITS = f"{TOP}/tests/refused"
+
+
+def read(path):
+    with open(path, encoding="utf-8") as it:
+        return it.read()
+
+
+def find_misfit(name):
+    """Returns why an edit cannot be put into the sources, or None."""
+    crate = name.split("/")[0]
+    texts, file, old = {}, None, None
+    for line in read(f"{EDITS}/{name}.edit").splitlines():
+        key, _, text = line.partition(": ")
+        if key == "file":
+            file = f"{TOP}/crates/{crate}/{text}"
+            texts.setdefault(file, read(file) if os.path.exists(file) else "")
+        elif key == "old":
+            old = text
+        elif key == "new":
+            if texts[file].count(old) != 1:
+                return f"this stands {texts[file].count(old)} times, and not once: {old}"
+            texts[file] = texts[file].replace(old, text)
+    return None
+
+
+def choose(names, count):
+    """Returns some of the names, which the sources choose."""
+    digest = hashlib.sha256()
+    for path in sorted(glob.glob(f"{TOP}/crates/*/src/**/*.rt", recursive=True)):
+        digest.update(read(path).encode())
+    first = int.from_bytes(digest.digest()[:4], "big")
+    return [names[(first + k * (len(names) // count)) % len(names)] for k in range(count)]
+
+
+def try_edits(names):
+    """Lets the prover try these edits, and returns what it says of each."""
+    with tempfile.TemporaryDirectory() as room:
+        for it in ("crates.txt", "HANDLES"):
+            shutil.copy(f"{TOP}/{it}", room)
+        for crate in os.listdir(f"{TOP}/crates"):
+            for part in ("src", "specs", "proofs"):
+                if os.path.isdir(f"{TOP}/crates/{crate}/{part}"):
+                    shutil.copytree(f"{TOP}/crates/{crate}/{part}", f"{room}/crates/{crate}/{part}")
+        for name in names:
+            crate, own = name.split("/")
+            os.makedirs(f"{room}/crates/{crate}/must-fail", exist_ok=True)
+            shutil.copy(f"{EDITS}/{name}.edit", f"{room}/crates/{crate}/must-fail/{own}.edit")
+        crates = sorted({it.split("/")[0] for it in names})
+        run = subprocess.run(["rt", "ci", *crates], cwd=room, stdout=subprocess.PIPE, stderr=subprocess.STDOUT, text=True, check=False)
+        return dict(re.findall(r"must-fail (\S+)\.edit: (.*)", run.stdout))
+
+
+def main():
+    names = sorted(os.path.relpath(it, EDITS)[: -len(".edit")] for it in glob.glob(f"{EDITS}/*/*.edit"))
+    words = sys.argv[1:]
+    bad = 0
+    if words == ["--fit"]:
+        for name in names:
+            why = find_misfit(name)
+            bad += why is not None
+            print(f"FAILED {name}: {why}" if why else f"ok {name} can be put into the sources")
+        return bad > 0
+    if not shutil.which("rt"):
+        print("skipped refused.py: this machine has no rt")
+        return 0
+    if words[:1] == ["--some"]:
+        names = choose(names, int(words[1]))
+    elif words:
+        names = words
+    said = try_edits(names)
+    for name in names:
+        why = said.get(name, "it was not tried")
+        bad += not why.startswith("refused")
+        print(f"ok {name} is refused" if why.startswith("refused") else f"FAILED {name}: {why[:200]}")
+    return bad > 0
+
+
+sys.exit(main())
