@@ -8,13 +8,12 @@ ghost use Rattle.council_report.specs.Outcome.{Writes};
 ghost use Rattle.council_report.specs.Report.{report};
 ghost use Rattle.council_run.specs.Run.{IsOutcome};
 ghost use Rattle.council_run.specs.Plans.{is_too_many, limit_of, lines_of_plan};
-ghost use Rattle.council.specs.Inner.Wants.{plan_wanted};
 
-use council_base::{Gate, Recorder, Sink, Source, sanitize};
+use council_base::{Gate, Plan, Recorder, Sink, Source, sanitize};
 use council_explain::{explain, remark_on_quotas, remark_on_thousands};
 use council_game::GameFault;
 use council_progress::{Line, Progress, Wiping};
-use council_run::{Cause, LEAST_BITS, Plan, RunFault, number_by_states, run_by, status};
+use council_run::{Cause, LEAST_BITS, RunFault, number_by_states, run_by, status};
 use council_words::{Arguments, collect_words, parse_arguments};
 use mwc_gather::GatherFault;
 use mwc_walk::slice_count;
@@ -95,19 +94,6 @@ fn report_unopened(
     ExitCode::from(1)
 }
 
-/// Returns how the coalitions are found: by a list if one is asked for, or if they are limited.
-fn plan_of(arguments: &Arguments<'_>) -> Plan
-    ensures { result ≡ plan_wanted arguments.now }
-{
-    if arguments.tally {
-        Plan::Count
-    } else if arguments.options.list || arguments.is_limited {
-        Plan::List
-    } else {
-        Plan::Either
-    }
-}
-
 /// Runs as the arguments ask.
 fn execute<R: AllocGlobal + Threads + Wait + Sync, I: Source, G: Gate + Sync, W: Sink>(
     rt: &R,
@@ -116,13 +102,12 @@ fn execute<R: AllocGlobal + Threads + Wait + Sync, I: Source, G: Gate + Sync, W:
     gate: &G,
     writer: &mut W,
 ) -> Result<u64, RunFault>
-    ensures { IsOutcome (report (lines_of_plan (plan_wanted arguments.now) arguments.now.options))
-        (limit_of (plan_wanted arguments.now) arguments.now.options.most (is_too_many result))
+    ensures { IsOutcome (report (lines_of_plan arguments.now.plan arguments.now.options))
+        (limit_of arguments.now.plan arguments.now.options.most (is_too_many result))
         (Reads I.left I.is_read reader.old reader.new)
         (λ text. Writes W.held W.is_write W.is_flush text writer.old writer.new)
         (writer.new ≡ writer.old) result }
 {
-    let plan = plan_of(arguments);
     run_by(
         rt,
         rt.alloc(),
@@ -130,7 +115,7 @@ fn execute<R: AllocGlobal + Threads + Wait + Sync, I: Source, G: Gate + Sync, W:
         &arguments.options,
         gate,
         writer,
-        plan,
+        arguments.plan,
     )
 }
 
@@ -165,10 +150,9 @@ fn report_outcome(
 /// Returns how many slices there are, unless the game has very few members.
 fn slices_of(arguments: &Arguments<'_>) -> u16 {
     let bits = arguments.options.bits;
-    if arguments.tally {
-        slice_count(bits.max(LEAST_BITS))
-    } else {
-        slice_count(bits)
+    match arguments.plan {
+        Plan::Count => slice_count(bits.max(LEAST_BITS)),
+        Plan::List | Plan::Either => slice_count(bits),
     }
 }
 

@@ -18,7 +18,7 @@ pub trait Gate {
     /// found.
     fn inform(&self, _prefixes: u64, _found: u64) {}
 
-    /// Notes progress of a count by states: so many of the members are decided.
+    /// Notes progress of a count by states, after another of the members is decided.
     fn decide(&self, _decided: u8, _members: u8) {}
 }
 

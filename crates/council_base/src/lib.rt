@@ -1,5 +1,5 @@
 //! The base of all crates: coalitions, counts by size, lists by place, `Memory`, the limits, the
-//! options of a run, the observer of its workers, readers and writers seen call by call, a reader
+//! options of a run and how it finds coalitions, the observer of its workers, readers and writers seen call by call, a reader
 //! that keeps what it reads, and text that is safe to show.
 #![tactic(auto)]
 
@@ -9,6 +9,7 @@ pub mod limits;
 mod lists;
 mod memory;
 mod options;
+mod plan;
 mod recorder;
 mod report_lines;
 mod sanitized;
@@ -21,6 +22,7 @@ pub use gate::{Gate, NoGate, REPORT_EVERY};
 pub use lists::list_from_fn;
 pub use memory::Memory;
 pub use options::Options;
+pub use plan::Plan;
 pub use recorder::Recorder;
 pub use report_lines::ReportLines;
 pub use sanitized::{Sanitized, sanitize};

@@ -14,7 +14,7 @@ use Rattle.council_run.specs.declared.fault.Cause.{Cause}
 use Rattle.council_run.specs.declared.fault.Cause.TheVariants as cause
 use Rattle.council_run.specs.declared.fault.RunFault.{RunFault}
 use Rattle.council_run.specs.declared.found.Found.{Found}
-use Rattle.council_run.specs.declared.plan.Plan.TheVariants as plan
+use Rattle.council_base.specs.declared.plan.Plan.TheVariants as plan
 
 -- a fault of the report is not that there are too many
 pub is-not-many : (why : ReportFault) (e : RunFault) → (why ≡ report.Memory → e ≡ record { cause = cause.Memory; written = 0 })

@@ -7,8 +7,8 @@ use Rattle.mwc_gather.specs.declared.fault.GatherFault.TheVariants as gather
 use Rattle.council_run.specs.declared.fault.Cause.{Cause}
 use Rattle.council_run.specs.declared.fault.Cause.TheVariants as cause
 use Rattle.council_run.specs.declared.fault.RunFault.{RunFault}
-use Rattle.council_run.specs.declared.plan.Plan.{Plan}
-use Rattle.council_run.specs.declared.plan.Plan.TheVariants as plan
+use Rattle.council_base.specs.declared.plan.Plan.{Plan}
+use Rattle.council_base.specs.declared.plan.Plan.TheVariants as plan
 
 -- the optional lines of the report: none for a coalition if they are only counted
 abbrev pub lines_of_plan : Plan → Options → ReportLines

@@ -14,7 +14,6 @@ pub mod laws;
 mod listing;
 mod number;
 mod order;
-mod plan;
 mod runs;
 
 pub use council_base::{Gate, NoGate, Options, limits};
@@ -26,5 +25,4 @@ pub use fault::{Cause, RunFault, status};
 pub use found::{Coalitions, Found};
 pub use listing::{list_by_walk, list_by_workers};
 pub use number::number_by_states;
-pub use plan::Plan;
 pub use runs::{run, run_by, tally};

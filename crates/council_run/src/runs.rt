@@ -9,7 +9,7 @@ ghost use Rattle.council_run.specs.Found.{Finds, IsWorkersFault};
 ghost use Rattle.council_run.specs.Plans.{is_too_many, limit_of, lines_of_plan};
 ghost use Rattle.council_run.specs.Run.{IsOutcome};
 ghost use Rattle.council_run.specs.declared.fault.Cause.TheVariants as cause;
-ghost use Rattle.council_run.specs.declared.plan.Plan.TheVariants as plans;
+ghost use Rattle.council_base.specs.declared.plan.Plan.TheVariants as plans;
 ghost use Rattle.mwc_gather.specs.declared.fault.GatherFault.{GatherFault};
 ghost use Rattle.mwc_gather.specs.declared.fault.GatherFault.TheVariants as gather;
 

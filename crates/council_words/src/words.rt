@@ -1,7 +1,7 @@
 //! The words of the command line.
 use clap::parser::ValueSource;
 use clap::{Arg, ArgAction, ArgMatches, Command, Error, value_parser};
-use council_base::{Options, limits};
+use council_base::{Options, Plan, limits};
 use std::alloc::{AllocError, Global};
 
 /// Why a command line cannot be run.
@@ -20,10 +20,8 @@ pub struct Arguments<'a> {
     pub file: Option<&'a str>,
     /// The options of a run. A tally lists no coalition, and takes any number of them.
     pub options: Options,
-    /// Count the coalitions and keep none.
-    pub tally: bool,
-    /// Refuse a game with more coalitions than `most`, because `--most` was given.
-    pub is_limited: bool,
+    /// How the coalitions are found.
+    pub plan: Plan,
     /// Explain on standard error why a game is refused.
     pub explain: bool,
 }
@@ -207,6 +205,18 @@ fn options_of(matches: &ArgMatches<'_>) -> Option<Options> {
     })
 }
 
+/// Returns how the coalitions are found: only a list and `--most` refuse those that are more.
+fn plan_of(matches: &ArgMatches<'_>) -> Plan {
+    let is_limited = matches!(matches.value_source("most"), Some(ValueSource::CommandLine));
+    if matches.get_flag("tally") {
+        Plan::Count
+    } else if is_limited || matches.get_flag("list") {
+        Plan::List
+    } else {
+        Plan::Either
+    }
+}
+
 /// Parses the words.
 fn matches_of<'a>(alloc: Global, words: &'a [String]) -> Result<ArgMatches<'a>, Error> {
     let taken = make_arguments(alloc)?;
@@ -228,8 +238,7 @@ pub fn read_words<'a>(alloc: Global, words: &'a [String]) -> Result<Arguments<'a
         Ok(matches) => Ok(Arguments {
             file: file_of(&matches),
             options: options_of(&matches).ok_or(WordsFault::Range)?,
-            tally: matches.get_flag("tally"),
-            is_limited: matches!(matches.value_source("most"), Some(ValueSource::CommandLine)),
+            plan: plan_of(&matches),
             explain: matches.get_flag("explain"),
         }),
         Err(error) => Err(WordsFault::Parse(error)),

@@ -1,15 +1,17 @@
 //! Command lines.
+use council_base::Plan;
 use council_words::{Arguments, WordsFault, read_words};
 use std::alloc::Global;
 use std::process::Abort;
 
-/// Fails with the label if the numbers and the flags are not these: list, sizes, notation,
-/// tally, explain.
+/// Fails with the label if the plan, the numbers or the flags (list, sizes, notation, explain) are
+/// not these.
 fn asks_for(
     rt: &impl Abort,
     found: &Arguments<'_>,
+    plan: Plan,
     numbers: [u32; 3],
-    flags: [bool; 5],
+    flags: [bool; 4],
     label: &str,
 ) {
     let options = &found.options;
@@ -18,13 +20,8 @@ fn asks_for(
         u32::from(options.bits),
         options.most,
     ];
-    let found_flags = [
-        options.list,
-        options.sizes,
-        options.notation,
-        found.tally,
-        found.explain,
-    ];
+    let found_flags = [options.list, options.sizes, options.notation, found.explain];
+    assert!(rt; found.plan == plan, "{label}");
     assert!(rt; found_numbers == numbers, "{label}");
     assert!(rt; found_flags == flags, "{label}");
 }
@@ -47,34 +44,49 @@ fn words(rt: &impl Abort, alloc: Global, line: &str) -> Vec<String> {
 fn reads_command_lines(rt: HostRuntime) {
     let least = [1, 0, 1];
     let greatest = [16, 10, 4_000_000];
-    let none = [false; 5];
-    for (line, file, numbers, flags) in [
-        ("", None, [4, 6, 1_000_000], none),
-        ("g.toml", Some("g.toml"), [4, 6, 1_000_000], none),
-        ("--workers 1 --bits 0 --most 1", None, least, none),
+    let none = [false; 4];
+    for (line, file, plan, numbers, flags) in [
+        ("", None, Plan::Either, [4, 6, 1_000_000], none),
+        (
+            "g.toml",
+            Some("g.toml"),
+            Plan::Either,
+            [4, 6, 1_000_000],
+            none,
+        ),
+        (
+            "--workers 1 --bits 0 --most 1",
+            None,
+            Plan::List,
+            least,
+            none,
+        ),
         (
             "--workers 16 g --bits 10 --most 4000000",
             Some("g"),
+            Plan::List,
             greatest,
             none,
         ),
         (
             "--list --sizes --notation",
             None,
+            Plan::List,
             [4, 6, 1_000_000],
-            [true, true, true, false, false],
+            [true, true, true, false],
         ),
         (
             "--tally --sizes --workers 2 --bits 1 --explain",
             None,
+            Plan::Count,
             [2, 1, 1_000_000],
-            [false, true, false, true, true],
+            [false, true, false, true],
         ),
     ] {
         let words = words(&rt, rt.alloc(), line);
         let arguments = read_words(rt.alloc(), words.as_slice()).expect(&rt, "a command line");
         assert!(rt; arguments.file == file, "{line}");
-        asks_for(&rt, &arguments, numbers, flags, line);
+        asks_for(&rt, &arguments, plan, numbers, flags, line);
     }
 }
 

@@ -20,7 +20,7 @@ sum-if : (b : Bool) (n : ℕ) (f g : ℕ → ℕ) → sum_below n (λ a. cond b 
 sum-if true n f g = refl
 sum-if false n f g = sum-zeros n _ (λ a small. omega arith)
 
--- numbers by size, each with so many members more
+-- numbers by size, each size greater by `choice`
 sum-moved : (n choice : ℕ) (f g : ℕ → ℕ) → choice ≤ 1 → f n ≡ 0
     → sum_below (suc n) (λ a. later choice f a * g a) ≡ sum_below (suc n) (λ a. f a * g (a + choice))
 unfolding sum_below

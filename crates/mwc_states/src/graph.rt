@@ -11,7 +11,7 @@ use crate::what::What;
 use council_base::{Gate, Memory};
 use std::alloc::Global;
 
-/// The most sums of later members that are listed under each rule, for so many states of a level.
+/// Returns how many sums of later members are listed under each rule, if a level has these states.
 fn sums_for(states: usize, rules: usize) -> usize {
     states
         .saturating_mul(4)

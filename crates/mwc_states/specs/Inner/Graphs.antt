@@ -31,7 +31,7 @@ pub record IsBuilt (what : What) (members : List (List ℕ)) (need : List ℕ) (
   pub accept : (rest : List (List (List ℕ))) → Continue what (drop i members) table rest
       → (set : List Bool) → length set ≡ length members → accepts (levels ++ rest) 2 set ≡ completes what members (need ∷ []) set
 
--- so, with room for so many states more
+-- a graph that is being built: `room` more states may come
 pub record IsBuilding (what : What) (members : List (List ℕ)) (need : List ℕ) (levels table : List (List (List ℕ))) (i room : ℕ) : Type 0 where
   pub built : IsBuilt what members need levels table i
   pub room_few : room ≤ 2 ^ 26

@@ -19,7 +19,7 @@ pub record Covers (range : SizeRange) (more : ℕ) (other : SizeRange) : Type 0 
 abbrev pub EndBy : ℕ → List SizeRange → Type 0
 EndBy end ranges = (k : ℕ) → (range_at ranges k).end ≤ end
 
--- where each row starts among so many counts
+-- where each row starts among all `counts` counts
 pub record AreLaidOut (ranges : List SizeRange) (starts : List ℕ) (counts : ℕ) : Type 0 where
   pub long : length starts ≡ length ranges
   pub apart : (j k : ℕ) → j < k → k < length ranges → slice_index starts j + width (range_at ranges j) ≤ slice_index starts k

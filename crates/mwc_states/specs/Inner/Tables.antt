@@ -53,7 +53,7 @@ pub record AreLinksOf (what : What) (member : List ℕ) (later : List (List ℕ)
       → completes what (member ∷ later) (slice_index_or table k []) (taken ∷ set)
       ≡ completes_link what later next (slice_index links k) set
 
--- a table with at most so many states more after those that were there; with none if there are no
+-- a table with at most `more` states after those that were there; with none if there are no
 -- later members
 pub record Grows (later : List (List ℕ)) (more : ℕ) (old new : List (List (List ℕ))) : Type 0 where
   pub least : length old ≤ length new

@@ -37,7 +37,7 @@ along way links counts k s = sent_by way 0 links counts (length links) k s + sen
 abbrev pub completed : List (List ℕ) → (ℕ → ℕ → ℕ) → ℕ → ℕ → ℕ
 completed links counts k s = along Backward links counts k s + (if 1 == k then later 0 (counts 1) s else 0)
 
--- the links lead from one of so many rows to one of so many others
+-- each link leads from a row below `from` to a row below `to`
 abbrev pub Lead : Way → ℕ → List (List ℕ) → ℕ → ℕ → Type 0
 Lead way choice links from to = (p : ℕ) → p < length links
     → (source way (p + 2) (link_at links p choice) < from) × (target way (p + 2) (link_at links p choice) < to)
@@ -47,14 +47,14 @@ abbrev pub HaveRoom : Way → ℕ → List (List ℕ) → List SizeRange → Lis
 HaveRoom way choice links from to = (p : ℕ) → p < length links
     → Covers (range_at to (target way (p + 2) (link_at links p choice))) choice (range_at from (source way (p + 2) (link_at links p choice)))
 
--- counts of rows with these ranges can go along the links to so many rows
+-- the counts of rows with these ranges can go along the links to `rows` rows
 pub record CanGo (way : Way) (links : List (List ℕ)) (from : List SizeRange) (rows : ℕ) : Type 0 where
   pub some : 2 ≤ length from
   pub some_come : 2 ≤ rows
   pub lead : (choice : ℕ) → Lead way choice links (length from) rows
   pub ends : EndBy MEMBERS from
 
--- so many ranges have room for what comes along the links, and that of row 1 for what row 1 has
+-- `rows` ranges have room for what comes along the links, and that of row 1 for what row 1 has
 pub record HaveAllRoom (way : Way) (links : List (List ℕ)) (from : List SizeRange) (rows : ℕ) (to : List SizeRange) : Type 0 where
   pub long : length to ≡ rows
   pub ends : (m : ℕ) → EndBy m from → EndBy (m + 1) to

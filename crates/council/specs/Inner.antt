@@ -1,2 +1,0 @@
--- What only private functions need.
-pub mod Wants
