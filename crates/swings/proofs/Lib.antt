@@ -1,0 +1,5 @@
+mod Bounds
+mod Counts
+mod Flips
+mod Orders
+mod Shares
