@@ -1,6 +1,6 @@
--- How many swings there are.
+-- How many winning coalitions and swings there are.
 use Rattle.std.proofs.Common.{◌≡◌, ◌∙◌, ℕ, zero, suc, ◌+◌, ◌-◌, ◌*◌, ◌^◌, ◌<◌, ◌≤◌, ◌&&◌, Bool, true, false, not, cond, List, length, filter, sum_by, get_or}
-use Rattle.std.proofs.Common.{refl, sym, ap, arith, w64, inl, inr, pow_mono}
+use Rattle.std.proofs.Common.{refl, sym, ap, arith, w64, inl, inr}
 use Rattle.std.specs.{List.range_with_len, Int.trailing_zeros}
 use Rattle.std.proofs.lemmas.{Bool.Decides.nat_tests, Bool.cases_eq, List.Sums.sum_by-cons, List.Sums.length-filter, List.Elements.Contains-get_or, List.Sums.get_or-le-sum_by, List.Sums.sum_by-le}
 use Rattle.std.proofs.lemmas.List.FromFn.{length-range_with_len}
@@ -105,6 +105,3 @@ module _ (g : GameView) (game : IsGame g) where
 
   pub some-lose : length (winning_coalitions g) < 2 ^ n
   some-lose = let some = some-swing in omega (arith, some.2, swings-of-losing some.0 some.1)
-
-  pub winning-few : length (winning_coalitions g) ≤ 2 ^ 40
-  winning-few = let most = pow_mono (few-members g game) in omega (arith, some-lose, most)

@@ -3,3 +3,4 @@ mod Counts
 mod Flips
 mod Orders
 mod Shares
+pub mod Winning

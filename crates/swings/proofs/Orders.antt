@@ -12,7 +12,7 @@ use Rattle.council_game.proofs.Shared.{Sets.mask_of, Sets.mask-below, Sets.mask-
 use Rattle.power_index.specs.Counting.{count_of_member, count_of_member_size, count_of_size}
 use Rattle.power_index.proofs.Shared.{Members.memberships, Members.size-le, Members.size-pos, Minimal.minimal-some, Sums.sum-times}
 use Rattle.swings.specs.{Indices.factorial, Indices.shapley_shubik, Swings.swings_of_size, Swings.winning_coalitions}
-use Rattle.swings.proofs.{Counts.swings-of-size, Flips.and-swap, Flips.counted, Flips.added-has, Flips.size-less}
+use Rattle.swings.proofs.{Counts.swings-of-size, Flips.and-swap, Flips.counted, Flips.added-has, Flips.size-less, Winning.none-wins}
 
 -- ---- the coalition of all members, and the empty one
 module _ (n : ℕ) where
@@ -88,13 +88,6 @@ module _ (g : GameView) (game : IsGame g) where
       wins-mono n c (full n) (votes_of g).rules (votes-are g game).rules (digits-less n c (full n) (λ p lt _. mask-has (λ p. true) n p lt))
       ((needs-each-member (votes_of g) c).0 are.1).0
 
-  none-wins : won 0 ≡ true → ⊥
-  none-wins empty-wins =
-      let inside = minimal-inside (votes_of g) 1 0 (omega arith) empty-wins in
-      let none : inside.0 ≡ 0 = omega (arith, inside.1) in
-      All-contains (λ c. c ≢ 0) (minimal_coalitions (votes_of g)) inside.0 (listing-is (votes_of g) (votes-are g game)).none_empty
-      ((listed-is (votes_of g) inside.0).1 (omega (arith, none, pow_pos n), inside.2)) none
-
   pub one-of-all : count_of_size g n list ≡ 1
   unfolding winning_coalitions
   one-of-all =
@@ -108,7 +101,7 @@ module _ (g : GameView) (game : IsGame g) where
   none-of-0 =
       count-both won (λ c. size n c == 0) (down (2 ^ n))
       ∙ sum-none (λ c. cond (won c && (size n c == 0)) 1 0) (2 ^ n) (λ c lt. elim (cases_eq c 0) [
-        | inl empty ↦ grind (arith, nat_tests, none-wins, ap won empty)
+        | inl empty ↦ grind (arith, nat_tests, none-wins g game, ap won empty)
         | inr some ↦ grind (arith, nat_tests, size-pos n c (few-members g game))
       ])
 

@@ -1,10 +1,10 @@
 //! The swings of the members of a game.
 ghost use Rattle.council_base.specs.declared.limits.TheConstants.{MEMBERS};
 ghost use Rattle.council_game.specs.Game.{GameView, IsGame};
-ghost use Rattle.power_index.specs.Tables.{table_total};
 ghost use Rattle.std.specs.Prelude.{◌≡◌, ◌*◌, ◌<◌, ◌≤◌, ◌^◌, length};
 ghost use Rattle.swings.specs.Swings.{AreOfSomeGame, AreWinningCounts, all_swings, swings, swings_of_size, winning_coalitions};
 
+use council_game::Game;
 use power_index::Counts;
 use std::marker::Model;
 
@@ -14,7 +14,7 @@ use std::marker::Model;
 /// these. Members are given by their places in the file.
 #[derive(Drop)]
 pub struct Swings {
-    winning: Counts,
+    winning: Box<Counts>,
 }
 
 impl Model for Swings {
@@ -23,40 +23,48 @@ impl Model for Swings {
 
     ghost Value = { Tables };
 
-    ghost view = { λ s. s.winning };
+    ghost view = { λ s. s.winning.value };
 
-    ghost invariant = { λ s. AreOfSomeGame s.winning };
+    ghost invariant = { λ s. AreOfSomeGame s.winning.value };
 }
 
 impl Swings {
     /// Returns the swings of a game, from the counts of its winning coalitions.
-    pub fn of(winning: Counts) -> Swings
-        ghost g: { GameView }
-        requires game { IsGame g }
-        requires winning { AreWinningCounts g winning }
-        ensures { AreWinningCounts g result }
+    pub fn of(game: &Game, winning: Box<Counts>) -> Swings
+        requires { AreWinningCounts game.now winning.value }
+        ensures { AreWinningCounts game.now result }
     {
+        game.was_checked();
         Swings { winning }
     }
 
+    /// Returns the counts of the winning coalitions.
+    fn counts(&self) -> &Counts
+        ensures same { result.now ≡ self.now }
+        ensures kept { AreOfSomeGame self.now }
+    {
+        &self.winning
+    }
+
     /// Returns the number of members, 1 to 40.
+    ///
+    /// Its contract also says that the swings are those of some game.
     pub fn members(&self) -> usize
         ensures members { result ≡ self.now.members }
         ensures some { 1 ≤ result }
         ensures few { result ≤ MEMBERS }
         ensures kept { AreOfSomeGame self.now }
     {
-        self.winning.members()
+        self.counts().members()
     }
 
     /// Returns the number of winning coalitions, at most 2^40.
     pub fn winning(&self) -> u64
-        ensures total { result ≡ table_total self.now }
         ensures winning { (g : GameView) → AreWinningCounts g self.now
             → result ≡ length (winning_coalitions g) }
         ensures few { result ≤ 2 ^ MEMBERS }
     {
-        self.winning.wide_total()
+        self.counts().wide_total()
     }
 
     /// Returns how many swings a member has.
@@ -69,8 +77,9 @@ impl Swings {
         ensures few { result ≤ 2 ^ MEMBERS }
         ensures kept { AreOfSomeGame self.now }
     {
-        let without_member = self.winning.wide_total() - self.winning.wide_of_member(member);
-        self.winning.wide_of_member(member) - without_member
+        let winning = self.counts();
+        let with_member = winning.wide_of_member(member);
+        with_member - (winning.wide_total() - with_member)
     }
 
     /// Returns how many swings of a size a member has, the member counted.
@@ -84,7 +93,7 @@ impl Swings {
         if size == 0 {
             return 0;
         }
-        let winning = &self.winning;
+        let winning = self.counts();
         let smaller = size - 1;
         let without_member =
             winning.wide_of_size(smaller) - winning.wide_of_member_size(member, smaller);
