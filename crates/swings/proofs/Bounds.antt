@@ -59,8 +59,7 @@ module _ (g : GameView) (game : IsGame g) where
       let inside : has n (get_or g.ranks i 0) c ≡ true = ap (λ (q : ℕ). has n q c) (ranks.place_back p below) ∙ at.1 in
       let needed = needs-members g game c are.1 in
       let lost = needed.1 i (ranks.member_below p below) inside in
-      let critical : is_critical g c i ≡ true = grind (arith, nat_tests, needed.0, lost, inside) in
-      (
+      let critical : is_critical g c i ≡ true = grind (arith, nat_tests, needed.0, lost, inside) in (
         i,
         ranks.member_below p below,
         omega (arith, length-filter (λ d. is_critical g d i) (down (2 ^ n)), down-has (λ d. is_critical g d i) (2 ^ n) c are.0 critical),

@@ -56,13 +56,13 @@ module _ (n p : ℕ) (lt : p < n) where
   unfolding without with_member
   go c below = elim (cases_Bool (has n p c)) [
     | inl inside ↦ (
-        grind (arith, nat_tests),
-        grind (arith, nat_tests, above c inside, has-gone n p c inside),
-      )
+      grind (arith, nat_tests),
+      grind (arith, nat_tests, above c inside, has-gone n p c inside),
+    )
     | inr out ↦ (
-        grind (arith, nat_tests, added-below n p c lt below),
-        grind (arith, nat_tests, added-has c out),
-      )
+      grind (arith, nat_tests, added-below n p c lt below),
+      grind (arith, nat_tests, added-has c out),
+    )
   ]
 
   -- a coalition has one member more than without one of its members

@@ -40,9 +40,9 @@ first-share n pos le =
     let whole : factorial n ≡ n * factorial m = ap factorial is ∙ ap (λ (k : ℕ). k * factorial m) (sym is) in
     let both : order_share n 0 * n * factorial m ≡ denominator * factorial m =
     (let rest : n - 1 - 0 ≡ m = omega arith in
-        let at : order_share n 0 * factorial n ≡ denominator * (1 * factorial m) =
-        exact n 0 pos le ∙ ap (λ (k : ℕ). denominator * (1 * factorial k)) rest in
-        omega (arith, ap (λ (k : ℕ). order_share n 0 * k) whole, at)) in
+    let at : order_share n 0 * factorial n ≡ denominator * (1 * factorial m) =
+    exact n 0 pos le ∙ ap (λ (k : ℕ). denominator * (1 * factorial k)) rest in
+    omega (arith, ap (λ (k : ℕ). order_share n 0 * k) whole, at)) in
     div-eq_of_eq-mul_right pos (omega (arith, eq_of_mul-eq-mul_right (factorial m) (factorial-pos m) (order_share n 0 * n) denominator both))
 
 pub next-share : (n k : ℕ) → k + 1 < n → n ≤ 40 → order_share n k * (k + 1) / (n - (k + 1)) ≡ order_share n (k + 1)

@@ -14,7 +14,6 @@ module _ (g : GameView) (game : IsGame g) where
       All-contains (λ c. c ≢ 0) (minimal_coalitions (votes_of g)) inside.0 (listing-is (votes_of g) (votes-are g game)).none_empty
       ((listed-is (votes_of g) inside.0).1 (omega (arith, none, pow_pos (length g.names)), inside.2)) none
 
-
   pub winning-are-coalitions : AreNonemptyCoalitions g (winning_coalitions g)
   unfolding winning_coalitions
   winning-are-coalitions k d lt =

@@ -13,8 +13,10 @@
 #![tactic(auto)]
 
 mod indices;
+pub mod laws;
 mod swings;
 
-pub use indices::{banzhaf, penrose, power_to_act, power_to_initiate, power_to_prevent};
-pub use indices::shapley_shubik;
+pub use indices::{
+    banzhaf, penrose, power_to_act, power_to_initiate, power_to_prevent, shapley_shubik,
+};
 pub use swings::Swings;

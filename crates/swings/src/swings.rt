@@ -95,8 +95,8 @@ impl Swings {
         }
         let winning = self.counts();
         let smaller = size - 1;
-        let without_member =
-            winning.wide_of_size(smaller) - winning.wide_of_member_size(member, smaller);
+        let without_member = winning.wide_of_size(smaller)
+            - winning.wide_of_member_size(member, smaller);
         winning.wide_of_member_size(member, size) - without_member
     }
 
