@@ -97,8 +97,8 @@ impl<'a> Explanation<'a> {
     pub fn explain_key(&mut self, member: Option<usize>, key: &str) {
         let is_there = value_of(self.table, member, key).is_some();
         let key = if is_there { Some(key) } else { None };
+        // memory: told at the end
         if (is_there || member.is_some()) && self.explain_line(member, key).is_err() {
-            // memory: told at the end
             self.failed = true;
         }
     }

@@ -104,7 +104,7 @@ impl Explanation<'_> {
         }
     }
 
-    /// Says that there is no member, or too many, or what is in their place.
+    /// Says that there is no member, or too many, or that they are no tables.
     pub fn explain_members(&mut self) {
         match self.table.get("member") {
             None => self.line(format_args!("the file has no member: {MEMBERS}")),
