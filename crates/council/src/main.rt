@@ -11,6 +11,7 @@ ghost use Rattle.council_run.specs.Plans.{is_too_many, limit_of, lines_of_plan};
 
 use council_base::{Gate, Plan, Recorder, Sink, Source, sanitize};
 use council_explain::{explain, remark_on_quotas, remark_on_thousands};
+use council_file::parse_game;
 use council_game::GameFault;
 use council_progress::{Line, Progress, Wiping};
 use council_run::{Cause, LEAST_BITS, RunFault, number_by_states, run_by, status};
@@ -68,7 +69,9 @@ fn print_remarks(rt: &(impl Eprint + AllocGlobal), bytes: &[u8]) {
     if let Some(remark) = remark_on_thousands(bytes) {
         let _ = eprintln!(rt; "council: {remark}");
     }
-    if let Ok(Some(remark)) = remark_on_quotas(rt.alloc(), bytes) {
+    if let Ok(game) = parse_game(rt.alloc(), bytes)
+        && let Some(remark) = remark_on_quotas(&game)
+    {
         let _ = eprintln!(rt; "council: {remark}");
     }
 }

@@ -1,65 +1,90 @@
-//! Where a bracket text breaks its grammar, as the reader of such texts knows it.
+//! What is wrong with a bracket text `[q; w1, .., wn]`.
 use crate::explanation::Explanation;
-use crate::values::is_digit;
-use council_file::bracket_rule;
-use council_game::{Memory, limits};
-use std::alloc::Global;
+use crate::numbers::DIGITS;
+use council_game::GameFault;
 
-/// How a bracket text can end after a front that has a digit, and what is then wanted after it. The
-/// first end that fits says it.
-const ENDS: &[(&str, &str)] = &[
-    ("", "nothing may stand behind the bracket"),
-    (
-        "]",
-        "a comma or a bracket is expected here, behind the weight",
-    ),
-    ("1]", "a weight is expected here, a whole number"),
-    (";1]", "a semicolon is expected here, behind the quota"),
-];
+/// The rest of a text that breaks the grammar there, and what is expected.
+type Misfit<'a> = (&'a str, &'static str);
 
-/// What is wanted after the front of a bracket text; none if a text with this front breaks the
-/// grammar.
-fn expect_after(alloc: Global, front: &str) -> Result<Option<&'static str>, Memory> {
-    for (end, wanted) in ENDS {
-        let text = format!(in alloc; "{front}{end}")?;
-        if bracket_rule(alloc, text.as_bytes())?.is_some() {
-            return Ok(Some(*wanted));
-        }
+/// What may stand between two numbers or signs.
+const BLANKS: &[char] = &[' ', '\t', '\r', '\n'];
+
+/// Skips a sign, and the blanks after it.
+fn skip<'a>(text: &'a str, sign: char, expected: &'static str) -> Result<&'a str, Misfit<'a>> {
+    match text.strip_prefix(sign) {
+        Some(rest) => Ok(rest.trim_start_matches(BLANKS)),
+        None => Err((text, expected)),
     }
-    Ok(None)
 }
 
-/// How many bytes of a text a bracket text can begin with: at least those up to its first digit,
-/// and more by steps of 2^16 halved down to 1, since if a longer front fits, each shorter one does.
-fn longest_front(alloc: Global, text: &str) -> Result<usize, Memory> {
-    let mut len = text
-        .find(is_digit)
-        .map_or(0, |place| place.saturating_add(1));
-    for halvings in 0..17u32 {
-        let longer = len.saturating_add(limits::FILE_BYTES >> halvings);
-        if let Some(front) = text.get(..longer)
-            && expect_after(alloc, front)?.is_some()
-        {
-            len = longer;
+/// Skips a number, and the blanks after it.
+fn skip_number(text: &str) -> Result<&str, Misfit<'_>> {
+    let rest = text.trim_start_matches(DIGITS);
+    match text.len().saturating_sub(rest.len()) {
+        0 => Err((text, "a weight is expected here, a whole number")),
+        1..=18 => Ok(rest.trim_start_matches(BLANKS)),
+        _ => Err((
+            text.get(18..).unwrap_or(""),
+            "a number has at most 18 digits",
+        )),
+    }
+}
+
+/// Skips what stands in the brackets.
+pub fn skip_rule(text: &str) -> Result<&str, Misfit<'_>> {
+    let rest = skip_number(text)?;
+    let weights = skip(rest, ';', "a semicolon is expected here, behind the quota")?;
+    let mut rest = weights;
+    for _ in weights.split(',') {
+        rest = skip_number(rest)?;
+        match skip(rest, ',', "") {
+            Ok(after) => rest = after,
+            Err(_) => break,
         }
     }
-    Ok(len)
+    Ok(rest)
+}
+
+/// Skips the whole text.
+pub fn skip_text(text: &str) -> Result<&str, Misfit<'_>> {
+    let rest = skip(text.trim_start_matches(BLANKS), '[', "")?;
+    let expected = "a comma or a bracket is expected here, behind the weight";
+    skip(skip_rule(rest)?, ']', expected)
+}
+
+/// The number that stands between blanks and brackets.
+fn number_in(text: &str) -> u64 {
+    let digits = text.trim_matches([' ', '\t', '\r', '\n', '[', ']']);
+    u64::from_str_radix(digits, 10).unwrap_or(0)
 }
 
 impl Explanation<'_> {
     /// Says where the text breaks the grammar.
-    pub fn explain_misfit(&mut self, alloc: Global) -> Result<(), Memory> {
+    pub fn explain_misfit(&mut self) {
         let text = self.text.trim_end();
-        let place = longest_front(alloc, text)?;
-        let (front, rest) = text.split_at_checked(place).unwrap_or((text, ""));
-        let wanted = if front.ends_with(is_digit) && rest.starts_with(is_digit) {
-            "a number has at most 18 digits"
-        } else {
-            expect_after(alloc, front)?.unwrap_or("")
+        let (rest, expected) = match skip_text(text) {
+            Ok(rest) => (rest, "nothing may stand behind the bracket"),
+            Err(misfit) => misfit,
         };
-        self.explain_place(place);
-        self.line(wanted);
-        self.explain_remedy_at(place);
-        Ok(())
+        self.explain_place(text.len().saturating_sub(rest.len()), expected);
+    }
+
+    /// Says which number of a text that keeps to the grammar is out of its range.
+    pub fn explain_bracket(&mut self, fault: GameFault) {
+        let (quota, weights) = self.text.split_once(';').unwrap_or((self.text, ""));
+        let mut total = 0u64;
+        for weight in weights.split(',') {
+            total = total.saturating_add(number_in(weight));
+        }
+        match fault {
+            GameFault::QuotaRange => {
+                self.explain_range(format_args!("the quota is {}", number_in(quota)), total);
+            }
+            GameFault::Members => {
+                let count = weights.split(',').count();
+                self.line(format_args!("the text has {count} weights: at most 40 are allowed"));
+            }
+            _ => self.line("the greatest weight is 1000000000000"),
+        }
     }
 }

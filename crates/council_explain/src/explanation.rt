@@ -1,25 +1,57 @@
-//! The lines of an explanation, and the file that they are of.
-use crate::values::elements;
-use council_base::{Sanitized, sanitize};
+//! The lines of an explanation, and places in the file that they are of.
+use crate::numbers::GUIDE;
+use council_base::{Memory, Sanitized, sanitize};
+use std::alloc::Global;
 use std::fmt::{Display, Write};
+use toml::de::Error;
 use toml::{Table, Value};
 
-/// No text or value of the file is shown longer, in characters.
-const LONGEST: usize = 100;
+/// What can close a file that breaks off in a value.
+const ENDS: &[&str] = &["", "]", "\"\"\"", "'''", "}]", "]}]", "\"\"\"}]", "'''}]"];
 
 /// What is said of a game file.
 #[derive(Drop)]
 pub struct Explanation<'a> {
+    pub alloc: Global,
     /// The text of the file.
     pub text: &'a str,
-    /// The text without blanks, comments and what stands in quotes.
-    pub bare: &'a str,
     /// The tree of the text; empty if it is no TOML.
     pub table: &'a Table,
     /// The lines, each begun with two blanks and ended with LF.
     pub lines: String,
     /// Whether a growth was refused. Then some of them are missing.
     pub failed: bool,
+}
+
+/// Cuts a text or value of the file to what a line shows.
+pub fn short<T: Display>(what: T) -> Sanitized<T> {
+    sanitize(what, 100)
+}
+
+/// Returns the elements of the array at a key of the top.
+pub fn elements<'a>(table: &'a Table, key: &str) -> &'a [Value] {
+    match table.get(key) {
+        Some(Value::Array(items)) => items.as_slice(),
+        _ => &[],
+    }
+}
+
+/// Returns the value at a key of the top, or else of a member, from 1.
+pub fn value_of<'a>(table: &'a Table, member: Option<usize>, key: &str) -> Option<&'a Value> {
+    let Some(member) = member else {
+        return table.get(key);
+    };
+    let members = elements(table, "member");
+    members.get(member.wrapping_sub(1))?.get(key)
+}
+
+/// Returns the tree of a text, or why it is no TOML.
+pub fn tree_of(alloc: Global, text: &str) -> Result<Result<Table, Error>, Memory> {
+    match toml::table_from_str(alloc, text) {
+        // memory: a growth was refused
+        Err(error) if error.is_memory() => Err(Memory),
+        tree => Ok(tree),
+    }
 }
 
 impl<'a> Explanation<'a> {
@@ -31,23 +63,64 @@ impl<'a> Explanation<'a> {
         }
     }
 
-    /// Returns the value at a key of the top.
-    pub fn value_at(&self, key: &str) -> Option<&'a Value> {
-        self.table.get(key)
+    /// Whether a front of the file has a key already, or the member if there is no key.
+    fn has(&self, front: &str, member: Option<usize>, key: Option<&str>) -> Result<bool, Memory> {
+        for end in ENDS {
+            let text = format!(in self.alloc; "{front}{end}")?;
+            if let Ok(table) = tree_of(self.alloc, text.as_str())? {
+                return Ok(match key {
+                    Some(key) => value_of(&table, member, key).is_some(),
+                    None => member <= Some(elements(&table, "member").len()),
+                });
+            }
+        }
+        Ok(false)
     }
 
-    /// Returns the members, or none if they are no array.
-    pub fn members(&self) -> &'a [Value] {
-        elements(self.value_at("member"))
+    /// Says which line first has a key, or the member if there is no key.
+    fn explain_line(&mut self, member: Option<usize>, key: Option<&str>) -> Result<(), Memory> {
+        let mut len = 0usize;
+        for (index, row) in self.text.split_inclusive('\n').enumerate() {
+            len = len.saturating_add(row.len());
+            let front = self.text.get(..len).unwrap_or(self.text);
+            let may_begin = row.contains(key.unwrap_or("")) || row.contains('\\');
+            if may_begin && self.has(front, member, key)? {
+                let line = index.saturating_add(1);
+                self.line(format_args!("line {line}: {}", short(row.trim())));
+                break;
+            }
+        }
+        Ok(())
     }
 
-    /// Returns the value at a key of a member; members count from 1.
-    pub fn value_of(&self, member: usize, key: &str) -> Option<&'a Value> {
-        self.members().get(member.wrapping_sub(1))?.get(key)
+    /// Says which line has a key, or else the member that lacks it.
+    pub fn explain_key(&mut self, member: Option<usize>, key: &str) {
+        let is_there = value_of(self.table, member, key).is_some();
+        let key = if is_there { Some(key) } else { None };
+        // memory: told at the end
+        if (is_there || member.is_some()) && self.explain_line(member, key).is_err() {
+            self.failed = true;
+        }
     }
-}
 
-/// Cuts a text that is not the program's own to what a line shows.
-pub fn short<T: Display>(what: T) -> Sanitized<T> {
-    sanitize(what, LONGEST)
+    /// Says where a text can't be read on, what the line has, why, and what helps.
+    ///
+    /// It returns the line, and what of it comes before. The column is in characters.
+    pub fn explain_place(&mut self, place: usize, message: &str) -> (&'a str, &'a str) {
+        let text = self.text;
+        let before = text.get(..place).unwrap_or(text);
+        let (_, front) = before.rsplit_once('\n').unwrap_or(("", before));
+        let ends = before.matches('\n').count();
+        let row = text.lines().nth(ends).unwrap_or("");
+        let line = ends.saturating_add(1);
+        let column = front.chars().count().saturating_add(1);
+        self.line(format_args!("line {line}, column {column}: {}", short(row)));
+        self.line(message);
+        match text.as_bytes().get(place) {
+            Some(b'%' | b'/') => self.line(GUIDE),
+            Some(b'.') => self.explain_factor('.'),
+            _ => {}
+        }
+        (row, front)
+    }
 }

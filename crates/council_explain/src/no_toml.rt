@@ -1,22 +1,40 @@
-//! What is said of a text that is not TOML.
+//! What is said of a text that is not TOML, and what helps.
+use crate::bracket::{skip_rule, skip_text};
 use crate::explanation::{Explanation, short};
-use council_base::Memory;
-use council_file::{bracket_rule, is_bracket};
-use std::alloc::Global;
+use crate::numbers::DIGITS;
+use crate::values::MEMBERS;
 use toml::de::Error;
 
 /// What stands between the columns of a table, as a spreadsheet writes it.
-const SEPARATORS: &[(char, &str)] = &[('\t', "TABs"), (';', "semicolons"), (',', "commas")];
+const COLUMNS: &[(char, &str)] = &[('\t', "TABs"), (';', "semicolons"), (',', "commas")];
+
+/// What separates thousands or decimals somewhere: blanks too, of any width.
+const SEPARATORS: &[char] = &[
+    ',', '.', ' ', '\'', '\u{2019}', '\u{A0}', '\u{2009}', '\u{202F}',
+];
+
+/// What may be in a number as people write it: a digit or a separator.
+const NUMERALS: &[char] = &[
+    '0', '1', '2', '3', '4', '5', '6', '7', '8', '9', ',', '.', ' ', '\'', '\u{2019}', '\u{A0}',
+    '\u{2009}', '\u{202F}',
+];
+
+/// Quotes that are none in TOML.
+const CURLY: &[char] = &[
+    '\u{2018}', '\u{2019}', '\u{201A}', '\u{201B}', '\u{201C}', '\u{201D}', '\u{201E}', '\u{201F}',
+    '\u{2039}', '\u{203A}', '\u{AB}', '\u{BB}', '\u{B4}', '`',
+];
 
 impl Explanation<'_> {
-    /// Says that the text looks like a table, if a line of several columns comes before those
-    /// of a game file; whether it does.
+    /// Says that the text looks like a table, and returns whether it does.
+    ///
+    /// A line of several columns comes before those of a game file.
     fn explain_table(&mut self) -> bool {
         for (index, line) in self.text.lines().enumerate() {
             if line.starts_with(['#', '[']) || line.contains('=') {
                 break;
             }
-            for (sign, name) in SEPARATORS {
+            for (sign, name) in COLUMNS {
                 if line.contains(*sign) {
                     let number = index.saturating_add(1);
                     self.line(format_args!("line {number}: {}", short(line)));
@@ -30,80 +48,126 @@ impl Explanation<'_> {
         false
     }
 
-    /// Says that the text lacks only the brackets of a bracket text; whether it does.
-    fn explain_no_brackets(&mut self, alloc: Global) -> Result<bool, Memory> {
-        let inside = self.text.trim();
-        let inside = inside.trim_start_matches(['(', '{', '<', '[']);
+    /// Says what a text is that is no TOML, or else where it breaks off.
+    fn explain_error(&mut self, error: &Error) {
+        let text = self.text.trim();
+        let inside = text.trim_start_matches(['(', '{', '<', '[']);
         let inside = inside.trim_end_matches([')', '}', '>', ']']);
-        let text = format!(in alloc; "[{inside}]")?;
-        if bracket_rule(alloc, text.as_bytes())?.is_none() {
-            return Ok(false);
-        }
-        self.line(format_args!("write it in square brackets: {}", short(text.as_str())));
-        Ok(true)
-    }
-
-    /// Says that the text looks like JSON; whether it does.
-    fn explain_json(&mut self) -> bool {
-        let text = self.text.trim_start();
-        let inside = text.trim_start_matches('[').trim_start();
-        if !inside.starts_with('{') {
-            return false;
-        }
-        self.line(
-            "that looks like JSON: write lines such as quota = 51, and for each member [[member]], name = \"A\", weight = 50",
-        );
-        true
-    }
-
-    /// Says that the bytes are those of a spreadsheet or an archive; whether they are.
-    pub fn explain_spreadsheet(&mut self, bytes: &[u8]) -> bool {
-        if !bytes.starts_with(b"PK\x03\x04") && !bytes.starts_with(b"\xD0\xCF\x11\xE0") {
-            return false;
-        }
-        self.line(
-            "that is a spreadsheet's own file: save the table as CSV, and council-tools from-table makes a game file of it",
-        );
-        true
-    }
-
-    /// Says where the text is no TOML; `is_bracket` says whether it begins as a bracket text.
-    fn explain_error(&mut self, error: &Error, is_bracket: bool) {
-        let place = error.span().map_or(self.text.len(), |span| span.start);
-        self.explain_place(place);
-        self.line(error.message());
-        if is_bracket {
+        if matches!(skip_text(text), Ok("")) {
             self.line("a byte order mark stands before the bracket: save the file without one");
-        } else {
-            self.explain_remedy_at(place);
-            self.explain_slip(place, error.message());
+        } else if matches!(skip_rule(inside.trim()), Ok("")) {
+            self.line(format_args!("write it in square brackets: [{}]", short(inside)));
+        } else if text.trim_start_matches('[').trim_start().starts_with('{') {
+            self.line(
+                "that looks like JSON: write lines such as quota = 51, and for each member [[member]], name = \"A\", weight = 50",
+            );
+        } else if !self.explain_table() {
+            let place = match error.span() {
+                Some(span) => span.start,
+                None => self.text.len(),
+            };
+            let (row, front) = self.explain_place(place, error.message());
+            self.explain_slip(row, front, error.message());
         }
     }
 
     /// Says which bytes are no text, or else why the text of them is not TOML.
-    pub fn explain_no_toml(
-        &mut self,
-        alloc: Global,
-        bytes: &[u8],
-        error: Option<&Error>,
-    ) -> Result<(), Memory> {
-        if self.explain_spreadsheet(bytes) {} else if bytes.starts_with(b"\xFF\xFE")
-            || bytes.starts_with(b"\xFE\xFF")
-        {
+    pub fn explain_no_toml(&mut self, bytes: &[u8], error: Option<&Error>) {
+        if bytes.starts_with(b"\xFF\xFE") || bytes.starts_with(b"\xFE\xFF") {
             self.line("the file is saved as UTF-16: save it as UTF-8");
         } else if let Err(error) = str::from_utf8(bytes) {
-            self.explain_place(error.valid_up_to());
-            self.line("a byte there is not UTF-8: save the file as UTF-8");
+            let message = "a byte there is not UTF-8: save the file as UTF-8";
+            self.explain_place(error.valid_up_to(), message);
         } else if let Some(error) = error {
-            let is_bracket = is_bracket(bytes);
-            if is_bracket
-                || !(self.explain_no_brackets(alloc)?
-                    || self.explain_json()
-                    || self.explain_table())
-            {
-                self.explain_error(error, is_bracket);
-            }
+            self.explain_error(error);
         }
-        Ok(())
+    }
+
+    /// Says what helps with a number that has separators.
+    fn explain_separators(&mut self, number: &str) {
+        let (_, rest) = number.split_once(SEPARATORS).unwrap_or((number, ""));
+        let mut is_thousands = true;
+        for part in rest.split(SEPARATORS) {
+            is_thousands = is_thousands && part.len() == 3;
+        }
+        if number.contains(',') && !(is_thousands && rest.contains(SEPARATORS)) {
+            self.line("a number may have no comma");
+            let (_, last) = number.rsplit_once(',').unwrap_or(("", ""));
+            let sign = if last.contains('.') { '.' } else { ',' };
+            if number.matches(sign).count() == 1 {
+                self.explain_factor(sign);
+            }
+        } else if is_thousands {
+            self.line("write a number without separators between thousands, as in 1200000");
+        } else {
+            self.line("write a number in digits only");
+        }
+    }
+
+    /// Says what helps with the value of a quota or a weight.
+    fn explain_number_slip(&mut self, value: &str) {
+        let after = value.trim_start_matches(NUMERALS);
+        let number = value.strip_suffix(after).unwrap_or("");
+        let digits = number.trim_end_matches([',', ' ']);
+        if number.contains(", ") {
+            // several numbers
+        } else if digits.contains(SEPARATORS) {
+            self.explain_separators(digits);
+        } else if let Ok(whole) = u64::from_str_radix(digits, 10)
+            && digits.len() > 1
+            && digits.starts_with('0')
+        {
+            self.line(format_args!("a number has no leading zero: write {whole}"));
+        } else if after.starts_with(['%', '/', ';', '_']) {
+            // said with the place, or by the message
+        } else if digits.is_empty() {
+            self.line("a quota or a weight is a whole number, in digits, without quotes");
+        } else {
+            self.line("a number has no unit: write its digits only");
+        }
+    }
+
+    /// Says what helps with a value that breaks off before the rest of its line.
+    fn explain_value_slip(&mut self, key: &str, value: &str, rest: &str) {
+        let is_text = key.ends_with("name") || key.ends_with("title");
+        if key.contains('{') || value.starts_with('[') {
+            // said by the message
+        } else if rest == ";" {
+            self.line("a line ends without a semicolon");
+        } else if rest == "," {
+            self.line("a line ends without a comma");
+        } else if rest.contains('=') {
+            self.line("each key begins a line of its own");
+        } else if is_text && !value.starts_with(['"', '\'']) {
+            self.line("a text needs quotes, as in name = \"A\"");
+        } else if is_text && value.strip_suffix(rest).unwrap_or("").ends_with('\\') {
+            self.line("write \\\\ for a backslash");
+        } else if is_text && rest.contains(['"', '\'']) {
+            self.line("write \\\" for a quote inside the quotes");
+        } else if key.ends_with("quota") || key.ends_with("weight") {
+            self.explain_number_slip(value);
+        }
+    }
+
+    /// Says what helps against a common slip in a line that breaks off here.
+    pub fn explain_slip(&mut self, row: &str, front: &str, message: &str) {
+        let (row, _) = row.split_once('#').unwrap_or((row, ""));
+        let rest = row.get(front.len()..).unwrap_or("").trim();
+        let (key, value) = row.split_once('=').unwrap_or((row, ""));
+        if message == "number out of range" {
+            self.line(
+                "a weight is at most 1000000000000, and a quota at most the total of its weights",
+            );
+        } else if rest.starts_with(CURLY) && !front.ends_with(DIGITS) {
+            self.line("write straight quotes: \" or '");
+        } else if message == "duplicate key" && front.trim().is_empty() {
+            let key = key.trim_start_matches(['[', ' ']);
+            let is_of_member = key.starts_with("name") || key.starts_with("weight");
+            if is_of_member || key.starts_with("member") && !rest.starts_with("[[") {
+                self.line(MEMBERS);
+            }
+        } else if front.contains('=') {
+            self.explain_value_slip(key.trim_end(), value.trim(), rest);
+        }
     }
 }

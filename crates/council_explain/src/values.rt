@@ -1,129 +1,189 @@
-//! Values of a file, as an explanation shows them, and what turns a number that is not whole into
-//! one that is.
-use crate::explanation::{Explanation, short};
+//! What is wrong with the keys and values of a file in TOML.
+use crate::explanation::{Explanation, elements, short, value_of};
+use crate::numbers::kind;
+use council_base::limits;
 use toml::Value;
 
-/// What is said of a percentage and of a fraction.
-const GUIDE: &str = "docs/GUIDE.md says how percentages and fractions become whole numbers";
+/// How each member begins.
+pub const MEMBERS: &str =
+    "each member begins with a line [[member]], with two brackets on each side";
 
-/// Returns the elements of an array, and none of another value.
-pub fn elements(value: Option<&Value>) -> &[Value] {
-    match value {
-        Some(Value::Array(items)) => items.as_slice(),
-        _ => &[],
-    }
-}
+/// What a name and a title are.
+const NAME: &str = "a name is a text in quotes, of 1 to 64 bytes, on one line";
 
-/// What kind of value it is.
-pub(crate) fn kind(value: &Value) -> &'static str {
-    match value {
-        Value::String(_) => "a text",
-        Value::Integer(_) => "a whole number",
-        Value::Float(_) => "a number with a point",
-        Value::Boolean(_) => "true or false",
-        Value::Datetime(_) => "a date or a time",
-        Value::Array(_) => "an array",
-        Value::Table(_) => "a table",
-    }
-}
+const TITLE: &str = "a title is a text in quotes, of at most 200 bytes, on one line";
 
-/// Returns whether a letter is a digit.
-pub fn is_digit(letter: char) -> bool {
-    letter.is_ascii_digit()
-}
-
-/// How many digits a text begins with; zeros at the end of these count only if they are wanted.
-/// Digits before an exponent count as none.
-fn digits_in_front(text: &str, zeros: bool) -> usize {
-    let rest = text.trim_start_matches(is_digit);
-    let digits = text.strip_suffix(rest).unwrap_or("");
-    let power = rest.trim_start_matches(['e', 'E', '+', '-']);
-    if rest.starts_with(['e', 'E']) && power.starts_with(is_digit) {
-        0
-    } else if zeros {
-        digits.len()
-    } else {
-        digits.trim_end_matches('0').len()
-    }
-}
-
-/// The most decimals of a number in a text, after a point or a comma, but not the comma of an
-/// array.
-fn most_decimals(text: &str, sign: char, zeros: bool) -> usize {
-    let mut most = 0usize;
-    for line in text.lines() {
-        let mut has_digit = false;
-        for part in line.split(sign) {
-            if has_digit && (sign == '.' || !line.contains('[')) {
-                most = most.max(digits_in_front(part, zeros));
-            }
-            has_digit = part.ends_with(is_digit);
-        }
-    }
-    most
+/// Whether a file may have a key at its top.
+fn is_top_key(key: &str) -> bool {
+    matches!(key, "title" | "quota" | "quotas" | "member")
 }
 
 impl Explanation<'_> {
-    /// Says what a value is, and what is wanted in its place.
-    pub(crate) fn explain_value(&mut self, value: &Value, wanted: &str) {
-        self.line(format_args!("{} is {}: {wanted}", short(value), kind(value)));
+    /// Says which key the file, or else a member, may not have.
+    pub fn explain_unknown_key(&mut self) {
+        for key in self.table.keys() {
+            if !is_top_key(key.as_str()) {
+                self.explain_key(None, key.as_str());
+                let key = short(key);
+                return self.line(format_args!(
+                    "at the top there is no key {key}: the keys are title, quota, quotas and member"
+                ));
+            }
+        }
+        for (index, member) in elements(self.table, "member").iter().enumerate() {
+            let Value::Table(table) = member else {
+                continue;
+            };
+            for key in table.keys() {
+                if matches!(key.as_str(), "name" | "weight" | "weights") {
+                    continue;
+                }
+                self.explain_key(Some(index.saturating_add(1)), key.as_str());
+                let keys = "name, weight and weights";
+                self.line(format_args!("a member has no key {}: its keys are {keys}", short(key)));
+                if is_top_key(key.as_str()) {
+                    self.line("what belongs to the game stands before the first [[member]]");
+                }
+                return;
+            }
+        }
     }
 
-    /// Says what is wrong with what is to be a text on one line: what it is, what it has, or else
-    /// how long it is.
-    pub(crate) fn explain_text(&mut self, value: &Value, wanted: &str) {
-        let Value::String(text) = value else {
-            return self.explain_value(value, wanted);
+    /// Says what is wrong with the name of a member, or else with the title.
+    pub fn explain_text(&mut self, member: Option<usize>) {
+        let (key, most, wanted) = match member {
+            Some(_) => ("name", limits::NAME_BYTES, NAME),
+            None => ("title", limits::TITLE_BYTES, TITLE),
         };
-        if text.as_bytes().iter().any(u8::is_ascii_control) {
-            let has = "a TAB, the end of a line or another control character";
-            self.line(format_args!("the text has {has}: {wanted}"));
+        self.explain_key(member, key);
+        match value_of(self.table, member, key) {
+            None => self.line(format_args!("the member has no {key}: {wanted}")),
+            Some(Value::String(text)) if (1..=most).contains(&text.len()) => {
+                let has = "a TAB, the end of a line or another control character";
+                self.line(format_args!("the text has {has}: {wanted}"));
+            }
+            Some(Value::String(text)) => {
+                self.line(format_args!("the text has {} bytes: {wanted}", text.len()));
+            }
+            Some(value) => self.explain_value(value, wanted),
+        }
+    }
+
+    /// Says which earlier member has the name of this one.
+    pub fn explain_same_name(&mut self, member: usize) {
+        self.explain_key(Some(member), "name");
+        let name = value_of(self.table, Some(member), "name");
+        for earlier in 1..member {
+            if let Some(Value::String(text)) = name
+                && value_of(self.table, Some(earlier), "name") == name
+            {
+                let wanted = "each name stands once";
+                self.line(format_args!("member {earlier} is named {} too: {wanted}", short(text)));
+                return self.explain_key(Some(earlier), "name");
+            }
+        }
+    }
+
+    /// Says what is wrong with the weight or the weights of a member.
+    pub fn explain_weight(&mut self, member: usize) {
+        let wanted = "a weight is a whole number from 0 to 1000000000000, without quotes";
+        let rules = elements(self.table, "quotas").len();
+        let key = if rules == 0 { "weight" } else { "weights" };
+        self.explain_key(Some(member), key);
+        match value_of(self.table, Some(member), key) {
+            None => self.line(format_args!("the member has no {key}: each member has its own")),
+            Some(value) if rules == 0 => self.explain_number(value, wanted),
+            Some(Value::Array(weights)) if weights.len() == rules => {
+                for weight in weights.as_slice() {
+                    if !matches!(weight, Value::Integer(n) if 0 <= *n && *n <= 1_000_000_000_000) {
+                        return self.explain_number(weight, wanted);
+                    }
+                }
+            }
+            Some(_) => self.line("weights are an array, with a number for each rule"),
+        }
+    }
+
+    /// Says that there is no member, or too many, or that they are no tables.
+    pub fn explain_members(&mut self) {
+        match self.table.get("member") {
+            None => self.line(format_args!("the file has no member: {MEMBERS}")),
+            Some(Value::Array(members)) if (1..=limits::MEMBERS).contains(&members.len()) => {
+                self.line("a member is a table with a name and a weight");
+            }
+            Some(Value::Array(members)) => {
+                let count = members.len();
+                self.line(format_args!("the file has {count} members: 1 to 40 are allowed"));
+            }
+            Some(value) => {
+                self.explain_key(None, "member");
+                self.line(format_args!("member is {}: {MEMBERS}", kind(value)));
+            }
+        }
+    }
+
+    /// Says what is wrong with the quota, or that there is none.
+    pub fn explain_quota(&mut self) {
+        self.explain_key(None, "quota");
+        if let Some(value) = self.table.get("quota") {
+            self.explain_number(value, "a quota is a whole number, without quotes");
+        } else if self.table.is_empty() {
+            self.line("the file holds no game: it has neither a quota nor a member");
         } else {
-            self.line(format_args!("the text has {} bytes: {wanted}", text.len()));
+            self.line("the file has no quota: write a line such as quota = 51 before the members");
         }
     }
 
-    /// Says what a value is that is no whole number, what is wanted instead, and what helps.
-    pub(crate) fn explain_number(&mut self, value: &Value, wanted: &str) {
-        self.explain_value(value, wanted);
-        match value {
-            Value::Float(number) => self.explain_float(*number),
-            Value::String(text) if text.contains(['%', '/']) => self.line(GUIDE),
-            _ => {}
+    /// Says which keys do not go together, or what is wrong with the quotas.
+    pub fn explain_rules(&mut self) {
+        let quotas = elements(self.table, "quotas");
+        let has_quota = self.table.contains_key("quota");
+        self.explain_key(None, "quotas");
+        self.explain_key(None, "quota");
+        for quota in quotas {
+            if !matches!(quota, Value::Integer(_)) {
+                return self.explain_number(quota, "quotas are 1 to 4 whole numbers");
+            }
+        }
+        if has_quota && self.table.contains_key("quotas") {
+            self.line("quota and quotas are both there: a game has one of them");
+        } else if has_quota || (1..=limits::RULES).contains(&quotas.len()) {
+            self.line("weight goes with quota, and weights go with quotas");
+        } else {
+            self.line("quotas are an array of 1 to 4 whole numbers");
         }
     }
 
-    /// Says what helps with a number that has a point or an exponent.
-    fn explain_float(&mut self, number: f64) {
-        let is_whole = number.fract() == 0.0 && 0.0 <= number && number <= 1e12;
-        if is_whole && most_decimals(self.bare, '.', false) == 0 {
-            self.line(format_args!("write {}", number.abs()));
+    /// Says which quota of a file is not within its total.
+    pub fn explain_quota_range(&mut self) {
+        if let Some(quota) = self.table.get("quota") {
+            self.explain_key(None, "quota");
+            let total = self.total_of(0);
+            return self.explain_range(format_args!("the quota is {}", short(quota)), total);
         }
-        self.explain_factor(self.bare, '.');
-    }
-
-    /// Says by which power of ten the decimals of a text become whole numbers.
-    ///
-    /// It says nothing if the text has no decimals, or more than the greatest weight has zeros.
-    /// Three decimals may also be thousands.
-    pub fn explain_factor(&mut self, text: &str, sign: char) {
-        let decimals = most_decimals(text, sign, false);
-        if 0 < decimals
-            && let Some(factor) = "1000000000000".get(..=decimals)
-        {
-            self.line(format_args!("multiply all weights and the quota by {factor}"));
-        }
-        if most_decimals(text, sign, true) == 3 {
-            self.line("leave out a point or a comma that separates thousands");
+        self.explain_key(None, "quotas");
+        for (index, quota) in elements(self.table, "quotas").iter().enumerate() {
+            let total = self.total_of(index);
+            if !matches!(quota, Value::Integer(n) if 1 <= *n && (*n as u64) <= total) {
+                let number = index.saturating_add(1);
+                let quota = short(quota);
+                return self.explain_range(format_args!("quota {number} is {quota}"), total);
+            }
         }
     }
 
-    /// Says what helps where the text can't be read on from a place.
-    pub fn explain_remedy_at(&mut self, place: usize) {
-        match self.text.as_bytes().get(place) {
-            Some(b'%' | b'/') => self.line(GUIDE),
-            Some(b'.') => self.explain_factor(self.text, '.'),
-            _ => {}
+    /// Returns the total of the weights under a rule.
+    fn total_of(&self, rule: usize) -> u64 {
+        let mut total = 0u64;
+        for member in elements(self.table, "member") {
+            let weight = match member.get("weights") {
+                Some(weights) => weights.get(rule),
+                None => member.get("weight"),
+            };
+            if let Some(Value::Integer(weight)) = weight {
+                total = total.saturating_add(u64::try_from(*weight).unwrap_or(0));
+            }
         }
+        total
     }
 }

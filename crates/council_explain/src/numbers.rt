@@ -1,0 +1,97 @@
+//! Numbers as people write them, and what turns those that are not whole into whole ones.
+use crate::explanation::{Explanation, short};
+use std::fmt::Display;
+use toml::Value;
+
+/// The digits of a number.
+pub const DIGITS: &[char] = &['0', '1', '2', '3', '4', '5', '6', '7', '8', '9'];
+
+/// What is said of a percentage and of a fraction.
+pub const GUIDE: &str = "docs/GUIDE.md says how percentages and fractions become whole numbers";
+
+/// Returns what kind of value it is.
+pub fn kind(value: &Value) -> &'static str {
+    match value {
+        Value::String(_) => "a text",
+        Value::Integer(_) => "a whole number",
+        Value::Float(_) => "a number with a point",
+        Value::Boolean(_) => "true or false",
+        Value::Datetime(_) => "a date or a time",
+        Value::Array(_) => "an array",
+        Value::Table(_) => "a table",
+    }
+}
+
+/// The most decimals of a number in a text, without zeros at their end and with them.
+///
+/// The comma of an array counts for nothing, nor does what is in a comment or before a quote.
+fn most_decimals(text: &str, sign: char) -> (usize, usize) {
+    let mut most = (0usize, 0usize);
+    for line in text.lines() {
+        let (line, _) = line.split_once('#').unwrap_or((line, ""));
+        let (_, line) = line.rsplit_once('"').unwrap_or(("", line));
+        let mut is_number = false;
+        for part in line.split(sign) {
+            let rest = part.trim_start_matches(DIGITS);
+            let digits = part.strip_suffix(rest).unwrap_or("");
+            let is_array = sign == ',' && line.contains('[');
+            if is_number && !is_array && !rest.starts_with(['e', 'E']) {
+                let decimals = digits.trim_end_matches('0');
+                most = (most.0.max(decimals.len()), most.1.max(digits.len()));
+            }
+            is_number = part.ends_with(DIGITS);
+        }
+    }
+    most
+}
+
+impl Explanation<'_> {
+    /// Says what a value is, and what is wanted in its place.
+    pub fn explain_value(&mut self, value: &Value, wanted: &str) {
+        self.line(format_args!("{} is {}: {wanted}", short(value), kind(value)));
+    }
+
+    /// Says what a value is that is no quota or weight, and what helps.
+    pub fn explain_number(&mut self, value: &Value, wanted: &str) {
+        if let Value::Integer(weight) = value {
+            return self.line(format_args!(
+                "{weight} is out of range: a weight is from 0 to 1000000000000"
+            ));
+        }
+        self.explain_value(value, wanted);
+        match value {
+            Value::Float(number) => {
+                let is_whole = number.fract() == 0.0 && 0.0 <= *number && *number <= 1e12;
+                if is_whole && most_decimals(self.text, '.').0 == 0 {
+                    self.line(format_args!("write {}", number.abs()));
+                }
+                self.explain_factor('.');
+            }
+            Value::String(text) if text.contains(['%', '/']) => self.line(GUIDE),
+            _ => {}
+        }
+    }
+
+    /// Says by which power of ten the decimals of the file become whole numbers.
+    ///
+    /// It says nothing if there are no decimals, or more than the greatest weight has zeros. Three
+    /// decimals may also be thousands.
+    pub fn explain_factor(&mut self, sign: char) {
+        let (decimals, digits) = most_decimals(self.text, sign);
+        if 0 < decimals
+            && let Some(factor) = "1000000000000".get(..=decimals)
+        {
+            self.line(format_args!("multiply all weights and the quota by {factor}"));
+        }
+        if digits == 3 {
+            self.line("leave out a point or a comma that separates thousands");
+        }
+    }
+
+    /// Says that a quota is not within its total.
+    pub fn explain_range(&mut self, quota: impl Display + Drop, total: u64) {
+        self.line(format_args!(
+            "{quota}, and the weights add up to {total}: a quota is from 1 to that total"
+        ));
+    }
+}
