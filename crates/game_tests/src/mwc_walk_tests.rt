@@ -167,7 +167,12 @@ fn visits_under_several_rules(rt: HostRuntime) {
 fn visits_of_slices_under_several_rules(rt: HostRuntime) {
     let game = game_by_groups(&rt, rt.alloc(), &[0, 1], &CHAMBERS);
     assert!(rt; game.members() == 24);
-    for (slice, coalitions, visits) in [(0, 66, 89), (1, 660, 827), (2, 660, 827), (3, 2_970, 3_641)] {
+    for (slice, coalitions, visits) in [
+        (0, 66, 89),
+        (1, 660, 827),
+        (2, 660, 827),
+        (3, 2_970, 3_641),
+    ] {
         check(&rt, &mut Walk::new(&game, 2, slice), coalitions, visits);
     }
 }
