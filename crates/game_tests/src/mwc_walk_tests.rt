@@ -1,8 +1,8 @@
 //! Games that only a pruned walk can end, and how many visits it makes.
 //!
-//! The visits under several rules were found by a plain program, which looks at the prefixes of rank
-//! places one by one: a visit is a prefix that does not win yet, can still meet each quota, and
-//! holds no member whom each rule can spare, by what is there or, past 512 steps without a
+//! The visits under several rules were found by a plain program, which looks at the prefixes of
+//! rank places one by one: a visit is a prefix that does not win yet, can still meet each quota,
+//! and holds no member whom each rule can spare, by what is there or, past 512 steps without a
 //! coalition, by what must still come.
 mod refusals;
 

@@ -7,7 +7,7 @@ use std::alloc::Global;
 use std::io::Print;
 use std::process::Abort;
 
-/// Counts the coalitions of a game, of which there are so many, and prints the answer.
+/// Counts the coalitions of a game, and prints the answer.
 fn counts<R: Abort + Print>(rt: &R, alloc: Global, rules: &[(u64, &[u64])], wanted: u64) {
     let game = game_of_rules(rt, alloc, rules);
     print_line(rt, "call");
