@@ -3,7 +3,7 @@
 # game of docs/statutes gives the report of tests/oracle.py, and a document names it.
 . "$(dirname "$0")/common.sh"
 
-# these take less than a second, counted by states milliseconds; one by one some would take minutes
+# these take less than a second; counted one by one some would take minutes
 limit=$((seconds / 6))
 for game in "$top"/examples/*.toml "$top"/examples/*.txt; do
     report=${game%.toml}.tsv

@@ -92,22 +92,21 @@ else
         done
         case $name in
         foreign) [ -z "$library" ] || wait "$library" ;;
-        cases | fuzz) wait ;;
+        cases | fuzz | statutes) wait ;;
         esac
         case $name in
-        mutants) keep $name bash tests/mutants.sh "${some[@]}" & ;;
-        mutants_fit) keep $name bash tests/mutants.sh --fit & ;;
-        refused) keep $name python3 tests/refused.py "${some[@]}" & ;;
-        refused_fit) keep $name python3 tests/refused.py --fit & ;;
-        random_games) keep $name python3 tests/random_games.py "$program" 150 1 & ;;
-        explained) keep $name python3 tests/explained.py "$program" 300 1 & ;;
-        every_size) keep $name python3 tests/$name.py "$program" & ;;
-        reading | style | visibility | memory_source | gate_source) keep $name python3 tests/$name.py & ;;
-        cases) keep $name python3 tests/cases.py "$program" ;;
-        fuzz) keep $name python3 tests/fuzz.py "$program" 300 1 ;;
-        statutes) keep $name python3 tests/fuzz.py "$program" 20 1 statutes ;;
-        *) keep "$name" bash "tests/$name.sh" "$program" & ;;
+        mutants) words=(bash tests/mutants.sh "${some[@]}") ;;
+        mutants_fit) words=(bash tests/mutants.sh --fit) ;;
+        refused) words=(python3 tests/refused.py "${some[@]}") ;;
+        refused_fit) words=(python3 tests/refused.py --fit) ;;
+        random_games) words=(python3 "tests/$name.py" "$program" 150 1) ;;
+        explained | fuzz) words=(python3 "tests/$name.py" "$program" 300 1) ;;
+        statutes) words=(python3 tests/fuzz.py "$program" 20 1 statutes) ;;
+        every_size | cases) words=(python3 "tests/$name.py" "$program") ;;
+        reading | style | visibility | memory_source | gate_source) words=(python3 "tests/$name.py") ;;
+        *) words=(bash "tests/$name.sh" "$program") ;;
         esac
+        keep "$name" "${words[@]}" &
     done
     wait
     for name in $names ${library:+library}; do
