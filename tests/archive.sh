@@ -93,9 +93,7 @@ run_there() {
     printed "$name" "$wanted"
 }
 for game in "$here"/examples/*.toml "$here"/examples/*.txt; do
-    words=()
-    case $game in *-lisbon.toml | *-register.toml) words=(--tally) ;; esac
-    run_there "in the archive, example ${game##*/}" "${game%.toml}.tsv" ./council "${words[@]}" "examples/${game##*/}"
+    run_there "in the archive, example ${game##*/}" "${game%.toml}.tsv" ./council "examples/${game##*/}"
 done
 if as_user sh -c 'command -v python3' >/dev/null; then
     "$top/tools/council-tools" table "$top/examples/eec-1958.tsv" >"$temp/wanted"

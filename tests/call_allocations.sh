@@ -180,7 +180,6 @@ takes_memory mwc_walk lists_a_slice
 takes_memory mwc_walk lists_all
 asks_for_little mwc_walk lists_a_slice
 takes_none mwc_walk walks_without_memory
-takes_none mwc_walk walks_under_two_rules_without_memory
 takes_none mwc_walk walks_under_four_rules_without_memory
 takes_memory mwc_pipe puts_into_a_pipe
 takes_memory mwc_pipe puts_into_a_batch

@@ -1,19 +1,19 @@
 #!/usr/bin/env bash
-# Each game of examples/ gives the report beside it, as a FILE and on standard input. Each game of
-# docs/statutes gives the report of tests/oracle.py, and a document names it.
+# Each game of examples/ gives the report beside it: as a FILE, and counted on standard input. Each
+# game of docs/statutes gives the report of tests/oracle.py, and a document names it.
 . "$(dirname "$0")/common.sh"
 
+# these take less than a second; counted one by one some would take minutes
+limit=$((seconds / 6))
 for game in "$top"/examples/*.toml "$top"/examples/*.txt; do
-    words=()
-    # more coalitions than a run keeps
-    case $game in *-lisbon.toml | *-register.toml) words=(--tally) ;; esac
     report=${game%.toml}.tsv
     name=$(basename "$game")
-    run "${words[@]}" "$game"
+    run "$game"
     printed "example $name" "$report"
-    run "${words[@]}" <"$game"
-    printed "example $name on standard input" "$report"
+    run --tally <"$game"
+    printed "example $name on standard input, --tally" "$report"
 done
+limit=$seconds
 
 for game in "$top"/docs/statutes/*; do
     name=docs/statutes/$(basename "$game")

@@ -134,6 +134,17 @@ touch -d '1 hour ago' "$copy/crates/council/src/main.rt"
 use
 asked_for "a changed source with an older time builds" "lib:low lib:high run version "
 said "changed sources are told" 'the sources are not those of the program'
+use
+printf '#!/bin/sh\necho sum >>"%s"\n' "$temp/asked" >"$kit/sha256sum"
+chmod +x "$kit/sha256sum"
+use
+asked_for "sources that have their lengths and times are not read" ""
+rm "$kit/sha256sum"
+touch -r "$copy/crates/council/src/main.rt" "$temp/time"
+sed -i 's/another text/another TEXT/' "$copy/crates/council/src/main.rt"
+touch -r "$temp/time" "$copy/crates/council/src/main.rt"
+use
+asked_for "a change that keeps the length and the time of a source builds" "lib:low lib:high run version "
 cp -r "$copy" "$temp/again"
 from=$temp/again
 use

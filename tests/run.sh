@@ -64,12 +64,19 @@ if [ ! -x "$program" ]; then
     echo "FAILED tests: there is no program $program"
     failed=1
 else
-    # the longest first, as many at once as there are processors
-    scripts="preview waiting call_allocations program_allocations sizes tally too_many small_machine output using packages launcher examples workers prefixes documents tour"
-    # these want the library
-    callers="foreign archive wheel"
-    programs="random_games cases explained every_size reading style visibility memory_source gate_source"
-    command -v python3 >/dev/null || programs=
+    # Each of these works on one processor, and as many run at once as there are: the longest first,
+    # those that want the library last. Then come those that want all processors for themselves: the
+    # cases use them all, and each run of the fuzzer must end within a second.
+    names=" mutants refused random_games waiting preview call_allocations tally program_allocations sizes workers small_machine every_size output using packages launcher explained examples documents tour mutants_fit refused_fit reading style visibility memory_source gate_source foreign archive wheel cases fuzz statutes "
+    if ! command -v python3 >/dev/null; then
+        for name in refused random_games every_size explained refused_fit reading style visibility memory_source gate_source cases fuzz statutes; do
+            names=${names/ $name / }
+            echo "skipped $name: this machine has no python3"
+            skipped=$((skipped + 1))
+        done
+    fi
+    some=(--some 1)
+    [ "${COUNCIL_MUTANTS:-0}" != 1 ] || some=()
     # what one run may take is measured once, before anything else runs
     SECONDS_EACH=$(bash -c '. tests/common.sh; echo "$seconds"' common.sh "$program")
     export SECONDS_EACH
@@ -79,49 +86,32 @@ else
         keep library make_library &
         library=$!
     fi
-    for name in mutants ${programs:+refused} $scripts mutants_fit ${programs:+refused_fit} $programs $callers; do
+    for name in $names; do
         while [ "$(jobs -rp | wc -l)" -ge "$lanes" ]; do
             wait -n
         done
-        # the callers come last
-        [ "$name" != "${callers%% *}" ] || [ -z "$library" ] || wait "$library"
         case $name in
-        mutants)
-            if [ "${COUNCIL_MUTANTS:-0}" = 1 ]; then
-                keep mutants bash tests/mutants.sh &
-            else
-                keep mutants bash tests/mutants.sh --some 1 &
-            fi
-            ;;
-        refused)
-            if [ "${COUNCIL_MUTANTS:-0}" = 1 ]; then
-                keep refused python3 tests/refused.py &
-            else
-                keep refused python3 tests/refused.py --some 1 &
-            fi
-            ;;
-        refused_fit) keep refused_fit python3 tests/refused.py --fit & ;;
-        mutants_fit) keep mutants_fit bash tests/mutants.sh --fit & ;;
-        random_games) keep $name python3 tests/random_games.py "$program" 150 1 & ;;
-        explained) keep $name python3 tests/explained.py "$program" 300 1 & ;;
-        cases | every_size) keep $name python3 tests/$name.py "$program" & ;;
-        reading | style | visibility | memory_source | gate_source) keep $name python3 tests/$name.py & ;;
-        *) keep "$name" bash "tests/$name.sh" "$program" & ;;
+        foreign) [ -z "$library" ] || wait "$library" ;;
+        cases | fuzz | statutes) wait ;;
         esac
+        case $name in
+        mutants) words=(bash tests/mutants.sh "${some[@]}") ;;
+        mutants_fit) words=(bash tests/mutants.sh --fit) ;;
+        refused) words=(python3 tests/refused.py "${some[@]}") ;;
+        refused_fit) words=(python3 tests/refused.py --fit) ;;
+        random_games) words=(python3 "tests/$name.py" "$program" 150 1) ;;
+        explained | fuzz) words=(python3 "tests/$name.py" "$program" 300 1) ;;
+        statutes) words=(python3 tests/fuzz.py "$program" 20 1 statutes) ;;
+        every_size | cases) words=(python3 "tests/$name.py" "$program") ;;
+        reading | style | visibility | memory_source | gate_source) words=(python3 "tests/$name.py") ;;
+        *) words=(bash "tests/$name.sh" "$program") ;;
+        esac
+        keep "$name" "${words[@]}" &
     done
     wait
-    # each of its runs is to end within a second, so nothing runs beside it
-    [ -z "$programs" ] || keep fuzz python3 tests/fuzz.py "$program" 300 1
-    [ -z "$programs" ] || keep statutes python3 tests/fuzz.py "$program" 20 1 statutes
-    for name in $scripts mutants mutants_fit ${programs:+refused refused_fit} $programs ${library:+library} $callers ${programs:+fuzz statutes}; do
+    for name in $names ${library:+library}; do
         count "$name"
     done
-    if [ -z "$programs" ]; then
-        for test in refused cases explained every_size memory_source gate_source reading style visibility fuzz statutes random_games; do
-            echo "skipped $test: this machine has no python3"
-            skipped=$((skipped + 1))
-        done
-    fi
 fi
 if [ "$skipped" -eq 0 ]; then
     echo "$passed passed, $failed failed"

@@ -81,7 +81,17 @@ listed "1000001 coalitions with --most 1000001" 1000001
 equal_members 40 6 >"$temp/six.txt"
 run "$temp/six.txt" --list --most 3838380
 listed "3838380 coalitions with --most 3838380" 3838380
-run "$temp/six.txt" --list --most 4000000 --workers 1 --bits 10
-listed "3838380 coalitions by one worker in 1024 slices" 3838380
-run "$temp/six.txt" --most 3838379
-refused "3838380 coalitions with --most 3838379" 4 "$many"
+run --tally "$temp/six.txt"
+cp "$temp/out" "$temp/wanted"
+run "$temp/six.txt"
+printed "3838380 coalitions, counted by states" "$temp/wanted"
+
+# ---- fewer than there are
+equal_members 40 20 >"$temp/twenty.txt"
+run "$temp/twenty.txt" --most 1 --workers 4
+refused "40 equal members, quota 20, --most 1" 4 "$many"
+equal_members 40 2 >"$temp/two.txt"
+run "$temp/two.txt" --most 779 --workers 4 --bits 6
+refused "780 coalitions with --most 779" 4 "$many"
+run "$temp/two.txt" --most 780 --workers 4 --bits 6
+succeeded "780 coalitions with --most 780" && ok "780 coalitions with --most 780"

@@ -3,13 +3,6 @@
 # far it has come.
 . "$(dirname "$0")/common.sh"
 
-# these take less than a second, by states milliseconds; one by one some would take minutes
-limit=$((seconds / 6))
-for game in "$top"/examples/*.toml "$top"/examples/*.txt; do
-    run --tally "$game"
-    printed "--tally $(basename "$game")" "${game%.toml}.tsv"
-done
-
 game=$top/examples/eu-1995.toml
 for words in "" --sizes --notation "--sizes --notation"; do
     read -ra flags <<<"$words"
@@ -40,6 +33,8 @@ equal() {
     } >"$temp/wanted"
     printed "--tally of 40 equal members, quota $1" "$temp/wanted"
 }
+# counted by states these take milliseconds; one by one some would take minutes
+limit=$((seconds / 6))
 equal 7 18643560 3262623
 equal 8 76904685 15380937
 equal 20 137846528820 68923264410

@@ -1,6 +1,8 @@
 #!/bin/sh
 # Whether the program at hand is whole, of these sources, and by this toolchain: by sums of what
-# they hold, and not by their times. ./council reads this file; tools/build.py and .ci/run run it:
+# they hold. The sums are taken anew only if a file is gone or new, or has another length or time
+# than when they were last right: the time when it was written, which may be set, or that of the
+# last change to it, which may not. ./council reads this file; tools/build.py and .ci/run run it:
 #
 #     tools/built.sh sources     prints a sum of all that the program is proved from
 #     tools/built.sh keep SUM    keeps that the program was now built, of sources with this sum
@@ -16,19 +18,33 @@ program=$out/council
 built=$out/built
 # the file that `rt` was when it last told the version of the toolchain, which takes it a while
 asked=$out/toolchain-file
+# the lengths and times of all files when the sums were last right
+seen=$out/seen
 
 # The sum of standard input.
 sum() {
     if command -v sha256sum >/dev/null; then sha256sum; else cksum; fi | cut -d ' ' -f 1
 }
 
-# The sum of all sources. Tests are not among them.
-sources() {
-    if command -v sha256sum >/dev/null; then how=sha256sum; else how=cksum; fi
+# Does with each source what these words of `find` say. Tests are not among them.
+each_source() {
     (
         CDPATH='' cd -P -- "$top" >/dev/null || exit
-        find crates.txt HANDLES crates/*/src crates/*/specs crates/*/proofs -path '*_tests/*' -prune -o -type f -exec "$how" {} + 2>/dev/null
-    ) | LC_ALL=C sort | sum
+        find crates.txt HANDLES crates/*/src crates/*/specs crates/*/proofs -path '*_tests/*' -prune -o -type f "$@" 2>/dev/null
+    )
+}
+
+# The sum of all sources.
+sources() {
+    if command -v sha256sum >/dev/null; then how=sha256sum; else how=cksum; fi
+    each_source -exec "$how" {} + | LC_ALL=C sort | sum
+}
+
+# The lengths and times of the sources, the program and what was kept; nothing where `find` can't
+# print them.
+stamps() {
+    each_source -printf '%p %s %T@ %C@\n'
+    find "$program" "$built" -printf '%s %T@ %C@\n' 2>/dev/null
 }
 
 # The length and the sum of the program.
@@ -89,12 +105,15 @@ why() {
         echo whole
     elif ! [ -e "$built" ]; then
         is_taken || echo whole
+    elif now=$(stamps || :) && [ -n "$now" ] && [ "$(cat "$seen" 2>/dev/null)" = "$now" ]; then
+        has_same_toolchain || echo toolchain
     elif [ "$(kept program)" != "$(program_sum)" ]; then
         echo whole
     elif [ "$(kept sources)" != "$(sources)" ]; then
         echo sources
-    elif ! has_same_toolchain; then
-        echo toolchain
+    else
+        [ -z "$now" ] || printf '%s\n' "$now" | put "$seen"
+        has_same_toolchain || echo toolchain
     fi
 }
 

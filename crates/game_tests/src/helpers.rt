@@ -1,5 +1,5 @@
 //! Helpers for the tests of this crate.
-use council_game::{Game, Rule};
+use council_game::{Coalition, Game, Rule};
 use std::alloc::Global;
 use std::fmt::Debug;
 use std::io::Print;
@@ -20,7 +20,15 @@ pub(crate) fn print_line<R: Abort + Print>(rt: &R, line: &str) {
     rt.println(line).expect(rt, "the line is printed");
 }
 
-/// The game of these rules, its members named M0, M1, ..
+/// Fails with the label if the coalitions are not those of these masks, in that order.
+pub(crate) fn are_masks(rt: &impl Abort, list: &[Coalition], masks: &[u64], label: &str) {
+    assert_same(rt, list.len(), masks.len(), label);
+    for (coalition, mask) in list.iter().zip(masks) {
+        assert_same(rt, coalition.mask(), *mask, label);
+    }
+}
+
+/// Returns the game of these rules, its members named M0, M1, ..
 pub(crate) fn game_of(rt: &impl Abort, alloc: Global, rules: Vec<Rule>) -> Game {
     assert!(rt; 1 <= rules.len() && rules.len() <= 4);
     let mut names = Vec::new(alloc);
@@ -32,7 +40,7 @@ pub(crate) fn game_of(rt: &impl Abort, alloc: Global, rules: Vec<Rule>) -> Game 
     Game::with_rules(alloc, None, names, rules).expect(rt, "a game")
 }
 
-/// The game of rules that have these quotas and weights.
+/// Returns the game of rules that have these quotas and weights.
 pub(crate) fn game_of_rules(rt: &impl Abort, alloc: Global, rules: &[(u64, &[u64])]) -> Game {
     let mut own = Vec::new(alloc);
     for (quota, weights) in rules {
@@ -43,7 +51,7 @@ pub(crate) fn game_of_rules(rt: &impl Abort, alloc: Global, rules: &[(u64, &[u64
     game_of(rt, alloc, own)
 }
 
-/// The game of one rule.
+/// Returns the game of one rule.
 pub(crate) fn game(rt: &impl Abort, alloc: Global, quota: u64, weights: &[u64]) -> Game {
     game_of_rules(rt, alloc, &[(quota, weights)])
 }

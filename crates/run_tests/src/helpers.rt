@@ -1,10 +1,12 @@
 //! Helpers for the tests of this crate.
+use council_base::{Gate, REPORT_EVERY};
 use council_game::{Game, Rule};
-use mwc_pipe::{PipeIn, Word};
 use std::alloc::Global;
 use std::fmt::Debug;
 use std::io::Print;
 use std::process::Abort;
+use std::sync::atomic::{AtomicU64, Ordering};
+use std::{array, hint, thread};
 
 /// Fails with the label if what was found is not what was wanted.
 pub(crate) fn assert_same<T: PartialEq + Debug + Drop, L: Debug + Drop>(
@@ -26,31 +28,7 @@ pub(crate) fn print_memory<R: Abort + Print>(rt: &R, worked: bool) {
     print_line(rt, if worked { "worked" } else { "out of memory" });
 }
 
-/// Puts the word in until it is refused, at most `most` times, and says how often it went in.
-pub(crate) fn fill<P: PipeIn<Word>>(pipe: &mut P, word: Word, most: u32) -> u32 {
-    for done in 0..most {
-        // a copy for the call: the prover does not follow a word that is given away in a loop
-        let again = word;
-        if pipe.put(again).is_err() {
-            return done;
-        }
-    }
-    most
-}
-
-/// The game of these rules, its members named M0, M1, ..
-pub(crate) fn game_of(rt: &impl Abort, alloc: Global, rules: Vec<Rule>) -> Game {
-    assert!(rt; 1 <= rules.len() && rules.len() <= 4);
-    let mut names = Vec::new(alloc);
-    for member in 0..rules[0].weights.len() {
-        let name = format!(in alloc; "M{member}").expect(rt, "a name");
-        names.push(name).expect(rt, "room");
-    }
-    assert!(rt; rules.iter().all(|rule| rule.weights.len() == names.len()));
-    Game::with_rules(alloc, None, names, rules).expect(rt, "a game")
-}
-
-/// The game of rules that have these quotas and weights.
+/// Returns the game of rules that have these quotas and weights, its members named M0, M1, ..
 pub(crate) fn game_of_rules(rt: &impl Abort, alloc: Global, rules: &[(u64, &[u64])]) -> Game {
     let mut own = Vec::new(alloc);
     for (quota, weights) in rules {
@@ -58,10 +36,176 @@ pub(crate) fn game_of_rules(rt: &impl Abort, alloc: Global, rules: &[(u64, &[u64
         let quota = *quota;
         own.push(Rule { quota, weights }).expect(rt, "room");
     }
-    game_of(rt, alloc, own)
+    assert!(rt; 1 <= own.len() && own.len() <= 4);
+    let mut names = Vec::new(alloc);
+    for member in 0..own[0].weights.len() {
+        let name = format!(in alloc; "M{member}").expect(rt, "a name");
+        names.push(name).expect(rt, "room");
+    }
+    assert!(rt; own.iter().all(|rule| rule.weights.len() == names.len()));
+    Game::with_rules(alloc, None, names, own).expect(rt, "a game")
 }
 
-/// The game of one rule.
+/// Returns the game of one rule.
 pub(crate) fn game(rt: &impl Abort, alloc: Global, quota: u64, weights: &[u64]) -> Game {
     game_of_rules(rt, alloc, &[(quota, weights)])
+}
+
+/// A gate that notes what it hears, and may hold workers.
+#[derive(Drop)]
+pub(crate) struct Watch {
+    /// Each of the first `held` passes lasts until there were `until`.
+    held: u64,
+    until: u64,
+    /// How often each slice passed, and the worker that passed it last.
+    of: [AtomicU64; 1024],
+    by: [AtomicU64; 1024],
+    /// The workers that passed, a binary digit for each.
+    workers: AtomicU64,
+    passes: AtomicU64,
+    /// The slice that passed last, and how many passed after a lower one.
+    last: AtomicU64,
+    ascents: AtomicU64,
+    /// Whether a worker was held to no end.
+    missed: AtomicU64,
+    prefixes: AtomicU64,
+    found: AtomicU64,
+    /// The most prefixes or coalitions of one call of `inform`, and the calls of fewer than usual.
+    most: AtomicU64,
+    short: AtomicU64,
+    /// The calls of `inform` before the first pass.
+    early: AtomicU64,
+}
+
+impl Watch {
+    /// Makes a gate that holds nobody.
+    pub(crate) fn new() -> Watch {
+        Watch::holding(0, 0)
+    }
+
+    /// Makes a gate that holds each of the first `held` passes until there were `until`.
+    pub(crate) fn holding(held: u64, until: u64) -> Watch {
+        Watch {
+            held,
+            until,
+            of: array::from_fn(|_| AtomicU64::new(0)),
+            by: array::from_fn(|_| AtomicU64::new(0)),
+            workers: AtomicU64::new(0),
+            passes: AtomicU64::new(0),
+            last: AtomicU64::new(1024),
+            ascents: AtomicU64::new(0),
+            missed: AtomicU64::new(0),
+            prefixes: AtomicU64::new(0),
+            found: AtomicU64::new(0),
+            most: AtomicU64::new(0),
+            short: AtomicU64::new(0),
+            early: AtomicU64::new(0),
+        }
+    }
+
+    /// Returns how many passes there were.
+    pub(crate) fn passes(&self) -> u64 {
+        self.passes.load(Ordering::SeqCst)
+    }
+
+    /// Returns how often a slice passed.
+    pub(crate) fn count(&self, slice: u16) -> u64 {
+        if slice >= 1024 {
+            return 0;
+        }
+        self.of[slice as usize].load(Ordering::SeqCst)
+    }
+
+    /// Whether the slice passed once, and by this worker.
+    pub(crate) fn is_passed_by(&self, slice: u16, worker: usize) -> bool {
+        slice < 1024
+            && self.count(slice) == 1
+            && self.by[slice as usize].load(Ordering::SeqCst) == worker as u64
+    }
+
+    /// Whether each of the first `count` slices passed once, and no other.
+    pub(crate) fn has_each_once(&self, count: u16) -> bool {
+        for slice in 0..count {
+            if self.count(slice) != 1 {
+                return false;
+            }
+        }
+        self.passes() == u64::from(count)
+    }
+
+    /// Returns the workers that passed, a binary digit for each.
+    pub(crate) fn workers(&self) -> u64 {
+        self.workers.load(Ordering::SeqCst)
+    }
+
+    /// Whether each slice that passed was lower than the one before.
+    pub(crate) fn is_descending(&self) -> bool {
+        self.ascents.load(Ordering::SeqCst) == 0
+    }
+
+    /// Whether a worker was held to no end.
+    pub(crate) fn has_missed(&self) -> bool {
+        self.missed.load(Ordering::SeqCst) != 0
+    }
+
+    /// Returns the coalitions and prefixes of all calls of `inform`, and how many calls were short.
+    ///
+    /// All are 0 if a call came before the first pass, or was of far more than usual.
+    pub(crate) fn sums(&self) -> (u64, u64, u64) {
+        let most = self.most.load(Ordering::SeqCst);
+        if self.early.load(Ordering::SeqCst) != 0 || most > REPORT_EVERY + 100 {
+            return (0, 0, 0);
+        }
+        (
+            self.found.load(Ordering::SeqCst),
+            self.prefixes.load(Ordering::SeqCst),
+            self.short.load(Ordering::SeqCst),
+        )
+    }
+
+    /// Waits until there were as many passes as wanted, for a hundred million turns at most.
+    fn sees(&self) -> bool {
+        for turn in 0..100_000_000u32 {
+            if self.passes() >= self.until {
+                return true;
+            }
+            if self.has_missed() {
+                return false;
+            }
+            if turn % 64 == 0 {
+                thread::yield_now();
+            }
+            hint::spin_loop();
+        }
+        false
+    }
+}
+
+impl Gate for Watch {
+    fn pass(&self, worker: u8, slice: u16) {
+        let digit = if worker < 16 { 1 << worker } else { 1 << 16 };
+        self.workers.fetch_or(digit, Ordering::SeqCst);
+        if slice < 1024 {
+            self.of[slice as usize].fetch_add(1, Ordering::SeqCst);
+            self.by[slice as usize].store(u64::from(worker), Ordering::SeqCst);
+        }
+        let last = self.last.swap(u64::from(slice), Ordering::SeqCst);
+        self.ascents
+            .fetch_add(u64::from(last <= u64::from(slice)), Ordering::SeqCst);
+        let before = self.passes.fetch_add(1, Ordering::SeqCst);
+        if before < self.held && !self.sees() {
+            self.missed.store(1, Ordering::SeqCst);
+        }
+    }
+
+    fn inform(&self, prefixes: u64, found: u64) {
+        self.prefixes.fetch_add(prefixes, Ordering::SeqCst);
+        self.found.fetch_add(found, Ordering::SeqCst);
+        let most = prefixes.max(found);
+        self.most.fetch_max(most, Ordering::SeqCst);
+        self.short
+            .fetch_add(u64::from(most < REPORT_EVERY), Ordering::SeqCst);
+        self.early
+            .fetch_add(u64::from(self.passes() == 0), Ordering::SeqCst);
+    }
 }

@@ -1,19 +1,43 @@
 //! The calls that take memory. `tests/call_allocations.sh` refuses the allocations between the line
 //! `call` and the line of the answer, one after the other.
-use super::*;
+use crate::helpers::{are_masks, assert_same, game, game_of_rules, print_line};
+use council_game::{Coalition, Game, GameFault, Memory, Rule, plain_list};
+use std::alloc::Global;
+use std::io::Print;
+use std::process::Abort;
 
-/// Tells the answer of a call that makes a game: the game with these minimal winning coalitions, or
-/// out of memory.
-fn tells_game<R: Abort + Print>(
-    rt: &R,
-    alloc: Global,
-    answer: Result<Game, GameFault>,
-    wanted: &[u64],
-) {
+/// Three members.
+fn names(rt: &impl Abort, alloc: Global) -> Vec<String> {
+    let mut names = Vec::new(alloc);
+    for name in ["A", "B", "C"] {
+        let name = String::from_str(alloc, name).expect(rt, "a name");
+        names.push(name).expect(rt, "room");
+    }
+    names
+}
+
+/// Their votes.
+fn votes(rt: &impl Abort, alloc: Global) -> Vec<u64> {
+    [50, 49, 1].to_vec(alloc).expect(rt, "weights")
+}
+
+/// Prints the answer of a call that lists coalitions.
+fn print_list<R: Abort + Print>(rt: &R, answer: Result<Vec<Coalition>, Memory>, wanted: &[u64]) {
+    match answer {
+        Ok(list) => {
+            print_line(rt, "worked");
+            are_masks(rt, &list, wanted, "coalitions");
+        }
+        Err(_) => print_line(rt, "out of memory"),
+    }
+}
+
+/// Prints the answer of a call that makes the game of three members.
+fn print_game<R: Abort + Print>(rt: &R, alloc: Global, answer: Result<Game, GameFault>) {
     match answer {
         Ok(game) => {
-            print_line(rt, "worked");
-            check(rt, alloc, &game, wanted)
+            assert!(rt; game.members() <= 20);
+            print_list(rt, plain_list(alloc, &game), &[6, 5]);
         }
         Err(fault) => {
             print_line(rt, "out of memory");
@@ -25,38 +49,42 @@ fn tells_game<R: Abort + Print>(
 #[test]
 fn makes_a_game(rt: HostRuntime) {
     let alloc = rt.alloc();
-    let names = letters(&rt, alloc, 3);
-    let weights = [50, 49, 1].to_vec(alloc).expect(&rt, "weights");
+    let (names, weights) = (names(&rt, alloc), votes(&rt, alloc));
     assert!(rt; weights.len() == names.len());
     print_line(&rt, "call");
     let answer = Game::new(alloc, None, names, weights, 51);
-    tells_game(&rt, alloc, answer, &[6, 5]);
+    print_game(&rt, alloc, answer);
 }
 
 #[test]
 fn makes_a_game_of_two_rules(rt: HostRuntime) {
-    let votes = [[3, 2, 2, 1].as_slice(), &[1, 1, 1, 1]];
-    let answer = answer_of_two(&rt, rt.alloc(), [5, 3], votes);
-    tells_game(&rt, rt.alloc(), answer, &[14, 13, 11, 7]);
-}
-
-/// The list of a game, or out of memory.
-fn tells_list<R: Abort + Print>(rt: &R, alloc: Global, game: &Game) {
-    assert!(rt; game.members() <= 20);
-    print_line(rt, "call");
-    match plain_list(alloc, game) {
-        Ok(list) => {
-            print_line(rt, "worked");
-            are_masks(rt, &list, &[24, 22, 21, 19, 15]);
-        }
-        Err(_) => print_line(rt, "out of memory"),
-    }
+    let alloc = rt.alloc();
+    let (names, first, second) = (names(&rt, alloc), votes(&rt, alloc), votes(&rt, alloc));
+    assert!(rt; first.len() == names.len() && second.len() == names.len());
+    let mut rules = Vec::new(alloc);
+    rules
+        .push(Rule {
+            quota: 51,
+            weights: first,
+        })
+        .expect(&rt, "room");
+    rules
+        .push(Rule {
+            quota: 51,
+            weights: second,
+        })
+        .expect(&rt, "room");
+    print_line(&rt, "call");
+    let answer = Game::with_rules(alloc, None, names, rules);
+    print_game(&rt, alloc, answer);
 }
 
 #[test]
 fn lists_plainly(rt: HostRuntime) {
     let five = game(&rt, rt.alloc(), 51, &[35, 20, 15, 15, 15]);
-    tells_list(&rt, rt.alloc(), &five);
+    assert!(rt; five.members() <= 20);
+    print_line(&rt, "call");
+    print_list(&rt, plain_list(rt.alloc(), &five), &[24, 22, 21, 19, 15]);
 }
 
 #[test]
@@ -83,10 +111,8 @@ fn orders_by_contribution(rt: HostRuntime) {
         Ok(Some(other)) => {
             print_line(&rt, "worked");
             assert!(rt; other.members() <= 20);
-            let mut list = plain_list(alloc, &other).expect(&rt, "a list");
-            are_masks(&rt, &list, &[6, 5]);
-            other.renumber_all(&mut list, &game);
-            are_masks(&rt, &list, &[5, 3]);
+            let list = plain_list(alloc, &other).expect(&rt, "a list");
+            are_masks(&rt, &list, &[6, 5], "coalitions");
         }
         Ok(None) => print_line(&rt, "the places are in this order"),
         Err(_) => print_line(&rt, "out of memory"),

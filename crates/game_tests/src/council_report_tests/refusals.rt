@@ -1,8 +1,12 @@
 //! The calls that take memory. `tests/call_allocations.sh` refuses the allocations between the line
 //! `call` and the line of the answer, one after the other.
-use super::*;
-use crate::helpers::print_line;
-use std::io::Print;
+use crate::helpers::{assert_same, game, print_line};
+use council_game::plain_list;
+use council_report::{ReportFault, ReportLines, write_report, write_tally};
+use power_index::Counts;
+use power_index::laws::minimal_coalitions_can_be_counted;
+use std::io::{self, Print, Write};
+use std::process::Abort;
 
 /// A writer that takes all, and counts the bytes.
 #[derive(Drop)]
@@ -36,29 +40,37 @@ fn print_answer<R: Abort + Print>(rt: &R, answer: Result<u64, ReportFault>, writ
 #[test]
 fn writes_a_report(rt: HostRuntime) {
     let alloc = rt.alloc();
-    let game = game(&rt, alloc);
-    let list = listing(&rt, alloc, &game, 16_383);
+    let game = game(&rt, alloc, 7, &[1; 14]);
+    assert!(rt; game.members() <= 20);
+    let list = plain_list(alloc, &game).expect(&rt, "a list");
+    assert!(rt; list.len() == 3_432);
+    minimal_coalitions_can_be_counted();
+    let lines = ReportLines {
+        list: true,
+        sizes: false,
+        notation: false,
+    };
     let mut writer = Counter { bytes: 0 };
     print_line(&rt, "call");
-    let answer = write_report(alloc, &game, &list, LIST, &mut writer);
+    let answer = write_report(alloc, &game, &list, lines, &mut writer);
     print_answer(&rt, answer, &writer);
 }
 
 #[test]
 fn writes_a_tally(rt: HostRuntime) {
     let alloc = rt.alloc();
-    let game = game(&rt, alloc);
+    let game = game(&rt, alloc, 7, &[1; 14]);
+    assert!(rt; game.members() <= 20);
     let list = plain_list(alloc, &game).expect(&rt, "a list");
-    assert!(rt; list.len() == 2_650);
     minimal_coalitions_can_be_counted();
     let counts = Counts::of(&game, &list);
-    let shown = ReportLines {
+    let lines = ReportLines {
         list: false,
         sizes: true,
         notation: true,
     };
     let mut writer = Counter { bytes: 0 };
     print_line(&rt, "call");
-    let answer = write_tally(alloc, &game, &counts, shown, &mut writer);
+    let answer = write_tally(alloc, &game, &counts, lines, &mut writer);
     print_answer(&rt, answer, &writer);
 }

@@ -5,12 +5,12 @@ use crate::helpers::print_line;
 use council_game::Memory;
 use std::io::Print;
 
-/// Tells the answer of a call that lists the worked game.
-fn tells<R: Abort + Print>(rt: &R, answer: Result<Vec<Coalition>, Memory>) {
+/// Prints the answer of a call that lists the worked game.
+fn print_answer<R: Abort + Print>(rt: &R, answer: Result<Vec<Coalition>, Memory>) {
     match answer {
         Ok(list) => {
             print_line(rt, "worked");
-            are_masks(rt, &list, &FIVE, "coalitions");
+            are_masks(rt, &list, &[24, 22, 21, 19, 15], "coalitions");
         }
         Err(_) => print_line(rt, "out of memory"),
     }
@@ -19,9 +19,8 @@ fn tells<R: Abort + Print>(rt: &R, answer: Result<Vec<Coalition>, Memory>) {
 #[test]
 fn lists_a_slice(rt: HostRuntime) {
     let game = worked_game(&rt, rt.alloc());
-    assert!(rt; game.members() == 5);
     print_line(&rt, "call");
-    tells(&rt, list_slice(rt.alloc(), &game, 0, 0, u32::MAX));
+    print_answer(&rt, list_slice(rt.alloc(), &game, 0, 0, u32::MAX));
 }
 
 #[test]
@@ -29,15 +28,7 @@ fn lists_all(rt: HostRuntime) {
     let game = worked_game(&rt, rt.alloc());
     print_line(&rt, "call");
     let answer = list_all(rt.alloc(), &game, 9);
-    tells(&rt, answer.map(|all| all.expect(&rt, "at most nine")));
-}
-
-/// The walk gives `coalitions` coalitions by `visits` visits, and takes no memory.
-fn walks<R: Abort + Print>(rt: &R, walk: &mut Walk<'_>, coalitions: u64, visits: u64) {
-    assert_same(rt, count(walk), coalitions, "coalitions");
-    assert_same(rt, walk.next(), None, "after the end");
-    assert_same(rt, walk.visits(), visits, "visits");
-    print_line(rt, "worked");
+    print_answer(&rt, answer.map(|all| all.expect(&rt, "at most nine")));
 }
 
 #[test]
@@ -45,19 +36,14 @@ fn walks_without_memory(rt: HostRuntime) {
     let game = worked_game(&rt, rt.alloc());
     assert!(rt; game.members() == 5);
     print_line(&rt, "call");
-    walks(&rt, &mut Walk::new(&game, 2, 1), 3, 7);
-}
-
-#[test]
-fn walks_under_two_rules_without_memory(rt: HostRuntime) {
-    let game = game_by_groups(&rt, rt.alloc(), &[0, 1], &TWO_RULES);
-    print_line(&rt, "call");
-    walks(&rt, &mut Walk::new(&game, 0, 0), 2, 6);
+    check(&rt, &mut Walk::new(&game, 2, 1), 3, 7);
+    print_line(&rt, "worked");
 }
 
 #[test]
 fn walks_under_four_rules_without_memory(rt: HostRuntime) {
     let game = game_by_groups(&rt, rt.alloc(), &[0, 1, 2, 3], &FOUR_GROUPS);
     print_line(&rt, "call");
-    walks(&rt, &mut Walk::new(&game, 0, 0), 81, 159);
+    check(&rt, &mut Walk::new(&game, 0, 0), 81, 159);
+    print_line(&rt, "worked");
 }

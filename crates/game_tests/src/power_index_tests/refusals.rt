@@ -1,30 +1,37 @@
 //! The counts and the indices, which take no memory, and all indices in a row, which take some.
 //! `tests/call_allocations.sh` refuses allocations between the line `call` and the line of the
 //! answer.
-use super::*;
-use crate::helpers::print_line;
-use power_index::all_indices;
+use crate::helpers::{assert_same, game, print_line};
+use council_game::plain_list;
+use power_index::laws::minimal_coalitions_can_be_counted;
+use power_index::{Counts, Index, all_indices, deegan_packel, public_good};
+
+const FIVE: [u64; 5] = [35, 20, 15, 15, 15];
 
 #[test]
 fn counts_without_memory(rt: HostRuntime) {
     let game = game(&rt, rt.alloc(), 51, &FIVE);
-    let list = coalitions(&rt, rt.alloc(), &game, &MASKS);
-    assert!(rt; list.len() == 5);
+    assert!(rt; game.members() <= 20);
+    let list = plain_list(rt.alloc(), &game).expect(&rt, "a list");
+    minimal_coalitions_can_be_counted();
     print_line(&rt, "call");
     let counts = Counts::of(&game, &list);
-    check_sizes(&rt, &counts, &[(3, 3, [3, 0, 2, 2, 2])]);
-    check(&rt, &counts, 5, &[], &MEMBERS);
-    let half = lowest(6, 12);
-    assert_same(&rt, (half.top, half.bottom), (1, 2), "half");
+    assert!(rt; counts.members() == 5);
+    let first = Index::of(deegan_packel(&counts, 2));
+    let second = Index::of(public_good(&counts, 2));
+    assert_same(&rt, first.decimals(), *b"0.183333", "Deegan-Packel");
+    assert_same(&rt, second.decimals(), *b"0.200000", "public good");
     print_line(&rt, "worked");
 }
 
 #[test]
 fn gives_all_indices(rt: HostRuntime) {
     let game = game(&rt, rt.alloc(), 51, &FIVE);
-    let list = coalitions(&rt, rt.alloc(), &game, &MASKS);
-    let counts = wide::grown(&rt, &game, &list);
-    assert!(rt; counts.members() == 5 && counts.wide_total() > 1 << 32);
+    assert!(rt; game.members() <= 20);
+    let list = plain_list(rt.alloc(), &game).expect(&rt, "a list");
+    minimal_coalitions_can_be_counted();
+    let counts = Counts::of(&game, &list);
+    assert!(rt; counts.wide_total() == 5);
     print_line(&rt, "call");
     let Ok(all) = all_indices(rt.alloc(), &counts) else {
         return print_line(&rt, "out of memory");

@@ -2,29 +2,27 @@
 //! line of the answer, one after the other.
 use super::*;
 use crate::helpers::print_line;
-use std::io::Print;
+use mwc_gather::NoGate;
+use std::io::{self, Print, Write};
 
-const TWO_RULES: &[u8] = b"title = \"Two\"\n\
-    quotas = [5, 3]\n\
-    member = [{name = \"A\", weights = [3, 1]},\
-    {name = \"B\", weights = [2, 1]},\
-    {name = \"C\", weights = [2, 1]},\
-    {name = \"D\", weights = [1, 1]}]";
+/// A writer that takes all, and counts the calls and the bytes.
+#[derive(Drop)]
+struct Counter {
+    calls: u64,
+    bytes: u64,
+}
 
-const TWO_RULES_REPORT: &[u8] = b"title\tTwo\n\
-    members\t4\n\
-    quota\t5/3\n\
-    total\t8/4\n\
-    minimal\t4\n\
-    coalition\t3\t7/3\tA\tB\tC\n\
-    coalition\t3\t6/3\tA\tB\tD\n\
-    coalition\t3\t6/3\tA\tC\tD\n\
-    coalition\t3\t5/3\tB\tC\tD\n\
-    size\t3\t4\t3\t3\t3\t3\n\
-    member\tA\t3/1\t3\t1/4\t0.250000\t1/4\t0.250000\n\
-    member\tB\t2/1\t3\t1/4\t0.250000\t1/4\t0.250000\n\
-    member\tC\t2/1\t3\t1/4\t0.250000\t1/4\t0.250000\n\
-    member\tD\t1/1\t3\t1/4\t0.250000\t1/4\t0.250000\n";
+impl Write for Counter {
+    fn write(&mut self, bytes: &[u8]) -> io::Result<usize> {
+        self.calls = self.calls.saturating_add(1);
+        self.bytes = self.bytes.saturating_add(bytes.len() as u64);
+        Ok(bytes.len())
+    }
+
+    fn flush(&mut self) -> io::Result<()> {
+        Ok(())
+    }
+}
 
 /// Where a run that was refused something found no room.
 fn place_of(cause: Cause) -> &'static str {
@@ -37,18 +35,12 @@ fn place_of(cause: Cause) -> &'static str {
     }
 }
 
-/// Tells an answer: the report, or a refusal before the first byte.
-fn tells<R: Abort + Print>(
-    rt: &R,
-    answer: Result<u64, RunFault>,
-    length: usize,
-    writer: &Awaiting<'_>,
-) {
+/// Prints an answer: the report was written, or there was a refusal before the first byte.
+fn print_answer<R: Abort + Print>(rt: &R, answer: Result<u64, RunFault>, writer: &Counter) {
     match answer {
         Ok(count) => {
             print_line(rt, "worked");
-            assert_same(rt, count, length as u64, "count");
-            assert!(rt; writer.awaited.is_empty() && !writer.differs);
+            assert_same(rt, count, writer.bytes, "bytes");
         }
         Err(fault) => {
             print_line(rt, place_of(fault.cause));
@@ -57,76 +49,51 @@ fn tells<R: Abort + Print>(
     }
 }
 
-/// Runs on the file, or tallies it, and prints its answer.
-fn runs<R: Abort + Print + Threads + Wait + Sync>(
-    rt: &R,
-    alloc: Global,
-    file: &[u8],
-    report: &[u8],
-    is_tally: bool,
-) {
+/// Runs on the file, and prints the answer.
+fn runs<R: Abort + Print + Threads + Wait + Sync>(rt: &R, alloc: Global, file: &[u8]) {
     let mut reader = file;
-    let options = options(3, 2, 5, LISTED);
-    let mut writer = Awaiting {
-        awaited: report,
-        differs: false,
-        calls: 0,
-    };
+    let options = options(3, 2);
+    let mut writer = Counter { calls: 0, bytes: 0 };
     print_line(rt, "call");
-    let answer = if is_tally {
-        tally(rt, alloc, &mut reader, &options, &NoGate, &mut writer)
-    } else {
-        run(rt, alloc, &mut reader, &options, &NoGate, &mut writer)
-    };
-    tells(rt, answer, report.len(), &writer);
+    let answer = run(rt, alloc, &mut reader, &options, &NoGate, &mut writer);
+    print_answer(rt, answer, &writer);
 }
 
 #[test]
 fn runs_on_brackets(rt: HostRuntime) {
-    runs(&rt, rt.alloc(), FIVE, FIVE_REPORT, false);
+    runs(&rt, rt.alloc(), b"[51; 35, 20, 15, 15, 15]");
 }
+
+const TWO_RULES: &[u8] = b"title = \"Two\"\n\
+    quotas = [5, 3]\n\
+    member = [{name = \"A\", weights = [3, 1]},\
+    {name = \"B\", weights = [2, 1]},\
+    {name = \"C\", weights = [2, 1]},\
+    {name = \"D\", weights = [1, 1]}]";
 
 #[test]
 fn runs_on_toml(rt: HostRuntime) {
-    runs(&rt, rt.alloc(), TWO_RULES, TWO_RULES_REPORT, false);
+    runs(&rt, rt.alloc(), TWO_RULES);
 }
 
 /// Two of three members must sign, and have two thirds of the shares, most of which the last one
 /// has: the members are walked over in the opposite order.
-const TURNED_RULES: &[u8] = b"quotas = [2, 4]\n\
-    member = [{name = \"A\", weights = [1, 1]},\
-    {name = \"B\", weights = [1, 2]},\
-    {name = \"C\", weights = [1, 3]}]";
-
-const TURNED_RULES_REPORT: &[u8] = b"members\t3\n\
-    quota\t2/4\n\
-    total\t3/6\n\
-    minimal\t2\n\
-    coalition\t2\t2/4\tA\tC\n\
-    coalition\t2\t2/5\tB\tC\n\
-    size\t2\t2\t1\t1\t2\n\
-    member\tA\t1/1\t1\t1/4\t0.250000\t1/4\t0.250000\n\
-    member\tB\t1/2\t1\t1/4\t0.250000\t1/4\t0.250000\n\
-    member\tC\t1/3\t2\t1/2\t0.500000\t1/2\t0.500000\n";
-
 #[test]
 fn runs_on_turned_rules(rt: HostRuntime) {
-    runs(&rt, rt.alloc(), TURNED_RULES, TURNED_RULES_REPORT, false);
+    let file = b"quotas = [2, 4]\n\
+        member = [{name = \"A\", weights = [1, 1]},\
+        {name = \"B\", weights = [1, 2]},\
+        {name = \"C\", weights = [1, 3]}]";
+    runs(&rt, rt.alloc(), file);
 }
-
-/// The report of a tally of two rules of heads and weights.
-const TWO_RULES_TALLY: &[u8] = b"title\tTwo\n\
-    members\t4\n\
-    quota\t5/3\n\
-    total\t8/4\n\
-    minimal\t4\n\
-    size\t3\t4\t3\t3\t3\t3\n\
-    member\tA\t3/1\t3\t1/4\t0.250000\t1/4\t0.250000\n\
-    member\tB\t2/1\t3\t1/4\t0.250000\t1/4\t0.250000\n\
-    member\tC\t2/1\t3\t1/4\t0.250000\t1/4\t0.250000\n\
-    member\tD\t1/1\t3\t1/4\t0.250000\t1/4\t0.250000\n";
 
 #[test]
 fn tallies_by_states(rt: HostRuntime) {
-    runs(&rt, rt.alloc(), TWO_RULES, TWO_RULES_TALLY, true);
+    let alloc = rt.alloc();
+    let mut reader = TWO_RULES;
+    let options = options(3, 2);
+    let mut writer = Counter { calls: 0, bytes: 0 };
+    print_line(&rt, "call");
+    let answer = tally(&rt, alloc, &mut reader, &options, &NoGate, &mut writer);
+    print_answer(&rt, answer, &writer);
 }

@@ -3,13 +3,14 @@
 use super::*;
 use crate::helpers::print_line;
 use mwc_tally::TallyFault;
+use std::io::Print;
 
 /// Prints what a tally answers.
 fn print_answer<R: Abort + Print>(rt: &R, answer: Result<Box<Counts>, TallyFault>) {
     match answer {
         Ok(counts) => {
             print_line(rt, "worked");
-            assert_of_five(rt, &counts);
+            assert_same(rt, counts.wide_total(), 5, "coalitions");
         }
         Err(TallyFault::Memory) => print_line(rt, "out of memory"),
         Err(TallyFault::Start) => print_line(rt, "not started"),
@@ -19,18 +20,9 @@ fn print_answer<R: Abort + Print>(rt: &R, answer: Result<Box<Counts>, TallyFault
 #[test]
 fn tallies(rt: HostRuntime) {
     let game = five(&rt, rt.alloc());
+    let watch = Watch::new();
     print_line(&rt, "call");
-    print_answer(&rt, tally(&rt, rt.alloc(), &game, 2, 3, &NoGate));
-}
-
-/// Notices whether a worker passes that is not the first.
-#[derive(Drop)]
-struct OthersPass(AtomicBool);
-
-impl Gate for OthersPass {
-    fn pass(&self, worker: u8, _slice: u16) {
-        self.0.fetch_or(worker != 0, Ordering::SeqCst);
-    }
+    print_answer(&rt, tally(&rt, rt.alloc(), &game, 2, 3, &watch));
 }
 
 /// If no worker starts before the last one has ended, the first takes all slices, or stops the
@@ -38,10 +30,10 @@ impl Gate for OthersPass {
 #[test]
 fn tallies_in_turn(rt: HostRuntime) {
     let game = five(&rt, rt.alloc());
-    let others = OthersPass(AtomicBool::new(false));
+    let watch = Watch::new();
     print_line(&rt, "call");
-    let answer = tally(&rt, rt.alloc(), &game, 2, 3, &others);
-    if others.0.load(Ordering::SeqCst) {
+    let answer = tally(&rt, rt.alloc(), &game, 2, 3, &watch);
+    if watch.workers() > 1 {
         print_line(&rt, "another worker passed");
     }
     print_answer(&rt, answer);
@@ -52,6 +44,6 @@ fn tallies_a_slice_without_memory(rt: HostRuntime) {
     let game = five(&rt, rt.alloc());
     print_line(&rt, "call");
     let counts = tally_slice(&game, 0, 0);
-    assert_of_five(&rt, &counts);
+    assert_same(&rt, counts.wide_total(), 5, "coalitions");
     print_line(&rt, "worked");
 }
