@@ -5,7 +5,7 @@
 
 goes through the src/ of all crates, but for their tests, and looks at each line where the code answers want of memory or a
 thread that can not be started (a value `Memory`, a variant `Memory` or `Start` of an error, an allocator's error made by hand),
-tells a loss (`lose()`, `lost = ..`), asks whether a call failed (`is_err()`), or makes a vector grow by a great number of its own
+notes a refusal (`out_of_memory = ..`, `set_out_of_memory()`), asks whether a call failed (`is_err()`), or makes a vector grow by a great number of its own
 (`reserve(1 << 60)`). Such a line is fine
 
 - in a conversion, `impl From<..> for ..`, of an allocator's error or of another want of memory;
@@ -28,9 +28,11 @@ GROWTH = r"[\w.]*\.(?:push|push_back|reserve|extend_from_slice)\((?:[^|&]|&(?!&)
 # what a fault is
 ASKS = re.compile(rf"(?:if |let \w+ = ){GROWTH}\.is_err\(\)(?: \{{|;)$|if let Err\(\w+\) = {GROWTH} \{{$|let Ok\(\w+\) = [\w.]*\bspawn_with\([^|&]*\) else \{{$")
 PROVED = re.compile(r"prove!\(matches!\(\w+, (?:[A-Z]\w*::)?Memory\)\);$")
-# a refusal that is reported, a call that is asked whether it failed, and a growth by a great number
+# how the code notes a refusal; each of these words must be in the sources
+NOTES = ("out_of_memory", ".refused", "set_out_of_memory()")
+# a refusal that is noted, a call that is asked whether it failed, and a growth by a great number
 # that the code makes up
-LOSS = re.compile(r"\.lose\(\)|\blost\s*\|?=(?![=>])(?! false;)|\.is_(?:err|ok)\(\)|(?:(?:reserve\w*|with_capacity)\(.*|resize\([^,]*)(?:\d{4}|\d_\d|<<|(?<!limits::)\b[A-Z]{2})")
+LOSS = re.compile(r"\bset_out_of_memory\(\)|(?:\bout_of_memory|\.refused)\s*\|?=(?![=>])(?! false;)|\.is_(?:err|ok)\(\)|(?:(?:reserve\w*|with_capacity)\(.*|resize\([^,]*)(?:\d{4}|\d_\d|<<|(?<!limits::)\b[A-Z]{2})")
 
 
 def code_lines(path):
@@ -93,7 +95,8 @@ def sees_planted_lines(top):
     lines = [
         "return Err(Memory);", "if most > 9 { return Err(Memory); }", "return Err(AllocError.into());", "return Err(GameFault::Memory);",
         "list.reserve(1 << 60)?;", "let mut list = Vec::with_capacity(alloc, 4_000_000_000)?;", "if j > 7 || list.push(coalition).is_err() {",
-        "return Err(TallyFault::Start);", "if list.len() > 9 { draft.lose(); }", "lost |= most > 9;",
+        "return Err(TallyFault::Start);", "if list.len() > 9 { builder.set_out_of_memory(); }",
+        "out_of_memory |= most > 9;", "out_of_memory = true;", "block.refused |= most > 9;",
     ]
     for line in lines:
         with tempfile.TemporaryDirectory() as room:
@@ -107,10 +110,13 @@ def sees_planted_lines(top):
 def main(words):
     top = words[0] if words else os.path.join(os.path.dirname(os.path.abspath(__file__)), "..", "crates")
     faults = []
+    unseen = set(NOTES)
     for path in sorted(glob.glob(f"{top}/*/src/**/*.rt", recursive=True)):
         name = os.path.relpath(path, top)
         if "_tests/" not in name:
             faults += faults_of(path, name)
+            unseen -= {it for it in unseen for _, text, _ in code_lines(path) if it in text}
+    faults += [f"no line has {it} any more: write what notes a refusal now into NOTES and LOSS" for it in unseen]
     for fault in faults:
         print(f"FAILED memory_source: {fault}")
     if not faults:

@@ -539,6 +539,9 @@ def main():
         if it != signal.SIGHUP or signal.getsignal(it) != signal.SIG_IGN:
             signal.signal(it, stop)
     lines, words = lines_of_crates(), sys.argv[1:]
+    if not set(words) <= {"--keep", "--library", "--take"}:
+        print(__doc__.split("\n\n")[1], file=sys.stdout if words == ["--help"] else sys.stderr)
+        return 0 if words == ["--help"] else 2
     goal = LIBRARY if "--library" in words else PROGRAM
     names = below(goal, lines) if goal in lines else []
     os.makedirs(OUT, exist_ok=True)
