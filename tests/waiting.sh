@@ -205,12 +205,12 @@ use std::{hint, thread};
 #[test]
 fn a_worker_whose_ring_is_full_sleeps_until_words_are_taken(rt: HostRuntime) {
     let alloc = rt.alloc();
-    // 924 coalitions, and a ring has room for 64 words
-    let game = equal_game(&rt, alloc, 12, 6);
+    // 12,870 coalitions, and a ring has room for 4,096 words
+    let game = equal_game(&rt, alloc, 16, 8);
     let job = Job {
         guarded: Guarded::new(&game, &NoGate),
         bits: 0,
-        most: 1_000,
+        most: 20_000,
     };
     let wakers = Wakers::new();
     // what the gatherer wakes here nobody else does

@@ -2,20 +2,24 @@
 ghost use Rattle.std.specs.Prelude.{◌≡◌, [], false, IfErr};
 ghost use Rattle.mwc_gather.specs.Inner.PartBuilders.{IsBuilderOf};
 ghost use Rattle.mwc_gather.specs.Inner.Fault.{IsEarly};
-ghost use Rattle.mwc_gather.specs.declared.channels.TheConstants.{TASKS};
+ghost use Rattle.mwc_gather.specs.declared.channels.TheConstants.{TASKS, WORDS};
 
 use crate::fault::GatherFault;
 use crate::part_builder::PartBuilder;
-use crate::word_buffer::WORDS;
 use mwc_pipe::{RingIn, RingOut, ring};
 use std::alloc::Global;
+
+/// How many words a worker may be ahead of the gatherer, 64 KB.
+///
+/// With fewer, both sides wait for each other more often.
+const WORDS: usize = 4096;
 
 /// How many tasks may wait for a worker.
 const TASKS: usize = 2;
 
-/// For the prover: the number of the constant, which clauses name.
-fn is_this_number()
-    ensures { TASKS ≡ 2 }
+/// For the prover: the numbers of the constants, which clauses name.
+fn are_these_numbers()
+    ensures { (TASKS ≡ 2) × (WORDS ≡ 4096) }
 {}
 
 /// The ends of two new rings, and room for what is kept of a worker.

@@ -5,9 +5,7 @@ ghost use Rattle.mwc_gather.specs.declared.word_buffer.TheConstants.{WORDS};
 use mwc_pipe::Word;
 use std::marker::Model;
 
-/// How many words a buffer or a ring has room for.
-///
-/// A worker may be that far ahead of the gatherer.
+/// How many words a buffer has room for.
 pub(crate) const WORDS: usize = 64;
 
 /// For the prover: the number of the constant, which clauses name.
