@@ -1,7 +1,7 @@
 #!/usr/bin/env bash
 # Searches the model of waiting, docs/model/gather.pml, by spin: whole for one and two workers, and
-# for three as far as it comes in a table of bits. No state may be one that nothing leads out of, and
-# no assertion may fail. Then it must find each slip that the model can be given.
+# for three as far as it comes in a table of bits. No thread may be stuck, and no assertion may
+# fail. Then it must find each slip that the model can be given.
 #
 #     tests/model.sh
 #

@@ -1,6 +1,6 @@
 //! The base of all crates: coalitions, counts by size, lists by place, `Memory`, the limits, the
-//! options of a run and how it finds coalitions, the observer of its workers, readers and writers seen call by call, a reader
-//! that keeps what it reads, and text that is safe to show.
+//! options of a run and how it finds coalitions, the observer of its workers, readers and writers
+//! seen call by call, a reader that keeps what it reads, and text that is safe to show.
 #![tactic(auto)]
 
 mod coalition;

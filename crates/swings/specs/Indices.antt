@@ -8,8 +8,8 @@ use Rattle.swings.specs.Swings.{all_swings, swings, swings_of_size, winning_coal
 unfoldable pub banzhaf : GameView → ℕ → ℕ × ℕ
 banzhaf g i = (swings g i, all_swings g)
 
--- Penrose's measure of member i, or the absolute Banzhaf index: of the choices of the other members,
--- those that leave the outcome to it
+-- Penrose's measure of member i, or the absolute Banzhaf index: of the choices of the others, those
+-- that leave the outcome to it
 unfoldable pub penrose : GameView → ℕ → ℕ × ℕ
 penrose g i = (swings g i, 2 ^ (length g.names - 1))
 

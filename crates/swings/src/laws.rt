@@ -10,7 +10,7 @@ pub fn some_member_has_a_swing()
     ensures { (g : GameView) → IsGame g → 0 < all_swings g }
 {}
 
-/// A member has at most as many swings as there are winning coalitions, and as losing ones.
+/// A member has no more swings than there are winning coalitions, or losing ones.
 pub fn swings_are_winning_and_leave_losing_coalitions()
     ensures winning { (g : GameView) (i : ℕ) → IsGame g → i < length g.names
         → swings g i ≤ length (winning_coalitions g) }
