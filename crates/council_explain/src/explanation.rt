@@ -83,7 +83,12 @@ impl<'a> Explanation<'a> {
         for (index, row) in self.text.split_inclusive('\n').enumerate() {
             len = len.saturating_add(row.len());
             let front = self.text.get(..len).unwrap_or(self.text);
-            let may_begin = row.contains(key.unwrap_or("")) || row.contains('\\');
+            // a member begins with its header or a brace; no line is parsed without need
+            let may_begin = match key {
+                Some(key) => row.contains(key),
+                None => row.contains("member") || row.contains('{'),
+            };
+            let may_begin = may_begin || row.contains('\\');
             if may_begin && self.has(front, member, key)? {
                 let line = index.saturating_add(1);
                 self.line(format_args!("line {line}: {}", short(row.trim())));
