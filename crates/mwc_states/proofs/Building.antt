@@ -6,7 +6,8 @@ use Rattle.std.proofs.Math.Seq.{get_or-append_seam}
 use Rattle.mwc_states.specs.declared.what.What.{What}
 use Rattle.mwc_states.specs.Inner.States.{completes}
 use Rattle.mwc_states.specs.Inner.Links.{accepts, states_at}
-use Rattle.mwc_states.specs.Inner.Tables.{IsLevel, completes_link, link_at}
+use Rattle.mwc_states.specs.Inner.Tables.{IsIn, IsLevel, completes_link}
+use Rattle.mwc_states.specs.Inner.Ways.{link_at}
 use Rattle.mwc_states.specs.Inner.Graphs.{Continue, IsBuilt, IsGraphOf}
 
 abbrev Rows : Type 0
@@ -16,7 +17,7 @@ accepts-state : (levels : List Rows) (k : ℕ) (set : List Bool) → accepts lev
 accepts-state levels k set = let e : k + 2 ≡ suc (suc k) = omega arith in ap (λ (l : ℕ). accepts levels l set) e
 
 -- a level more in front of levels that go on from its table
-module _ (what : What) (member : List ℕ) (later : Rows) (table next : List Rows) (links : Rows) (level : IsLevel what member later table links next)
+module _ (what : What) (member : List ℕ) (later : Rows) (table next : List Rows) (links : Rows) (level : IsLevel what member later table links next (length table))
     (rest : List Rows) (on : Continue what later next rest) where
   link-accepts : (link : ℕ) (set : List Bool) → link < 2 + length next → length set ≡ length later
       → accepts rest link set ≡ completes_link what later next link set
@@ -30,23 +31,23 @@ module _ (what : What) (member : List ℕ) (later : Rows) (table next : List Row
   continues k [] lt long = absurd (omega arith)
   continues k (taken ∷ set) lt long =
       accepts-state (links ∷ rest) k (taken ∷ set)
-      ∙ link-accepts (link_at links k taken) set (level.below k (cond taken 1 0)) (omega arith) ∙ sym (level.each k taken set lt (omega arith))
+      ∙ link-accepts (link_at links k (cond taken 1 0)) set (level.below k (cond taken 1 0)) (omega arith) ∙ sym (level.each k taken lt set (omega arith))
 
 module _ (what : What) (members : Rows) (need : List ℕ) where
-  pub built-none : (table : List Rows) → table ≡ (need ∷ []) ∷ [] → 1 ≤ length members → IsBuilt what members need [] table 0
+  pub built-none : (table : List Rows) → IsIn [] table (need ∷ []) 0 → 1 ≤ length members → IsBuilt what members need [] table 0
   built-none table is some = record {
     long = refl;
-    first = λ e. omega (arith, ap length is);
+    first = λ e. is.below;
     root = λ lt. absurd (omega arith);
     few = λ k. omega arith;
     linked = λ k j taken lt. absurd (omega arith);
     linked_last = λ k j taken e. absurd (omega arith);
     last = λ e. absurd (omega arith);
-    accept = λ rest on set long. on 0 set (omega (arith, ap length is)) long ∙ ap (λ (t : List Rows). completes what members (get_or t 0 []) set) is;
+    accept = λ rest on set long. on 0 set is.below long ∙ ap (λ rows. completes what members rows set) is.here;
   }
 
   module _ (levels table next : List Rows) (links : Rows) (member : List ℕ) (i : ℕ) (lt : i < length members)
-      (built : IsBuilt what members need levels table i) (level : IsLevel what member (drop (i + 1) members) table links next) where
+      (built : IsBuilt what members need levels table i) (level : IsLevel what member (drop (i + 1) members) table links next (length table)) where
     abbrev longer : List Rows
     longer = levels ++ links ∷ []
 

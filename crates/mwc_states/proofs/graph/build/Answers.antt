@@ -26,7 +26,7 @@ loop-level-preserved g c =
     let members = c.args.members.now in
     let later = c.in_ok-later.ensures ∙ take_rest members (c.loop-level.level + 1) in
     let level : IsLevel c.args.what (get_or members c.loop-level.level []) (drop (c.loop-level.level + 1) members) c.loop-level.table
-    c.in-Some.links.items c.in-Some.next = rw later at (rw c.in-Some.is at c.in_ok-links.ensures) in
+    c.in-Some.links.items c.in-Some.next (length c.loop-level.table) = rw later at (rw c.in-Some.is at c.in_ok-links.ensures) in
     let few : length c.loop-level.table ≤ 2 ^ 26 = omega (arith, done.room_few, c.if-len-room.false, c.len.ensures) in
     record {
       built = rw (c.in_ok-push.ensures.items, map-append)
