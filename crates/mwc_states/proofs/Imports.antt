@@ -7,7 +7,7 @@ pub use Rattle.mwc_states.specs.Inner.Sizes.{later}
 pub use Rattle.mwc_states.specs.Inner.Ranges.{Covers, AreLaidOut, EndBy, range_at, width}
 pub use Rattle.mwc_states.specs.declared.size_range.SizeRange.{SizeRange}
 pub use Rattle.mwc_states.specs.Inner.SizeRows.{count_at, pairs_of}
-pub use Rattle.mwc_states.specs.Inner.Ways.{CanGo, HaveAllRoom, Lead, along, completed, link_at, sent, sent_by, source, target}
+pub use Rattle.mwc_states.specs.Inner.Ways.{CanGo, HaveAllRoom, Lead, along, link_at, sent, sent_by, source, target}
 pub use Rattle.mwc_states.specs.declared.way.Way.{Way}
 pub use Rattle.mwc_states.specs.declared.way.Way.TheVariants.{Forward, Backward}
-pub use Rattle.mwc_states.specs.Inner.Counting.{arrive, step, total}
+pub use Rattle.mwc_states.specs.Inner.Counting.{step, total}

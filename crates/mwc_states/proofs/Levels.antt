@@ -4,6 +4,7 @@ use Rattle.std.proofs.Common.{arith, inl, inr, length-append}
 use Rattle.std.proofs.lemmas.{Bool.cases_lt, Bool.cases_eq, List.get_or_append_left, List.get_or_past}
 use Rattle.std.proofs.Math.Seq.{get_or-append_seam}
 use Rattle.mwc_states.specs.declared.what.What.{What}
+use Rattle.mwc_states.specs.Inner.Sets.{is_empty}
 use Rattle.mwc_states.specs.Inner.States.{completes}
 use Rattle.mwc_states.specs.Inner.Tables.{Grows, IsIn, IsLevel, Leads, completes_link}
 use Rattle.mwc_states.specs.Inner.Ways.{link_at}
@@ -19,19 +20,38 @@ link-kept what later more old new zero set grows lt = refl
 link-kept what later more old new (suc zero) set grows lt = refl
 link-kept what later more old new (suc (suc k)) set grows lt = ap (λ rows. completes what later rows set) (sym (grows.kept k (omega arith)))
 
+pub link-state : (what : What) (later : Rows) (next : List Rows) (k : ℕ) (set : List Bool)
+    → completes_link what later next (k + 2) set ≡ completes what later (get_or next k []) set
+unfolding completes_link
+link-state what later next k set = let e : k + 2 ≡ suc (suc k) = omega arith in rw e refl
+
 -- what completes a state completes the link to it
 pub link-in : (what : What) (later : Rows) (old new : List Rows) (state : Rows) (place : ℕ) (set : List Bool) → IsIn old new state place
     → completes what later state set ≡ completes_link what later new (place + 2) set
-unfolding completes_link
-link-in what later old new state place set is = let e : place + 2 ≡ suc (suc place) = omega arith in rw e (ap (λ rows. completes what later rows set) (sym is.here))
-
-leads-kept : (what : What) (later : Rows) (member : List ℕ) (taken : Bool) (state : Rows) (more : ℕ) (old new : List Rows) (link : ℕ) → Grows more old new
-    → link < 2 + length old → Leads what later member taken state old link → Leads what later member taken state new link
-leads-kept what later member taken state more old new link grows lt leads set long = leads set long ∙ link-kept what later more old new link set grows lt
+link-in what later old new state place set is = ap (λ rows. completes what later rows set) (sym is.here) ∙ sym (link-state what later new place set)
 
 module _ (what : What) (member : List ℕ) (later : Rows) (table : List Rows) where
-  pub level-none : IsLevel what member later table [] [] 0
-  level-none = record { long = refl; few = omega arith; below = λ k choice. omega arith; each = λ k taken lt. absurd (omega arith); last = λ e. refl }
+  pub level-none : IsLevel what member later table ((0 ∷ 0 ∷ []) ∷ (1 ∷ 0 ∷ []) ∷ []) [] 0
+  unfolding completes_link is_empty
+  level-none = record { long = refl; few = omega arith; below = below; each = each; last = λ e. refl }
+    where
+      below : (k choice : ℕ) → link_at ((0 ∷ 0 ∷ []) ∷ (1 ∷ 0 ∷ []) ∷ []) k choice < 2
+      below zero zero = omega arith
+      below zero (suc zero) = omega arith
+      below zero (suc (suc c)) = omega arith
+      below (suc zero) zero = omega arith
+      below (suc zero) (suc zero) = omega arith
+      below (suc zero) (suc (suc c)) = omega arith
+      below (suc (suc k)) c = omega arith
+
+      each : (k : ℕ) (taken : Bool) (set : List Bool) → k < 2 → length set ≡ length later
+          → completes_link what (member ∷ later) table k (taken ∷ set)
+          ≡ completes_link what later [] (link_at ((0 ∷ 0 ∷ []) ∷ (1 ∷ 0 ∷ []) ∷ []) k (cond taken 1 0)) set
+      each zero true set lt long = refl
+      each zero false set lt long = refl
+      each (suc zero) true set lt long = refl
+      each (suc zero) false set lt long = refl
+      each (suc (suc k)) taken set lt long = absurd (omega arith)
 
   -- one state more, which has a link without the member and one with it
   pub level-more : (links : Rows) (old next new : List Rows) (i without with : ℕ) → IsLevel what member later table links old i
@@ -41,30 +61,31 @@ module _ (what : What) (member : List ℕ) (later : Rows) (table : List Rows) wh
   level-more links old next new i without with are first out_below out out_last second in_below in' in_last = record {
     long = omega (arith, are.long, length-append {A = List ℕ} links ((without ∷ with ∷ []) ∷ []));
     few = omega (arith, are.few, first.most, second.most);
-    below = λ k choice. elim (cases_lt k i) [
+    below = λ k choice. elim (cases_lt k (2 + i)) [
       | inl lt ↦ omega (arith, ap (λ l. get_or l choice 0) (before k lt), are.below k choice, first.least, second.least)
-      | inr ge ↦ elim (cases_eq k i) [
+      | inr ge ↦ elim (cases_eq k (2 + i)) [
         | inl e ↦ omega (arith, ap (λ (q : ℕ). link_at (links ++ (without ∷ with ∷ []) ∷ []) q choice) e, ap (λ l. get_or l choice 0) here, pair choice)
         | inr ne ↦ omega (arith, ap (λ l. get_or l choice 0) (get_or_past (links ++ (without ∷ with ∷ []) ∷ []) k [] (omega (arith, are.long, ge, ne, length-append {A = List ℕ} links ((without ∷ with ∷ []) ∷ [])))))
       ]
     ];
-    each = λ k taken lt set long. elim (cases_lt k i) [
+    each = λ k taken set lt long. elim (cases_lt k (2 + i)) [
       | inl less ↦
-          are.each k taken less set long
+          are.each k taken set less long
           ∙ link-kept what later 1 old next (link_at links k (cond taken 1 0)) set first (are.below k (cond taken 1 0))
           ∙ link-kept what later 1 next new (link_at links k (cond taken 1 0)) set second (omega (arith, are.below k (cond taken 1 0), first.least))
           ∙ ap (λ l. completes_link what later new (get_or l (cond taken 1 0) 0) set) (sym (before k less))
-      | inr ge ↦ (let e : k ≡ i = omega (arith, lt, ge) in
-          ap (λ (q : ℕ). completes what (member ∷ later) (get_or table q []) (taken ∷ set)) e ∙ both taken set long
-          ∙ ap (λ l. completes_link what later new (get_or l (cond taken 1 0) 0) set) (sym (ap (λ (q : ℕ). get_or (links ++ (without ∷ with ∷ []) ∷ []) q []) e ∙ here)))
+      | inr ge ↦ (let e : k ≡ i + 2 = omega (arith, lt, ge) in
+          let at : k ≡ 2 + i = omega arith in
+          ap (λ (q : ℕ). completes_link what (member ∷ later) table q (taken ∷ set)) e ∙ link-state what (member ∷ later) table i (taken ∷ set) ∙ both taken set long
+          ∙ ap (λ l. completes_link what later new (get_or l (cond taken 1 0) 0) set) (sym (ap (λ (q : ℕ). get_or (links ++ (without ∷ with ∷ []) ∷ []) q []) at ∙ here)))
     ];
     last = λ e. omega (arith, are.last e, out_last e, in_last e);
   }
     where
-      before : (k : ℕ) → k < i → get_or (links ++ (without ∷ with ∷ []) ∷ []) k [] ≡ get_or links k []
+      before : (k : ℕ) → k < 2 + i → get_or (links ++ (without ∷ with ∷ []) ∷ []) k [] ≡ get_or links k []
       before k lt = get_or_append_left links ((without ∷ with ∷ []) ∷ []) [] k (omega (arith, are.long))
 
-      here : get_or (links ++ (without ∷ with ∷ []) ∷ []) i [] ≡ without ∷ with ∷ []
+      here : get_or (links ++ (without ∷ with ∷ []) ∷ []) (2 + i) [] ≡ without ∷ with ∷ []
       here = ap (λ (k : ℕ). get_or (links ++ (without ∷ with ∷ []) ∷ []) k []) (sym are.long) ∙ get_or-append_seam links (without ∷ with ∷ []) [] []
 
       pair : (choice : ℕ) → get_or (without ∷ with ∷ []) choice 0 < 2 + length new
@@ -73,5 +94,5 @@ module _ (what : What) (member : List ℕ) (later : Rows) (table : List Rows) wh
       pair (suc (suc k)) = omega arith
 
       both : (taken : Bool) → Leads what later member taken (get_or table i []) new (get_or (without ∷ with ∷ []) (cond taken 1 0) 0)
-      both false = leads-kept what later member false (get_or table i []) 1 next new without second out_below out
-      both true = in'
+      both false set long = out set long ∙ link-kept what later 1 next new without set second out_below
+      both true set long = in' set long

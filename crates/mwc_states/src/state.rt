@@ -12,13 +12,13 @@ use crate::table::Table;
 use crate::what::What;
 use council_base::Memory;
 
-/// The link to no coalition.
-const DEAD: u32 = 0;
+/// The row that leads to no coalition.
+pub(crate) const DEAD: u32 = 0;
 
-/// The link to one coalition, that no later member joins.
-const COMPLETE: u32 = 1;
+/// The row that leads to one coalition, which no later member joins.
+pub(crate) const COMPLETE: u32 = 1;
 
-/// The link to the first state of the next level. The others follow.
+/// The row of the first state. The others follow.
 const FIRST: u32 = 2;
 
 /// Adds a state's need to the misses of the later members, if a member is taken that a minimal set
@@ -90,7 +90,7 @@ fn is_over(what: What, later: &Later) -> bool
     }
 }
 
-/// Decides a member in a state, and returns the link to what is left.
+/// Decides a member in a state, and returns the row of what is left.
 ///
 /// A state that is left is added to the next table; `left` is a buffer for it. No row is no state,
 /// and leads nowhere.

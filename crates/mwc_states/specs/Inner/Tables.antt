@@ -37,13 +37,14 @@ abbrev pub Leads : What → List (List ℕ) → List ℕ → Bool → List (List
 Leads what later member taken state next link = (set : List Bool) → length set ≡ length later
     → completes what (member ∷ later) state (taken ∷ set) ≡ completes_link what later next link set
 
--- where each of the first i states of a table leads without the member and with it, and the table of
--- the next level
+-- where each row of a level leads without the member and with it, up to that of the first i states of
+-- a table, and the table of the next level
 pub record IsLevel (what : What) (member : List ℕ) (later : List (List ℕ)) (table : List (List (List ℕ)))
     (links : List (List ℕ)) (next : List (List (List ℕ))) (i : ℕ) : Type 0 where
-  pub long : length links ≡ i
+  pub long : length links ≡ 2 + i
   pub few : length next ≤ 2 * i
   pub below : (k choice : ℕ) → link_at links k choice < 2 + length next
-  pub each : (k : ℕ) (taken : Bool) → k < i
-      → Leads what later member taken (slice_index_or table k []) next (link_at links k (if taken then 1 else 0))
+  pub each : (k : ℕ) (taken : Bool) (set : List Bool) → k < 2 + i → length set ≡ length later
+      → completes_link what (member ∷ later) table k (taken ∷ set)
+      ≡ completes_link what later next (link_at links k (if taken then 1 else 0)) set
   pub last : length later ≡ 0 → length next ≡ 0

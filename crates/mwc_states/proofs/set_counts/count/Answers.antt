@@ -38,17 +38,20 @@ count_with-requires-clause-fits c =
     with-fits c.requires links (one-before c.loop-level.invariant.completing (omega arith))
     (rw (← c.index.ensures) at (c.loop-level.invariant.leading (c.loop-level.level - 1) c.index.result.now (omega arith)))
 
-pub backward-requires-clause-few : goal.backward-requires-clause-few
-backward-requires-clause-few c = level-few c.requires
-    (level-at c.args.levels.now (c.loop-level.level - 1) c.index-levels-level.result (omega arith) c.index-levels-level.is)
+pub spread-requires-clause-few : goal.spread-requires-clause-few
+spread-requires-clause-few c = omega (
+  arith,
+  level-few c.requires
+      (level-at c.args.levels.now (c.loop-level.level - 1) c.index-levels-level.result (omega arith) c.index-levels-level.is),
+)
 
-pub backward-requires-clause-go : goal.backward-requires-clause-go
-backward-requires-clause-go c =
+pub spread-requires-clause-go : goal.spread-requires-clause-go
+spread-requires-clause-go c =
     let links = level-at c.args.levels.now (c.loop-level.level - 1) c.index-levels-level.result (omega arith) c.index-levels-level.is in
-    complete-go c.requires links (one-before c.loop-level.invariant.completing (omega arith))
+    complete-go c.requires links (one-before c.loop-level.invariant.completing (omega arith)) c.len.result (omega arith)
 
-pub backward-requires-clause-fits : goal.backward-requires-clause-fits
-backward-requires-clause-fits c =
+pub spread-requires-clause-fits : goal.spread-requires-clause-fits
+spread-requires-clause-fits c =
     let links = level-at c.args.levels.now (c.loop-level.level - 1) c.index-levels-level.result (omega arith) c.index-levels-level.is in
     complete-fits c.requires links (one-before c.loop-level.invariant.completing (omega arith))
 
@@ -64,7 +67,7 @@ loop-level-preserved c =
       leading = λ k d lt. subst (λ r. AreLeading (links_of c.args.levels.now) k r)
           (sym (ap (λ (l : List SizeRows). get_or l k d) c.truncate.ensures.items ∙ get_or-take i c.loop-level.leading.items k d lt))
           (c.loop-level.invariant.leading k d (omega (arith, lt)));
-      completing = complete-next c.requires links are c.in_ok-completing-2.ensures.long c.in_ok-completing-2.ensures.ends c.in_ok-completing-2.ensures.counts;
+      completing = complete-next c.requires links are (omega arith) c.in_ok-completing-2.ensures.ranges c.in_ok-completing-2.ensures.counts;
       long = omega (arith, c.loop-level.invariant.long, length-set c.loop-level.each i c.count_with.result);
       each = λ j le lt. elim (cases_eq j i) [
         | inl e ↦ subst (λ k. AreSizesOf (links_of c.args.levels.now) (has k) (get_or (set c.loop-level.each i c.count_with.result) k [])) (sym e)
