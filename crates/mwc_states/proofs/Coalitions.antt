@@ -4,7 +4,7 @@ use Rattle.std.proofs.Common.{◌≡◌, ◌∙◌, ℕ, zero, suc, ◌<◌, ◌
 use Rattle.std.proofs.Common.{filter, refl, sym, ap, arith, inl, inr, leb, map, sum, sum_by, length-set, get_or-set_same, get_or-set_other, ◌^◌}
 use Rattle.std.specs.{List.range_with_len, List.list_all, Cmp.both_ways as same_test}
 use Rattle.std.proofs.lemmas.Bool.{and_parts, and_from, not-true, not_from_false, cases_eq, cases_lt, Decides.nat_tests}
-use Rattle.std.proofs.lemmas.List.{get_or_past, length-map, Sums.sum_by-cons, Folds.list_all-map, FromFn.fill_by_all, FromFn.get_or-map-range_with_len, FromFn.length-map-range_with_len}
+use Rattle.std.proofs.lemmas.List.{get_or_past, length-map, Sums.sum_by-cons, Sums.sum_by-le, get_or_default, Folds.list_all-map, FromFn.fill_by_all, FromFn.get_or-map-range_with_len, FromFn.length-map-range_with_len}
 use Rattle.council_base.specs.Coalitions.{has, size, without}
 use Rattle.council_base.proofs.Shared.{Digits.has-kept, Digits.has-gone, Lists.filter-both}
 use Rattle.council_game.specs.Votes.{RuleView, Votes, IsVotes, rule_at, wins, minimal, minimal_coalitions, down, weight}
@@ -65,15 +65,6 @@ column-sum (row ∷ rows) (w ∷ ws) r long same =
     let rest = column-sum rows ws r (omega arith) (λ p lt. same (suc p) (omega arith)) in
     omega (arith, same 0 (omega arith), rest, sum_by-cons (λ (member : List ℕ). get_or member r 0) row rows, sum_by-cons (λ (x : ℕ). x) w ws)
 
-zeros : (rows : List (List ℕ)) (p : ℕ) → get_or {A = ℕ} (map {B = ℕ} (λ _. 0) rows) p 0 ≡ 0
-zeros [] p = refl
-zeros (row ∷ rows) zero = refl
-zeros (row ∷ rows) (suc p) = zeros rows p
-
-no-sum : (rows : List (List ℕ)) → sum (map {B = ℕ} (λ _. 0) rows) ≡ 0
-no-sum [] = refl
-no-sum (row ∷ rows) = omega (arith, sum_by-cons (λ (x : ℕ). x) 0 (map (λ (_ : List ℕ). 0) rows), no-sum rows)
-
 -- ---- who wins meets the quotas
 all-past : (t : ℕ → Bool) (k n : ℕ) → k ≤ n → ((i : ℕ) → k ≤ i → t i ≡ true) → list_all t (range_with_len 0 n) ≡ list_all t (range_with_len 0 k)
 all-past t k n le past = same_test _ _
@@ -128,10 +119,11 @@ module _ (v : Votes) (members : List (List ℕ)) (need : List ℕ) (game : IsVot
         ))
     | inr past ↦ omega (
       arith,
-      column-sum members (map (λ _. 0) members) r (sym (length-map members (λ _. 0))) (λ p below.
+      sum_by-le (λ member. get_or member r 0) 0 members (λ p d below.
+          (let none : get_or (get_or members p []) r 0 ≡ 0 =
           rows.weights p r (omega (arith, below, rows.long))
-          ∙ ap (λ (rule : RuleView). get_or rule.weights p 0) (get_or_past v.rules r (record { quota = 0; weights = [] }) past) ∙ sym (zeros members p)),
-      no-sum members,
+          ∙ ap (λ (rule : RuleView). get_or rule.weights p 0) (get_or_past v.rules r (record { quota = 0; weights = [] }) past) in
+          omega (arith, none, ap (λ (member : List ℕ). get_or member r 0) (get_or_default members p d [] below)))),
     )
   ]
 

@@ -13,8 +13,8 @@ use Rattle.mwc_states.proofs.SetCounts.{sets-few}
 use Rattle.mwc_states.proofs.SizeSums.{sum-alike, sum-one}
 use Rattle.mwc_states.proofs.Totals.{total-along}
 use Rattle.mwc_states.proofs.SizeRows.{count-past}
-use Rattle.std.proofs.Math.Seq.{drop-cons, get_or-append_seam}
-use Rattle.std.proofs.lemmas.List.{get_or_past, drop_all, get_or-map, length-map, get_or_append_left}
+use Rattle.std.proofs.Math.Seq.{drop-cons}
+use Rattle.std.proofs.lemmas.List.{get_or_past, drop_all, get_or-map, length-map, get_or_append_left, get_or_push}
 use Rattle.std.proofs.Common.{Vec, Global, map, ◌++◌, subst, inl, inr}
 
 -- ---- a level
@@ -197,5 +197,5 @@ pub each-pushed : {A : Type 0} (P : ℕ → A → Type 0) (xs : List A) (x : A) 
 each-pushed P xs x n long each last i d below = elim (cases_lt i n) [
   | inl lt ↦ subst (λ y. P i y) (sym (get_or_append_left xs (x ∷ []) d i (omega (arith, lt, long)))) (each i d lt)
   | inr ge ↦ (let e : i ≡ n = omega (arith, ge, below) in
-      subst (λ y. P i y) (sym (ap (λ (k : ℕ). get_or (xs ++ x ∷ []) k d) (e ∙ sym long) ∙ get_or-append_seam xs x [] d)) (subst (λ k. P k x) (sym e) last))
+      subst (λ y. P i y) (sym (get_or_push xs x d i (long ∙ sym e))) (subst (λ k. P k x) (sym e) last))
 ]

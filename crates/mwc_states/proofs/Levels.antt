@@ -1,8 +1,7 @@
 -- Levels: links, while the table of the next level grows.
 use Rattle.std.proofs.Common.{◌≡◌, ◌∙◌, ℕ, zero, suc, ◌+◌, ◌<◌, Bool, true, false, cond, List, [], ◌∷◌, ◌++◌, length, get_or, sym, ap, refl}
 use Rattle.std.proofs.Common.{arith, inl, inr, length-append}
-use Rattle.std.proofs.lemmas.{Bool.cases_lt, Bool.cases_eq, List.get_or_append_left, List.get_or_past}
-use Rattle.std.proofs.Math.Seq.{get_or-append_seam}
+use Rattle.std.proofs.lemmas.{Bool.cases_lt, Bool.cases_eq, List.get_or_append_left, List.get_or_past, List.get_or_push}
 use Rattle.mwc_states.specs.declared.what.What.{What}
 use Rattle.mwc_states.specs.Inner.Sets.{is_empty}
 use Rattle.mwc_states.specs.Inner.States.{completes}
@@ -86,7 +85,7 @@ module _ (what : What) (member : List ℕ) (later : Rows) (table : List Rows) wh
       before k lt = get_or_append_left links ((without ∷ with ∷ []) ∷ []) [] k (omega (arith, are.long))
 
       here : get_or (links ++ (without ∷ with ∷ []) ∷ []) (2 + i) [] ≡ without ∷ with ∷ []
-      here = ap (λ (k : ℕ). get_or (links ++ (without ∷ with ∷ []) ∷ []) k []) (sym are.long) ∙ get_or-append_seam links (without ∷ with ∷ []) [] []
+      here = get_or_push links (without ∷ with ∷ []) [] (2 + i) are.long
 
       pair : (choice : ℕ) → get_or (without ∷ with ∷ []) choice 0 < 2 + length new
       pair zero = omega (arith, out_below, second.least)
