@@ -8,5 +8,4 @@ IsMadeUntil n f old new = (length new ≡ RULES) × ((k : ℕ) → k < n → get
 
 -- one rule more
 pub made_more : (n : ℕ) (f : ℕ → ℕ) (old new : List ℕ) (x : ℕ) → IsMadeUntil n f old new → n < RULES → x ≡ f n → IsMadeUntil (n + 1) f old (set new n x)
-made_more n f old new x made below is =
-    (grind (arith, length-set new n x), λ k lt. grind (arith, made.1 k, get_or-set_same, get_or-set_other), λ k le. grind (arith, made.2 k, get_or-set_other))
+made_more n f old new x made below is = grind (arith, length-set, get_or-set_same, get_or-set_other)

@@ -12,11 +12,7 @@ sets-none (suc n) (suc s) = omega (arith, sets-none n (suc s), sets-none n s)
 
 pub sets-few : (n s : ℕ) (test : List Bool → Bool) → count_sets n test s ≤ 2 ^ n
 unfolding count_sets
-sets-few zero zero test = one (test [])
-  where
-    one : (b : Bool) → cond b 1 0 ≤ 2 ^ 0
-    one true = omega arith
-    one false = omega arith
+sets-few zero zero test = grind (arith, true, false)
 sets-few zero (suc s) test = omega arith
 sets-few (suc n) zero test = let more : 2 ^ suc n ≡ 2 * 2 ^ n = omega arith in omega (arith, more, sets-few n zero (λ set. test (false ∷ set)))
 sets-few (suc n) (suc s) test =

@@ -23,11 +23,4 @@ add_pairs-requires-clause-fits c s =
     )
 
 pub loop-row-preserved : goal.loop-row-preserved
-loop-row-preserved c =
-    let link = link-read c.args.links.now.items c.loop-row.row 1 c.index.result.now (omega arith) c.index.ensures in record {
-      long = omega (arith, c.add_pairs.array_long);
-      sums = λ s.
-          (let all : ℕ → ℕ = λ p. pairs_of (count_at c.args.leading.now p) (count_at c.args.completing.now (link_at c.args.links.now.items p 1)) s in
-          let here = ap (λ (k : ℕ). pairs_of (count_at c.args.leading.now c.loop-row.row) (count_at c.args.completing.now k) s) link in
-          omega (arith, here, c.add_pairs.ensures s, c.loop-row.invariant.sums s, sum-more c.loop-row.row all));
-    }
+loop-row-preserved c = grind (arith, link-read, pairs_of, count_at, link_at, sum-more)

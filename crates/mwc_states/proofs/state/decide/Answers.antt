@@ -18,8 +18,7 @@ no-state what members (row ∷ rows) set none = absurd (omega arith)
 
 pub returns-then-is_empty-clause-leads : goal.returns-then-is_empty-clause-leads
 unfolding completes_link
-returns-then-is_empty-clause-leads c set long =
-    no-state c.args.what _ c.args.state.now _ (eqb-true _ _ (sym c.is_empty.ensures ∙ c.if-is_empty.true))
+returns-then-is_empty-clause-leads c set long = grind (arith, no-state, eqb-true)
 
 pub returns-then-not-is_reachable-clause-leads : goal.returns-then-not-is_reachable-clause-leads
 unfolding completes_link
@@ -44,8 +43,4 @@ returns-clause-leads c set long = leads-open _ _ _ _ _ _ _ (some-rows c.args.sta
     ∙ link-in _ _ _ _ _ _ set c.in_ok-add.ensures
 
 pub returns-clause-last : goal.returns-clause-last
-returns-clause-last c none =
-    elim c.else-is_zero.branch [
-      | else-is_zero-via-then-is_zero+else-is_over w ↦ absurd (omega (arith, none, w.is_over.ensures.open w.if-is_over.false))
-      | else-is_zero-via-else-is_zero w ↦ absurd (both_ways _ w.if-is_zero.false (c.is_zero.ensures.1 (c.is_reachable.ensures.none none c.if-not-is_reachable.false)))
-    ]
+returns-clause-last c none = grind (arith, both_ways)

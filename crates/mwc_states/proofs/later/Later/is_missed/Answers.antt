@@ -5,16 +5,7 @@ use Rattle.mwc_states.proofs.Able.{able-le, missed}
 use Rattle.mwc_states.proofs.later.Later.is_missed.Goals as goal
 
 pub add-able-requires : goal.add-able-requires
-add-able-requires c r lt =
-    let weight : List ℕ → ℕ = λ member. get_or member r 0 in
-    let able : List ℕ → ℕ = λ member. cond (is_able c.args.need.now c.args.row.now member) (get_or member r 0) 0 in
-    omega (
-      arith,
-      c.loop-member.invariant r,
-      c.args.self.now.is_total r,
-      c.args.self.now.few r lt,
-      sum_by_more_le_part able weight c.args.self.now.members.now c.loop-member.member-index [] (omega arith) (able-le c.args.need.now c.args.row.now r),
-    )
+add-able-requires c r lt = grind (arith, sum_by_more_le_part, able-le)
 
 pub returns : goal.returns
 returns c set fitting is =
