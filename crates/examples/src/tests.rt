@@ -14,6 +14,7 @@ use crate::power::{have_equal_power, vetoers_in_order, weigh_the_same};
 use crate::reports::report_into_memory;
 use crate::rings::through_a_ring;
 use crate::slices::{Passes, words_of_slice};
+use crate::swings::indices_by_swings;
 use crate::tables::{first_wrong_row, most_powerful};
 use crate::tally::tally_index;
 use council_file::parse_game;
@@ -24,7 +25,7 @@ use game_calls::{
     has_member, outsiders, with_member, without_member,
 };
 use mwc_pipe::Word;
-use power_index::Index;
+use power_index::{Fraction, Index, lowest};
 use std::alloc::Global;
 use std::fmt::Debug;
 use std::process::Abort;
@@ -324,4 +325,28 @@ fn a_tally(rt: HostRuntime) {
     let game = five(&rt, rt.alloc());
     let index = tally_index(&rt, rt.alloc(), &game, 0, 2).expect(&rt, "memory");
     assert_index(&rt, index, 3, 10, b"0.300000");
+}
+
+#[test]
+fn indices_of_published_games_by_swings(rt: HostRuntime) {
+    let alloc = rt.alloc();
+    let six: &[u8] = b"[12; 4, 4, 4, 2, 2, 1]";
+    let nations: &[u8] = b"[39; 7, 7, 7, 7, 7, 1, 1, 1, 1, 1, 1, 1, 1, 1, 1]";
+    for (text, member, banzhaf, shapley_shubik) in [
+        (six, 0, Some(lowest(5, 21)), lowest(14, 60)),
+        (six, 3, Some(lowest(3, 21)), lowest(9, 60)),
+        (six, 5, Some(lowest(0, 1)), lowest(0, 1)),
+        (nations, 0, None, lowest(421, 2145)),
+        (nations, 14, None, lowest(4, 2145)),
+    ] {
+        let game = parse_game(alloc, text).expect(&rt, "a game");
+        let found: Option<(Fraction, Fraction)> = indices_by_swings(alloc, &game, member).expect(
+            &rt, "memory",
+        );
+        let found = found.expect(&rt, "room");
+        assert_eq!(&rt; found.1, shapley_shubik, "{member}");
+        if let Some(banzhaf) = banzhaf {
+            assert_eq!(&rt; found.0, banzhaf, "{member}");
+        }
+    }
 }

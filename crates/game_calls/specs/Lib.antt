@@ -5,7 +5,6 @@ pub use Rattle.council_game.specs.Votes
 pub use Rattle.power_index.specs.Counting
 pub use Rattle.power_index.specs.Fractions
 pub use Rattle.power_index.specs.Indices
-pub mod Critical
 pub mod Named
 pub mod Quotas
 pub mod Winning

@@ -1,4 +1,4 @@
--- The minimal winning coalitions of a game are the sets that complete its quotas; how many of them
+-- The coalitions of a game that are counted are the sets that complete its quotas; how many of them
 -- pass a test.
 use Rattle.std.proofs.Common.{◌≡◌, ◌∙◌, ℕ, zero, suc, ◌<◌, ◌≤◌, Bool, true, false, not, ◌&&◌, ◌==◌, List, [], ◌∷◌, length, get_or, set}
 use Rattle.std.proofs.Common.{filter, refl, sym, ap, arith, inl, inr, leb, map, sum, sum_by, length-set, get_or-set_same, get_or-set_other, ◌^◌}
@@ -7,14 +7,19 @@ use Rattle.std.proofs.lemmas.Bool.{and_parts, and_from, not-true, not_from_false
 use Rattle.std.proofs.lemmas.List.{get_or_past, length-map, Sums.sum_by-cons, Sums.sum_by-le, get_or_default, Folds.list_all-map, FromFn.fill_by_all, FromFn.get_or-map-range_with_len, FromFn.length-map-range_with_len}
 use Rattle.council_base.specs.Coalitions.{has, size, without}
 use Rattle.council_base.proofs.Shared.{Digits.has-kept, Digits.has-gone, Lists.filter-both}
-use Rattle.council_game.specs.Votes.{RuleView, Votes, IsVotes, rule_at, wins, minimal, minimal_coalitions, down, weight}
+use Rattle.council_game.specs.Votes.{RuleView, Votes, IsVotes, rule_at, wins, minimal, down, weight}
 use Rattle.council_game.proofs.Shared.{Lists.all-at, Lists.all-of, Lists.all-rules, Meanings.needs-each-member, WinningByPlaces.rule-is}
+use Rattle.council_game.specs.{Game.GameView, Game.IsGame, Game.AreNonemptyCoalitions, Game.votes_of, Votes.minimal_coalitions}
 use Rattle.power_index.specs.Tables.{AreSizeCounts}
-use Rattle.mwc_states.specs.declared.what.What.TheVariants.{Minimal}
+use Rattle.power_index.proofs.Shared.Minimal.{minimal-are-coalitions, minimal-few}
+use Rattle.swings.specs.Swings.{winning_coalitions}
+use Rattle.swings.proofs.Winning.{winning-are-coalitions, winning-few}
+use Rattle.mwc_states.specs.declared.what.What.{What}
+use Rattle.mwc_states.specs.declared.what.What.TheVariants.{Minimal, Winning}
 use Rattle.mwc_states.specs.Inner.Sets.{weigh, meets, without_one, count_sets}
 use Rattle.mwc_states.specs.Inner.States.{completes}
 use Rattle.mwc_states.specs.Inner.Links.{accepts, AreSizesOf}
-use Rattle.mwc_states.specs.Inner.Games.{AreRowsOf}
+use Rattle.mwc_states.specs.Inner.Games.{AreRowsOf, counted_coalitions, is_counted}
 use Rattle.mwc_states.proofs.Masks.{set_of, count-coalitions, weigh-set}
 
 -- ---- a set without one of its members
@@ -84,7 +89,7 @@ module _ (v : Votes) (members : List (List ℕ)) (need : List ℕ) (game : IsVot
       λ i lt. (λ k. leb (rows.quotas i k) (weigh-set members (rule_at v.rules i).weights i n c rows.long (rule-is v i game lt).full (λ p below. rows.weights p i below) k)) in
       sym (all-past t (length v.rules) 4 game.few_rules past ∙ all-rules (λ r. leb r.quota (weight r.weights c)) t v.rules same)
 
-  pub minimal-completes : (c : ℕ) → minimal v c ≡ completes Minimal members (need ∷ []) (set_of n c)
+  minimal-completes : (c : ℕ) → minimal v c ≡ completes Minimal members (need ∷ []) (set_of n c)
   unfolding completes
   minimal-completes c =
       let f : List Bool → Bool = λ less. not (meets (weigh members less) need) in
@@ -107,6 +112,11 @@ module _ (v : Votes) (members : List (List ℕ)) (need : List ℕ) (game : IsVot
             ∙ each-less f (set_of n c) inner.0 p (omega (arith, lt, long-set n c)) (set-at n c p lt ∙ inside)),
       ))
 
+  counted-completes : (what : What) (c : ℕ) → is_counted what v c ≡ completes what members (need ∷ []) (set_of n c)
+  unfolding completes
+  counted-completes Minimal c = minimal-completes c
+  counted-completes Winning c = grind (arith, nat_tests, wins-meets c)
+
   -- what all members weigh together under a rule
   pub light : (r : ℕ) → sum_by (λ member. get_or member r 0) members ≤ 40000000000000
   light r = elim (cases_lt r (length v.rules)) [
@@ -127,18 +137,28 @@ module _ (v : Votes) (members : List (List ℕ)) (need : List ℕ) (game : IsVot
     )
   ]
 
-  -- how many minimal winning coalitions pass a test, from how many sets that a graph accepts do
-  pub sizes-are : (levels : List (List (List ℕ))) (test : List Bool → Bool) (p : ℕ → Bool) (sizes : List ℕ) → length levels ≡ n
-      → ((xs : List Bool) → length xs ≡ n → accepts levels 2 xs ≡ completes Minimal members (need ∷ []) xs)
-      → ((c : ℕ) → test (set_of n c) ≡ p c) → AreSizesOf levels test sizes → AreSizeCounts n p (minimal_coalitions v) sizes
-  unfolding minimal_coalitions
-  sizes-are levels test p sizes long same tests are = record {
+  -- how many of the coalitions that are counted pass a test, from how many sets that a graph accepts do
+  pub sizes-are : (what : What) (levels : List (List (List ℕ))) (test : List Bool → Bool) (p : ℕ → Bool) (sizes : List ℕ) → length levels ≡ n
+      → ((xs : List Bool) → length xs ≡ n → accepts levels 2 xs ≡ completes what members (need ∷ []) xs)
+      → ((c : ℕ) → test (set_of n c) ≡ p c) → AreSizesOf levels test sizes → AreSizeCounts n p (counted_coalitions what v) sizes
+  sizes-are what levels test p sizes long same tests are = record {
     long = are.long;
     each = λ s small.
         let test_of : List Bool → Bool = λ xs. test xs && accepts levels 2 xs in
-        let both : (c : ℕ) → (test_of (set_of n c) && (size n c == s)) ≡ (minimal v c && (p c && (size n c == s))) =
-        λ c. grind (arith, nat_tests, tests c, same (set_of n c) (long-set n c), minimal-completes c) in
+        let both : (c : ℕ) → (test_of (set_of n c) && (size n c == s)) ≡ (is_counted what v c && (p c && (size n c == s))) =
+        λ c. grind (arith, nat_tests, tests c, same (set_of n c) (long-set n c), counted-completes what c) in
         are.each s small ∙ ap (λ (k : ℕ). count_sets k test_of s) long ∙ count-coalitions n test_of s
         ∙ (λ i. length (filter (λ c. both c i) (down (2 ^ n))))
-        ∙ ap (λ (l : List ℕ). length l) (sym (filter-both (minimal v) (λ c. p c && (size n c == s)) (down (2 ^ n))));
+        ∙ ap (λ (l : List ℕ). length l) (sym (filter-both (is_counted what v) (λ c. p c && (size n c == s)) (down (2 ^ n))));
   }
+
+-- ---- they can be counted
+pub counted-few : (what : What) (g : GameView) → IsGame g → length (counted_coalitions what (votes_of g)) ≤ 2 ^ 40
+unfolding minimal_coalitions winning_coalitions
+counted-few Minimal g game = minimal-few g game
+counted-few Winning g game = winning-few g game
+
+pub counted-nonempty : (what : What) (g : GameView) → IsGame g → AreNonemptyCoalitions g (counted_coalitions what (votes_of g))
+unfolding minimal_coalitions winning_coalitions
+counted-nonempty Minimal g game = minimal-are-coalitions g game
+counted-nonempty Winning g game = winning-are-coalitions g game

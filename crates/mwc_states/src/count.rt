@@ -2,17 +2,19 @@
 ghost use Rattle.std.specs.Prelude.{◌≡◌, ◌<◌, ℕ, [], IfOk, IfSome, length, slice_index, slice_index_or};
 ghost use Rattle.council_game.specs.Game.{votes_of};
 ghost use Rattle.council_game.specs.Votes.{rule_at};
-ghost use Rattle.mwc_states.specs.Inner.Games.{AreRowsOf};
+ghost use Rattle.mwc_states.specs.Inner.Games.{AreCountsOf, AreRowsOf, counted_coalitions};
 ghost use Rattle.power_index.specs.Tables.{AreCountsOfGame};
+ghost use Rattle.swings.specs.Swings.{AreWinningCounts};
 
 use crate::graph::build;
 use crate::row::Row;
-use crate::set_counts::count;
+use crate::set_counts::{SetCounts, count};
 use crate::what::What;
 use council_base::{Gate, Memory, limits};
 use council_game::Game;
 use power_index::Counts;
 use std::alloc::Global;
+use swings::Swings;
 
 /// Returns the weights of the member of a rank place.
 fn weights_at(game: &Game, place: usize) -> Row
@@ -53,6 +55,26 @@ fn members(alloc: Global, game: &Game) -> Result<Vec<Row>, Memory>
     Ok(rows)
 }
 
+/// Counts the coalitions of a game that are minimal winning, or those that win.
+fn count_sets<G: Gate>(
+    alloc: Global,
+    game: &Game,
+    what: What,
+    room: usize,
+    gate: &G,
+) -> Result<Option<Box<SetCounts>>, Memory>
+    ensures { IfOk result (λ o. IfSome o (λ counts.
+        AreCountsOf game.now (counted_coalitions what (votes_of game.now)) counts.value)) }
+{
+    game.was_checked();
+    let members = members(alloc, game)?;
+    let need = quotas(game);
+    let Some(levels) = build(alloc, what, &members, &need, game.rules(), room, gate)? else {
+        return Ok(None);
+    };
+    Ok(Some(count(alloc, &levels)?))
+}
+
 /// Counts the minimal winning coalitions of a game by states.
 ///
 /// The members are decided by rank place, so put those first who contribute more
@@ -70,21 +92,30 @@ pub fn count_by_states<G: Gate>(
 ) -> Result<Option<Box<Counts>>, Memory>
     ensures { IfOk result (λ o. IfSome o (λ counts. AreCountsOfGame game.now counts.value)) }
 {
-    game.was_checked();
-    let members = members(alloc, game)?;
-    let need = quotas(game);
-    let Some(levels) = build(
-        alloc,
-        What::Minimal,
-        &members,
-        &need,
-        game.rules(),
-        room,
-        gate,
-    )?
-    else {
+    let Some(counts) = count_sets(alloc, game, What::Minimal, room, gate)? else {
         return Ok(None);
     };
-    let counts = count(alloc, &levels)?;
     Ok(Some(Box::new(alloc, Counts::of_sizes(game, counts.all, counts.each))?))
+}
+
+/// Counts the swings of a game's members by states.
+///
+/// It counts the winning coalitions, for the same `room` and gate as `count_by_states`.
+///
+/// # Errors
+///
+/// Returns `Memory` if an allocation was refused.
+pub fn count_swings<G: Gate>(
+    alloc: Global,
+    game: &Game,
+    room: usize,
+    gate: &G,
+) -> Result<Option<Swings>, Memory>
+    ensures { IfOk result (λ o. IfSome o (λ swings. AreWinningCounts game.now swings)) }
+{
+    let Some(counts) = count_sets(alloc, game, What::Winning, room, gate)? else {
+        return Ok(None);
+    };
+    let winning = Box::new(alloc, Counts::of_sizes(game, counts.all, counts.each))?;
+    Ok(Some(Swings::of(game, winning)))
 }

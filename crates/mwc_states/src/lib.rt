@@ -1,4 +1,4 @@
-//! Counts the minimal winning coalitions of a game by one graph of states.
+//! Counts the minimal winning coalitions of a game, and its winning ones, by one graph of states.
 #![tactic(auto)]
 
 mod count;
@@ -17,4 +17,4 @@ mod table;
 mod way;
 mod what;
 
-pub use count::count_by_states;
+pub use count::{count_by_states, count_swings};

@@ -1,7 +1,22 @@
--- A game's members and quotas as rows, the members by rank place.
-use Rattle.std.specs.Prelude.{ℕ, ◌≡◌, ◌<◌, ◌≤◌, List, [], length, slice_index, slice_index_or}
-use Rattle.council_base.specs.declared.limits.TheConstants.{RULES}
-use Rattle.council_game.specs.Votes.{RuleView, Votes, rule_at}
+-- A game's members and quotas as rows, the members by rank place; and which coalitions are counted.
+use Rattle.std.specs.Prelude.{ℕ, ◌≡◌, ◌<◌, ◌≤◌, ◌^◌, Bool, true, List, [], length, slice_index, slice_index_or}
+use Rattle.std.specs.List.{filter}
+use Rattle.council_base.specs.declared.limits.TheConstants.{MEMBERS, RULES}
+use Rattle.council_game.specs.Votes.{RuleView, Votes, down, has, minimal, rule_at, wins}
+use Rattle.council_game.specs.Game.{AreNonemptyCoalitions, GameView}
+use Rattle.mwc_states.specs.declared.set_counts.SetCounts.{SetCounts}
+use Rattle.power_index.specs.Tables.{AreSizeCounts}
+use Rattle.mwc_states.specs.declared.what.What.{What}
+use Rattle.mwc_states.specs.declared.what.What.TheVariants.{Minimal, Winning}
+
+-- a coalition is counted
+abbrev pub is_counted : What → Votes → ℕ → Bool
+is_counted Minimal v c = minimal v c
+is_counted Winning v c = wins v.rules c
+
+-- those that are
+abbrev pub counted_coalitions : What → Votes → List ℕ
+counted_coalitions what v = filter (is_counted what v) (down (2 ^ v.members))
 
 -- the weights of each place under each rule, and the quotas; no weight and no quota past the rules
 pub record AreRowsOf (v : Votes) (members : List (List ℕ)) (need : List ℕ) : Type 0 where
@@ -9,6 +24,13 @@ pub record AreRowsOf (v : Votes) (members : List (List ℕ)) (need : List ℕ) :
   pub weights : (p r : ℕ) → p < v.members
       → slice_index (slice_index_or members p []) r ≡ slice_index (rule_at v.rules r).weights p
   pub quotas : (r : ℕ) → slice_index need r ≡ (rule_at v.rules r).quota
+
+-- counts of a list of coalitions of a game, none of them empty: of all, and by rank place
+pub record AreCountsOf (g : GameView) (list : List ℕ) (counts : SetCounts) : Type 0 where
+  pub few : length list ≤ 2 ^ MEMBERS
+  pub coalitions : AreNonemptyCoalitions g list
+  pub all : AreSizeCounts (length g.names) (λ _. true) list counts.all
+  pub each : (p : ℕ) → p < length g.names → AreSizeCounts (length g.names) (has (length g.names) p) list (slice_index_or counts.each p [])
 
 -- a row whose first i numbers are those of a function; the others are 0
 pub record IsFilled (f : ℕ → ℕ) (i : ℕ) (row : List ℕ) : Type 0 where

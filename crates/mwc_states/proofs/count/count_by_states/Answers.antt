@@ -1,41 +1,9 @@
-use Rattle.std.proofs.Common.{◌∙◌, ◌≡◌, ◌<◌, ℕ, Bool, true, List, [], length, map, get_or, refl, sym, ap, arith}
-use Rattle.std.proofs.lemmas.List.{length-map}
-use Rattle.council_game.specs.{Game.votes_of, Votes.has, Votes.minimal_coalitions}
-use Rattle.power_index.specs.Tables.{AreSizeCounts}
-use Rattle.power_index.proofs.Shared.Minimal.{minimal-are-coalitions, minimal-few}
-use Rattle.mwc_states.specs.declared.what.What.TheVariants.{Minimal}
-use Rattle.mwc_states.specs.Inner.Sets.{has as set_has}
-use Rattle.mwc_states.specs.Inner.{Games.AreRowsOf, Graphs.IsGraphOf}
-use Rattle.mwc_states.proofs.Coalitions.{light, sizes-are, set-at}
+use Rattle.std.proofs.Common.{arith}
+use Rattle.council_game.specs.{Game.votes_of, Votes.minimal_coalitions}
 use Rattle.mwc_states.proofs.count.count_by_states.Goals as goal
 
-pub build-requires-clause-light : goal.build-requires-clause-light
-build-requires-clause-light g c =
-    let v = votes_of c.args.game.now in
-    let rows : AreRowsOf v c.in_ok-members.members.items c.quotas-need.result =
-    record { long = c.in_ok-members.ensures.long; weights = c.in_ok-members.ensures.weights; quotas = c.quotas-need.ensures } in
-    λ r lt. rw c.deref.ensures.value (light v c.in_ok-members.members.items c.quotas-need.result c.was_checked.ensures.votes rows r)
-
 pub of_sizes-requires : goal.of_sizes-requires
+unfolding minimal_coalitions
 of_sizes-requires g c =
-    let v = votes_of c.args.game.now in
-    let votes = c.was_checked.ensures.votes in
-    let members = c.in_ok-members.members.items in
-    let need = c.quotas-need.result in
-    let levels = map (λ l. l.items) c.in-Some.levels.items in
-    let rows : AreRowsOf v members need =
-    record { long = c.in_ok-members.ensures.long; weights = c.in_ok-members.ensures.weights; quotas = c.quotas-need.ensures } in
-    let graph : IsGraphOf Minimal members need levels = rw c.deref.ensures.value at (rw c.in-Some.is at c.in_ok-levels.ensures) in
-    let long : length levels ≡ v.members = graph.long ∙ rows.long in
-    let same = λ (xs : List Bool) (full : length xs ≡ v.members). graph.accepts_all xs (full ∙ sym rows.long) in
-    let few : length c.in-Some.levels.items ≡ v.members = sym (length-map c.in-Some.levels.items (λ l. l.items)) ∙ long in
-    let all : AreSizeCounts v.members (λ _. true) (minimal_coalitions v) c.deref-3.result.now.all =
-    rw c.deref-3.ensures (sizes-are v members need votes rows levels (λ _. true) (λ _. true) c.in_ok-counts.counts.value.all long same (λ _. refl)
-    (rw c.deref-2.ensures.value at c.in_ok-counts.ensures.all)) in
-    let each : (p : ℕ) → p < v.members → AreSizeCounts v.members (has v.members p) (minimal_coalitions v) (get_or c.deref-4.result.now.each p []) =
-    λ p lt. rw c.deref-4.ensures (sizes-are v members need votes rows levels (set_has p) (has v.members p) (get_or c.in_ok-counts.counts.value.each p []) long
-    same (λ m. set-at v.members m p lt)
-    (rw c.deref-2.ensures.value at (c.in_ok-counts.ensures.each p (omega (arith, lt, few, ap length c.deref-2.ensures.value))))) in (
-      minimal-few c.args.game.now c.was_checked.ensures.game,
-      (minimal-are-coalitions c.args.game.now c.was_checked.ensures.game, (all, each)),
-    )
+    let are = rw c.in-Some.is at c.in_ok-counts.ensures in
+    (are.few, (are.coalitions, (rw c.deref.ensures are.all, λ p lt. rw c.deref-2.ensures (are.each p lt))))

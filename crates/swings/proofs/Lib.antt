@@ -1,0 +1,6 @@
+mod Bounds
+mod Counts
+mod Flips
+mod Orders
+mod Shares
+pub mod Winning

@@ -1,0 +1,27 @@
+//! Laws of swings: what the definitions say, with nothing to run.
+ghost use Rattle.council_game.specs.Game.{GameView, IsGame};
+ghost use Rattle.council_game.specs.Members.{members};
+ghost use Rattle.std.specs.Prelude.{◌≡◌, ◌<◌, ◌≤◌, ◌+◌, ◌^◌, ℕ, length, sum_by};
+ghost use Rattle.swings.specs.Indices.{shapley_shubik};
+ghost use Rattle.swings.specs.Swings.{all_swings, swings, winning_coalitions};
+
+/// Some member has a swing.
+pub fn some_member_has_a_swing()
+    ensures { (g : GameView) → IsGame g → 0 < all_swings g }
+{}
+
+/// A member has at most as many swings as there are winning coalitions, and as losing ones.
+pub fn swings_are_winning_and_leave_losing_coalitions()
+    ensures winning { (g : GameView) (i : ℕ) → IsGame g → i < length g.names
+        → swings g i ≤ length (winning_coalitions g) }
+    ensures losing { (g : GameView) (i : ℕ) → IsGame g → i < length g.names
+        → swings g i + length (winning_coalitions g) ≤ 2 ^ length g.names }
+{}
+
+/// The Shapley-Shubik indices of all members add up to 1.
+///
+/// All have the bottom n!, and their tops add up to it.
+pub fn shapley_shubik_adds_up()
+    ensures { (g : GameView) (i : ℕ) → IsGame g
+        → sum_by (λ j. (shapley_shubik g j).0) (members g) ≡ (shapley_shubik g i).1 }
+{}
