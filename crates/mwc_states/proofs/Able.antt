@@ -1,10 +1,9 @@
 -- Members that a minimal set may have.
-use Rattle.std.proofs.Common.{◌≡◌, ◌∙◌, ℕ, ◌+◌, ◌-◌, ◌≤◌, Bool, true, false, not, ◌&&◌, cond, ltb, List, [], ◌∷◌, get_or}
-use Rattle.std.proofs.Common.{ap, sym, arith, zero-add, add_assoc}
-use Rattle.std.specs.List.{list_all, range_with_len}
+use Rattle.std.proofs.Common.{◌≡◌, ◌∙◌, ℕ, ◌+◌, ◌≤◌, Bool, true, false, not, cond, List, [], ◌∷◌, get_or}
+use Rattle.std.proofs.Common.{sym, arith, zero-add}
+use Rattle.std.specs.List.{list_all}
 use Rattle.std.proofs.lemmas.{Bool.and_parts, Bool.cond-true, Bool.cond_both, Bool.both_ways, Bool.false_from_ne_true, Bool.true_from_ne_false, Bool.not-true, Bool.Decides.nat_tests}
 use Rattle.std.proofs.lemmas.{List.Folds.list_all-map, List.Folds.list_any_at, List.FromFn.get_or-range_with_len, List.Sums.sum_by-cons}
-use Rattle.council_base.specs.declared.limits.TheConstants.{RULES}
 use Rattle.mwc_states.specs.declared.what.What.TheVariants.{Minimal}
 use Rattle.mwc_states.specs.{Inner.Sets.weigh, Inner.Sets.meets, Inner.Sets.without_one, Inner.States.needs_each, Inner.Later.fits, Inner.Later.is_able, Inner.Later.weigh_able}
 use Rattle.mwc_states.proofs.{Meeting.Reaches, Meeting.reach, Meeting.reached}
@@ -35,7 +34,7 @@ within-able need row (member ∷ members) (true ∷ set) others each meets_need 
     let apart = and_parts _ _ each in
     let without : ℕ → ℕ = λ r. others r + weigh members set r in
     let one : list_all (λ less. not (meets (λ r. others r + get_or member r 0 + weigh members less r) need)) (without_one set) ≡ true =
-        grind (arith, list_all-map) in
+    grind (arith, list_all-map) in
     let able : is_able need row member ≡ true = true_from_ne_false _ (λ e. both_ways _ (not-true _ apart.0)
     (reached without need (spared need row member without e (λ k lt. omega (arith, meets_need k lt)) (λ k lt. omega (arith, meets_row k lt))))) in
     let rest = within-able need row members set (λ r. others r + get_or member r 0) one

@@ -1,8 +1,6 @@
 -- The graph, one level after the other.
 use Rattle.std.proofs.Common.{◌≡◌, ◌∙◌, ℕ, zero, suc, ◌+◌, ◌^◌, ◌<◌, ◌≤◌, Bool, List, [], ◌∷◌, ◌++◌, length, get_or, sym, ap, refl}
-use Rattle.std.proofs.Common.{arith, inl, inr, length-append, append_assoc, append-nil, drop, drop-cons, cond, length-drop, add-one}
-use Rattle.std.proofs.lemmas.{Bool.cases_eq, Bool.cases_lt, List.get_or_append_left, List.get_or_past}
-use Rattle.std.proofs.Math.Seq.{get_or-append_seam}
+use Rattle.std.proofs.Common.{arith, append_assoc, append-nil, drop, drop-cons, cond, length-drop, add-one}
 use Rattle.mwc_states.specs.declared.what.What.{What}
 use Rattle.mwc_states.specs.Inner.Links.{accepts, states_at}
 use Rattle.mwc_states.specs.Inner.Tables.{IsIn, IsLevel, completes_link}

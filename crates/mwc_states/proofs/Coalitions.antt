@@ -1,10 +1,10 @@
 -- The coalitions of a game that are counted are the sets that complete its quotas; how many of them
 -- pass a test.
 use Rattle.std.proofs.Common.{◌≡◌, ◌∙◌, ℕ, zero, suc, ◌<◌, ◌≤◌, Bool, true, false, not, ◌&&◌, ◌==◌, List, [], ◌∷◌, length, get_or, set}
-use Rattle.std.proofs.Common.{filter, refl, sym, ap, arith, inl, inr, leb, map, sum, sum_by, length-set, get_or-set_same, get_or-set_other, ◌^◌}
+use Rattle.std.proofs.Common.{filter, refl, sym, ap, arith, inl, inr, leb, sum, sum_by, length-set, get_or-set_same, get_or-set_other, ◌^◌}
 use Rattle.std.specs.{List.range_with_len, List.list_all, Cmp.both_ways as same_test}
 use Rattle.std.proofs.lemmas.Bool.{and_parts, and_from, not-true, not_from_false, cases_eq, cases_lt, Decides.nat_tests}
-use Rattle.std.proofs.lemmas.List.{get_or_past, length-map, Sums.sum_by-cons, Sums.sum_by-le, get_or_default, Folds.list_all-map, FromFn.fill_by_all, FromFn.get_or-map-range_with_len, FromFn.length-map-range_with_len}
+use Rattle.std.proofs.lemmas.List.{get_or_past, Sums.sum_by-cons, Sums.sum_by-le, get_or_default, Folds.list_all-map, FromFn.fill_by_all, FromFn.get_or-map-range_with_len, FromFn.length-map-range_with_len}
 use Rattle.council_base.specs.Coalitions.{has, size, without}
 use Rattle.council_base.proofs.Shared.{Digits.has-kept, Digits.has-gone, Lists.filter-both}
 use Rattle.council_game.specs.Votes.{RuleView, Votes, IsVotes, rule_at, wins, minimal, down, weight}

@@ -1,9 +1,8 @@
 -- Weights that meet rows.
-use Rattle.std.proofs.Common.{◌≡◌, ◌∙◌, ℕ, ◌-◌, ◌<◌, ◌≤◌, Bool, true, false, cond, leb, List, [], ◌∷◌, length, get_or, max}
-use Rattle.std.proofs.Common.{sum_by, ap, sym, refl, subst, arith, zero-add}
-use Rattle.std.specs.List.{range_with_len}
+use Rattle.std.proofs.Common.{◌≡◌, ℕ, ◌-◌, ◌<◌, ◌≤◌, Bool, true, false, cond, List, [], ◌∷◌, length, get_or, max}
+use Rattle.std.proofs.Common.{sum_by, refl, arith, zero-add}
 use Rattle.std.proofs.lemmas.{Bool.leb-true, Bool.le-leb, Bool.Decides.same_from_decides}
-use Rattle.std.proofs.lemmas.{List.FromFn.get_or-range_with_len, List.Sums.AllPass-from_list_all, List.Sums.list_all-from_AllPass, List.Sums.sum_by-cons, List.nil_from_length}
+use Rattle.std.proofs.lemmas.{List.FromFn.get_or-range_with_len, List.Sums.list_all-from_AllPass, List.Sums.sum_by-cons, List.nil_from_length}
 use Rattle.council_base.specs.declared.limits.TheConstants.{RULES}
 use Rattle.mwc_states.specs.Inner.Sets.{weigh, meets}
 

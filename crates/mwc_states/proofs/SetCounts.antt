@@ -1,5 +1,5 @@
 -- How many sets pass a test, by size.
-use Rattle.mwc_states.proofs.Imports.{◌≡◌, ◌∙◌, ℕ, zero, suc, ◌+◌, ◌-◌, ◌*◌, ◌^◌, ◌<◌, ◌≤◌, Bool, true, false, cond, List, [], ◌∷◌, refl, sym, ap, arith, nat_tests, later, cases_lt, ◌⊎◌}
+use Rattle.mwc_states.proofs.Imports.{◌≡◌, ◌∙◌, ℕ, zero, suc, ◌+◌, ◌-◌, ◌*◌, ◌^◌, ◌<◌, ◌≤◌, Bool, true, false, List, ◌∷◌, refl, sym, ap, arith, nat_tests, later, cases_lt, ◌⊎◌}
 use Rattle.std.proofs.Common.{inl, inr}
 unfoldable use Rattle.mwc_states.specs.Inner.Sets.{count_sets}
 

@@ -1,4 +1,4 @@
-use Rattle.std.proofs.Common.{◌∙◌, ◌≡◌, ◌<◌, ℕ, Bool, true, List, [], length, map, get_or, refl, sym, ap, arith}
+use Rattle.std.proofs.Common.{◌∙◌, ◌≡◌, Bool, true, List, [], length, map, get_or, refl, sym, ap, arith}
 use Rattle.std.proofs.lemmas.List.{length-map}
 use Rattle.council_game.specs.{Game.votes_of, Votes.has}
 use Rattle.mwc_states.specs.Inner.Sets.{has as set_has}

@@ -1,4 +1,3 @@
-use Rattle.std.proofs.Common.{arith}
 use Rattle.swings.specs.Swings.{winning_coalitions}
 use Rattle.mwc_states.proofs.count.count_swings.Goals as goal
 

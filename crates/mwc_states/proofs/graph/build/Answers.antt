@@ -1,4 +1,4 @@
-use Rattle.std.proofs.Common.{◌∙◌, ◌+◌, ◌^◌, ◌≤◌, ℕ, List, [], drop, length, get_or, sum_by, ap, arith, refl}
+use Rattle.std.proofs.Common.{◌∙◌, ◌+◌, ℕ, List, [], drop, length, get_or, sum_by, ap, arith}
 use Rattle.std.proofs.lemmas.List.{map-append, take_rest, Sums.sum_by-take-drop}
 use Rattle.mwc_states.specs.Inner.Tables.{IsLevel}
 use Rattle.mwc_states.proofs.Building.{built-none, built-more, built-all}

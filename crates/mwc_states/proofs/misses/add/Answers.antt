@@ -1,6 +1,5 @@
 use Rattle.std.proofs.Common.{arith}
-use Rattle.std.proofs.Common.{◌∙◌, ◌&&◌, not, get_or, ap, sym, rules, tests}
-use Rattle.std.specs.List.{list_any}
+use Rattle.std.proofs.Common.{◌∙◌, ◌&&◌, not, get_or, ap, rules, tests}
 use Rattle.std.proofs.lemmas.{Fn.filter_same}
 use Rattle.mwc_states.specs.Inner.Sets.{meets}
 use Rattle.mwc_states.specs.Inner.Later.{misses_all}

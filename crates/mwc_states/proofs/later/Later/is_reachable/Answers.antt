@@ -1,5 +1,5 @@
 use Rattle.std.proofs.Common.{arith}
-use Rattle.std.proofs.Common.{◌∙◌, sym}
+use Rattle.std.proofs.Common.{◌∙◌}
 use Rattle.mwc_states.proofs.Meeting.{meets-total, none-needed}
 use Rattle.mwc_states.proofs.later.Later.is_reachable.Goals as goal
 
