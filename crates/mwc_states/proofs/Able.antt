@@ -1,12 +1,11 @@
 -- Members that a minimal set may have.
-use Rattle.std.proofs.Common.{◌≡◌, ◌∙◌, ℕ, ◌+◌, ◌≤◌, Bool, true, false, not, cond, List, [], ◌∷◌, get_or}
-use Rattle.std.proofs.Common.{sym, arith, zero-add}
-use Rattle.std.specs.List.{list_all}
-use Rattle.std.proofs.lemmas.{Bool.and_parts, Bool.cond-true, Bool.cond_both, Bool.both_ways, Bool.false_from_ne_true, Bool.true_from_ne_false, Bool.not-true, Bool.Decides.nat_tests}
-use Rattle.std.proofs.lemmas.{List.Folds.list_all-map, List.Folds.list_any_at, List.FromFn.get_or-range_with_len, List.Sums.sum_by-cons}
-use Rattle.mwc_states.specs.declared.what.What.TheVariants.{Minimal}
-use Rattle.mwc_states.specs.{Inner.Sets.weigh, Inner.Sets.meets, Inner.Sets.without_one, Inner.States.needs_each, Inner.Later.fits, Inner.Later.is_able, Inner.Later.weigh_able}
-use Rattle.mwc_states.proofs.{Meeting.Reaches, Meeting.reach, Meeting.reached}
+use Rattle.mwc_states.proofs.Imports.{list_all, and_parts, both_ways, not-true, nat_tests, list_all-map, get_or-range_with_len, sum_by-cons}
+use Rattle.mwc_states.proofs.Imports.{◌≡◌, ◌∙◌, ℕ, ◌+◌, ◌≤◌, Bool, true, false, not, cond, List, [], ◌∷◌, get_or, sym, arith, zero-add}
+use Rattle.mwc_states.proofs.Imports.{Minimal, weigh, meets, without_one, needs_each, fits, weigh_able}
+use Rattle.std.proofs.lemmas.Bool.{cond-true, cond_both, false_from_ne_true, true_from_ne_false}
+use Rattle.std.proofs.lemmas.List.Folds.{list_any_at}
+use Rattle.mwc_states.specs.Inner.Later.{is_able}
+use Rattle.mwc_states.proofs.Meeting.{Reaches, reach, reached}
 
 -- without a member that is not able, the others meet the need
 spared : (need row member : List ℕ) (others : ℕ → ℕ) → is_able need row member ≡ false

@@ -1,13 +1,10 @@
 -- The graph, one level after the other.
-use Rattle.std.proofs.Common.{◌≡◌, ◌∙◌, ℕ, zero, suc, ◌+◌, ◌^◌, ◌<◌, ◌≤◌, Bool, List, [], ◌∷◌, ◌++◌, length, get_or, sym, ap, refl}
-use Rattle.std.proofs.Common.{arith, append_assoc, append-nil, drop, drop-cons, cond, length-drop, add-one}
-use Rattle.mwc_states.specs.declared.what.What.{What}
-use Rattle.mwc_states.specs.Inner.Links.{accepts, states_at}
-use Rattle.mwc_states.specs.Inner.Tables.{IsIn, IsLevel, completes_link}
-use Rattle.mwc_states.specs.Inner.Sets.{is_empty}
+use Rattle.mwc_states.proofs.Imports.{◌≡◌, ◌∙◌, ℕ, zero, suc, ◌+◌, ◌^◌, ◌<◌, ◌≤◌, Bool, List, [], ◌∷◌, ◌++◌, length, get_or, sym, ap, refl}
+use Rattle.mwc_states.proofs.Imports.{arith, drop, drop-cons, cond, length-drop, What, accepts, states_at, IsIn, IsLevel, completes_link}
+use Rattle.mwc_states.proofs.Imports.{is_empty, link_at, IsBuilding, IsGraphOf}
+use Rattle.std.proofs.Common.{append_assoc, append-nil, add-one}
 use Rattle.mwc_states.proofs.Levels.{link-in}
-use Rattle.mwc_states.specs.Inner.Ways.{link_at}
-use Rattle.mwc_states.specs.Inner.Graphs.{Continue, IsBuilding, IsGraphOf}
+use Rattle.mwc_states.specs.Inner.Graphs.{Continue}
 
 abbrev Rows : Type 0
 Rows = List (List ℕ)

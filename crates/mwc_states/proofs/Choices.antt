@@ -1,12 +1,10 @@
 -- What the rows of a level are worth, over the choices that lead to them, and how many sets complete
 -- them.
-use Rattle.mwc_states.proofs.Imports.{◌≡◌, ◌∙◌, ℕ, zero, suc, ◌+◌, ◌-◌, ◌*◌, ◌^◌, ◌<◌, ◌≤◌, ◌==◌, ◌&&◌, Bool, false, cond, leb, ltb, List, [], ◌∷◌, length, drop, get_or, sym, ap, arith, nat_tests, later, sum_below}
-use Rattle.mwc_states.proofs.Imports.{along, link_at, sent_by, step, total, Forward, Backward, cases_lt}
+use Rattle.mwc_states.proofs.Imports.{step, total, Forward, Backward, cases_lt, inl, inr, drop-cons, has, count_sets, accepts, over_choices}
+use Rattle.mwc_states.proofs.Imports.{◌≡◌, ◌∙◌, ℕ, zero, suc, ◌+◌, ◌-◌, ◌*◌, ◌^◌, ◌<◌, ◌≤◌, ◌==◌, ◌&&◌, Bool, false, cond, leb, ltb, List}
+use Rattle.mwc_states.proofs.Imports.{[], ◌∷◌, length, drop, get_or, sym, ap, arith, nat_tests, later, sum_below, along, link_at, sent_by}
 use Rattle.mwc_states.proofs.SizeSums.{sum-alike, sum-one, sum-le, term-le}
-use Rattle.std.proofs.Common.{inl, inr}
-use Rattle.std.proofs.Math.Seq.{drop-cons}
 use Rattle.mwc_states.proofs.SetCounts.{sets-none, sets-few, sets-step}
-use Rattle.mwc_states.specs.Inner.Sets.{has}
 unfoldable use Rattle.mwc_states.specs.Inner.Sets.{count_sets}
 unfoldable use Rattle.mwc_states.specs.Inner.Links.{accepts}
 unfoldable use Rattle.mwc_states.specs.Inner.Counting.{over_choices}

@@ -1,26 +1,24 @@
 -- The coalitions of a game that are counted are the sets that complete its quotas; how many of them
 -- pass a test.
-use Rattle.std.proofs.Common.{◌≡◌, ◌∙◌, ℕ, zero, suc, ◌<◌, ◌≤◌, Bool, true, false, not, ◌&&◌, ◌==◌, List, [], ◌∷◌, length, get_or, set}
-use Rattle.std.proofs.Common.{filter, refl, sym, ap, arith, inl, inr, leb, sum, sum_by, length-set, get_or-set_same, get_or-set_other, ◌^◌}
-use Rattle.std.specs.{List.range_with_len, List.list_all, Cmp.both_ways as same_test}
-use Rattle.std.proofs.lemmas.Bool.{and_parts, and_from, not-true, not_from_false, cases_eq, cases_lt, Decides.nat_tests}
-use Rattle.std.proofs.lemmas.List.{get_or_past, Sums.sum_by-cons, Sums.sum_by-le, get_or_default, Folds.list_all-map, FromFn.fill_by_all, FromFn.get_or-map-range_with_len, FromFn.length-map-range_with_len}
-use Rattle.council_base.specs.Coalitions.{has, size, without}
+use Rattle.mwc_states.proofs.Imports.{winning_coalitions, What, Minimal, Winning, weigh, meets, without_one, count_sets, completes, accepts}
+use Rattle.mwc_states.proofs.Imports.{◌≡◌, ◌∙◌, ℕ, zero, suc, ◌<◌, ◌≤◌, Bool, true, false, not, ◌&&◌, ◌==◌, List, [], ◌∷◌, length, get_or}
+use Rattle.mwc_states.proofs.Imports.{get_or-set_other, ◌^◌, and_parts, not-true, cases_eq, cases_lt, nat_tests, get_or_past, sum_by-cons}
+use Rattle.mwc_states.proofs.Imports.{get_or_default, list_all-map, size, rule_at, down, weight, votes_of, minimal_coalitions}
+use Rattle.mwc_states.proofs.Imports.{set, filter, refl, sym, ap, arith, inl, inr, leb, sum_by, length-set, get_or-set_same}
+use Rattle.mwc_states.proofs.Imports.{AreSizesOf, AreRowsOf}
+use Rattle.std.proofs.lemmas.List.{FromFn.fill_by_all, FromFn.get_or-map-range_with_len, FromFn.length-map-range_with_len, Sums.sum_by-le}
+use Rattle.std.proofs.{Common.sum, lemmas.Bool.and_from, lemmas.Bool.not_from_false}
+use Rattle.council_base.specs.Coalitions.{has, without}
 use Rattle.council_base.proofs.Shared.{Digits.has-kept, Digits.has-gone, Lists.filter-both}
-use Rattle.council_game.specs.Votes.{RuleView, Votes, IsVotes, rule_at, wins, minimal, down, weight}
+use Rattle.council_game.specs.Votes.{RuleView, Votes, IsVotes, wins, minimal}
 use Rattle.council_game.proofs.Shared.{Lists.all-at, Lists.all-of, Lists.all-rules, Meanings.needs-each-member, WinningByPlaces.rule-is}
-use Rattle.council_game.specs.{Game.GameView, Game.IsGame, Game.AreNonemptyCoalitions, Game.votes_of, Votes.minimal_coalitions}
+use Rattle.council_game.specs.Game.{GameView, IsGame, AreNonemptyCoalitions}
 use Rattle.power_index.specs.Tables.{AreSizeCounts}
 use Rattle.power_index.proofs.Shared.Minimal.{minimal-are-coalitions, minimal-few}
-use Rattle.swings.specs.Swings.{winning_coalitions}
 use Rattle.swings.proofs.Winning.{winning-are-coalitions, winning-few}
-use Rattle.mwc_states.specs.declared.what.What.{What}
-use Rattle.mwc_states.specs.declared.what.What.TheVariants.{Minimal, Winning}
-use Rattle.mwc_states.specs.Inner.Sets.{weigh, meets, without_one, count_sets}
-use Rattle.mwc_states.specs.Inner.States.{completes}
-use Rattle.mwc_states.specs.Inner.Links.{accepts, AreSizesOf}
-use Rattle.mwc_states.specs.Inner.Games.{AreRowsOf, counted_coalitions, is_counted}
+use Rattle.mwc_states.specs.Inner.Games.{counted_coalitions, is_counted}
 use Rattle.mwc_states.proofs.Masks.{set_of, count-coalitions, weigh-set}
+use Rattle.std.specs.{List.range_with_len, List.list_all, Cmp.both_ways as same_test}
 
 -- ---- a set without one of its members
 each-less : (f : List Bool → Bool) (xs : List Bool) → list_all f (without_one xs) ≡ true

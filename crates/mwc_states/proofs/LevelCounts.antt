@@ -1,21 +1,16 @@
 -- From level to level of a graph.
-use Rattle.mwc_states.proofs.Imports.{◌≡◌, ◌∙◌, ℕ, zero, suc, ◌+◌, ◌-◌, ◌*◌, ◌^◌, ◌<◌, ◌≤◌, ◌==◌, ◌&&◌, Bool, true, false, cond, ltb, List, [], ◌∷◌, length, drop, get_or, sym, ap, arith, nat_tests, later, sum_below, pow_mono, cases_lt}
-use Rattle.mwc_states.proofs.Imports.{CanGo, HaveAllRoom, along, link_at, step, total, Forward, Backward, EndBy, range_at, count_at}
-use Rattle.mwc_states.specs.declared.size_rows.SizeRows.{SizeRows}
-use Rattle.mwc_states.specs.Inner.Sets.{has}
-unfoldable use Rattle.mwc_states.specs.Inner.Sets.{count_sets}
-use Rattle.mwc_states.specs.Inner.Links.{IsGraph, states_at}
-unfoldable use Rattle.mwc_states.specs.Inner.Links.{accepts}
-use Rattle.mwc_states.specs.Inner.Counting.{AreLeading, AreCompleting, with_member}
-unfoldable use Rattle.mwc_states.specs.Inner.Counting.{over_choices}
+use Rattle.mwc_states.proofs.Imports.{◌≡◌, ◌∙◌, ℕ, zero, suc, ◌+◌, ◌-◌, ◌*◌, ◌^◌, ◌<◌, ◌≤◌, ◌==◌, ◌&&◌, Bool, true, false, cond, ltb, List}
+use Rattle.mwc_states.proofs.Imports.{[], ◌∷◌, length, drop, get_or, sym, ap, arith, nat_tests, later, sum_below, cases_lt, along, link_at}
+use Rattle.mwc_states.proofs.Imports.{step, total, Forward, Backward, EndBy, range_at, count_at, SizeRows, has, count_sets, states_at}
+use Rattle.mwc_states.proofs.Imports.{accepts, AreLeading, AreCompleting, over_choices, drop-cons, get_or_past, drop_all, get_or-map}
+use Rattle.mwc_states.proofs.Imports.{length-map, get_or_append_left, get_or_push, map, ◌++◌, subst, inl, inr}
+use Rattle.std.proofs.Common.{pow_mono, Vec, Global}
+use Rattle.mwc_states.specs.Inner.{Counting.with_member, Links.IsGraph, Ways.CanGo, Ways.HaveAllRoom}
 use Rattle.mwc_states.proofs.Choices.{choices-few, choices-sets, complete-all, complete-few, with-sets, along-few, later-alike}
-use Rattle.mwc_states.proofs.SetCounts.{sets-few}
-use Rattle.mwc_states.proofs.SizeSums.{sum-alike, sum-one}
-use Rattle.mwc_states.proofs.Totals.{total-along}
-use Rattle.mwc_states.proofs.SizeRows.{count-past}
-use Rattle.std.proofs.Math.Seq.{drop-cons}
-use Rattle.std.proofs.lemmas.List.{get_or_past, drop_all, get_or-map, length-map, get_or_append_left, get_or_push}
-use Rattle.std.proofs.Common.{Vec, Global, map, ◌++◌, subst, inl, inr}
+use Rattle.mwc_states.proofs.{SetCounts.sets-few, SizeRows.count-past, SizeSums.sum-alike, SizeSums.sum-one, Totals.total-along}
+unfoldable use Rattle.mwc_states.specs.Inner.Sets.{count_sets}
+unfoldable use Rattle.mwc_states.specs.Inner.Links.{accepts}
+unfoldable use Rattle.mwc_states.specs.Inner.Counting.{over_choices}
 
 -- ---- a level
 abbrev pub links_of : List (Vec (List ℕ) Global) → List (List (List ℕ))

@@ -1,12 +1,8 @@
 -- Levels: links, while the table of the next level grows.
-use Rattle.std.proofs.Common.{◌≡◌, ◌∙◌, ℕ, zero, suc, ◌+◌, ◌<◌, Bool, true, false, cond, List, [], ◌∷◌, ◌++◌, length, get_or, sym, ap, refl}
-use Rattle.std.proofs.Common.{arith, inl, inr, length-append}
-use Rattle.std.proofs.lemmas.{Bool.cases_lt, Bool.cases_eq, List.get_or_append_left, List.get_or_past, List.get_or_push}
-use Rattle.mwc_states.specs.declared.what.What.{What}
-use Rattle.mwc_states.specs.Inner.Sets.{is_empty}
-use Rattle.mwc_states.specs.Inner.States.{completes}
-use Rattle.mwc_states.specs.Inner.Tables.{Grows, IsIn, IsLevel, Leads, completes_link}
-use Rattle.mwc_states.specs.Inner.Ways.{link_at}
+use Rattle.mwc_states.proofs.Imports.{◌≡◌, ◌∙◌, ℕ, zero, suc, ◌+◌, ◌<◌, Bool, true, false, cond, List, [], ◌∷◌, ◌++◌, length, get_or, sym}
+use Rattle.mwc_states.proofs.Imports.{ap, refl, arith, inl, inr, length-append, cases_lt, cases_eq, get_or_append_left, get_or_past}
+use Rattle.mwc_states.proofs.Imports.{get_or_push, What, is_empty, completes, Grows, IsIn, IsLevel, completes_link, link_at}
+use Rattle.mwc_states.specs.Inner.Tables.{Leads}
 
 abbrev Rows : Type 0
 Rows = List (List ℕ)

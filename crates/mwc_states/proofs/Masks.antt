@@ -1,12 +1,11 @@
 -- Coalitions, which are numbers, as sets: how many of them pass a test, and what they weigh.
-use Rattle.std.proofs.Common.{◌≡◌, ◌∙◌, ℕ, zero, suc, ◌+◌, ◌^◌, ◌<◌, Bool, true, false, ◌&&◌, ◌==◌, cond, List, [], ◌∷◌, length, get_or, map}
-use Rattle.std.proofs.Common.{filter, sum_by, refl, sym, ap, arith}
+use Rattle.mwc_states.proofs.Imports.{get_or, map, filter, sum_by, refl, sym, ap, arith, nat_tests, sum_by-cons, size, down, weight, weigh}
+use Rattle.mwc_states.proofs.Imports.{◌≡◌, ◌∙◌, ℕ, zero, suc, ◌+◌, ◌^◌, ◌<◌, Bool, true, false, ◌&&◌, ◌==◌, cond, List, [], ◌∷◌, length}
+use Rattle.mwc_states.proofs.Imports.{count_sets}
 use Rattle.std.specs.List.{range_with_len}
-use Rattle.std.proofs.lemmas.{Bool.Decides.nat_tests, List.Sums.length-filter, List.Sums.sum_by-cons}
-use Rattle.council_base.specs.Coalitions.{has, size}
-use Rattle.council_game.specs.Votes.{down, weight}
+use Rattle.std.proofs.lemmas.List.Sums.{length-filter}
+use Rattle.council_base.specs.Coalitions.{has}
 use Rattle.council_game.proofs.Shared.Sets.{double-pow, first-in, first-out, rest-in, rest-out, sum-down, sum-none}
-use Rattle.mwc_states.specs.Inner.Sets.{weigh, count_sets}
 
 -- the set of a coalition of n members, member by member
 abbrev pub set_of : ℕ → ℕ → List Bool

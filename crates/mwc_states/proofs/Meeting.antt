@@ -1,10 +1,8 @@
 -- Weights that meet rows.
-use Rattle.std.proofs.Common.{◌≡◌, ℕ, ◌-◌, ◌<◌, ◌≤◌, Bool, true, false, cond, List, [], ◌∷◌, length, get_or, max}
-use Rattle.std.proofs.Common.{sum_by, refl, arith, zero-add}
-use Rattle.std.proofs.lemmas.{Bool.leb-true, Bool.le-leb, Bool.Decides.same_from_decides}
-use Rattle.std.proofs.lemmas.{List.FromFn.get_or-range_with_len, List.Sums.list_all-from_AllPass, List.Sums.sum_by-cons, List.nil_from_length}
-use Rattle.council_base.specs.declared.limits.TheConstants.{RULES}
-use Rattle.mwc_states.specs.Inner.Sets.{weigh, meets}
+use Rattle.mwc_states.proofs.Imports.{◌≡◌, ℕ, ◌-◌, ◌<◌, ◌≤◌, Bool, true, false, cond, List, [], ◌∷◌, length, get_or, max, sum_by, refl}
+use Rattle.mwc_states.proofs.Imports.{arith, zero-add, get_or-range_with_len, sum_by-cons, RULES, weigh, meets}
+use Rattle.std.proofs.lemmas.{Bool.Decides.same_from_decides, List.nil_from_length, List.Sums.list_all-from_AllPass}
+use Rattle.std.proofs.Common.{leb-true, le-leb}
 
 -- weights are at least as great as a row under each rule
 abbrev pub Reaches : (ℕ → ℕ) → List ℕ → Type 0

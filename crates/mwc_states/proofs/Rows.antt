@@ -1,6 +1,6 @@
 -- Rows that a loop makes, rule by rule.
-use Rattle.std.proofs.Common.{◌≡◌, ℕ, ◌+◌, ◌<◌, ◌≤◌, List, length, get_or, set, arith, get_or-set_same, get_or-set_other, length-set}
-use Rattle.council_base.specs.declared.limits.TheConstants.{RULES}
+use Rattle.mwc_states.proofs.Imports.{◌≡◌, ℕ, ◌+◌, ◌<◌, ◌≤◌, List, length, get_or, set, arith, get_or-set_same, get_or-set_other}
+use Rattle.mwc_states.proofs.Imports.{length-set, RULES}
 
 -- new has what f says under the first n rules, and what old has under the others
 abbrev pub IsMadeUntil : ℕ → (ℕ → ℕ) → List ℕ → List ℕ → Type 0

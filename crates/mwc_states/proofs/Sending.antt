@@ -1,6 +1,7 @@
 -- What comes to the rows along the links of a level.
-use Rattle.mwc_states.proofs.Imports.{◌≡◌, ℕ, ◌+◌, ◌<◌, ◌==◌, cond, List, length, arith, nat_tests, later}
-use Rattle.mwc_states.proofs.Imports.{Way, link_at, sent, sent_by, source, target}
+use Rattle.mwc_states.proofs.Imports.{◌≡◌, ℕ, ◌+◌, ◌<◌, ◌==◌, cond, List, length, arith, nat_tests, later, link_at, sent, sent_by, source}
+use Rattle.mwc_states.proofs.Imports.{target}
+use Rattle.mwc_states.specs.declared.way.Way.{Way}
 use Rattle.mwc_states.proofs.SizeSums.{sum-more, sum-fewer}
 
 module _ (way : Way) (choice : ℕ) (links : List (List ℕ)) (counts : ℕ → ℕ → ℕ) (n row from : ℕ)

@@ -1,6 +1,6 @@
 -- How many sets pass a test, by size.
-use Rattle.mwc_states.proofs.Imports.{◌≡◌, ◌∙◌, ℕ, zero, suc, ◌+◌, ◌-◌, ◌*◌, ◌^◌, ◌<◌, ◌≤◌, Bool, true, false, List, ◌∷◌, refl, sym, ap, arith, nat_tests, later, cases_lt, ◌⊎◌}
-use Rattle.std.proofs.Common.{inl, inr}
+use Rattle.mwc_states.proofs.Imports.{◌≡◌, ◌∙◌, ℕ, zero, suc, ◌+◌, ◌-◌, ◌*◌, ◌^◌, ◌<◌, ◌≤◌, Bool, true, false, List, ◌∷◌, refl, sym, ap}
+use Rattle.mwc_states.proofs.Imports.{arith, nat_tests, later, cases_lt, ◌⊎◌, inl, inr, count_sets}
 unfoldable use Rattle.mwc_states.specs.Inner.Sets.{count_sets}
 
 pub sets-none : (n s : ℕ) → count_sets n (λ set. false) s ≡ 0

@@ -1,9 +1,10 @@
 -- Rows of counts: what is read, and what is added.
-use Rattle.mwc_states.proofs.Imports.{◌≡◌, ◌∙◌, ◌⊎◌, ℕ, ◌+◌, ◌-◌, ◌*◌, ◌<◌, ◌≤◌, ◌==◌, ◌&&◌, cond, leb, ltb, List, length, get_or, take, drop, sym, ap, arith, nat_tests, later}
-use Rattle.mwc_states.proofs.Imports.{cases_eq, cases_lt, get_or_default, AreLaidOut, range_at, width, SizeRange}
-use Rattle.std.proofs.Common.{◌≢◌, set, get_or-set_same, length-take, ◌++◌, [], ◌∷◌}
-use Rattle.std.proofs.Math.Seq.{get_or-append_seam}
-use Rattle.std.proofs.lemmas.List.{get_or_past, get_or-take, get_or-drop, length_push, get_or_append_left}
+use Rattle.mwc_states.proofs.Imports.{◌≡◌, ◌∙◌, ◌⊎◌, ℕ, ◌+◌, ◌-◌, ◌*◌, ◌<◌, ◌≤◌, ◌==◌, ◌&&◌, cond, leb, ltb, List, length, get_or, take}
+use Rattle.mwc_states.proofs.Imports.{drop, sym, ap, arith, nat_tests, later, cases_eq, cases_lt, get_or_default, AreLaidOut, range_at}
+use Rattle.mwc_states.proofs.Imports.{width, SizeRange, ◌≢◌, set, get_or-set_same, ◌++◌, [], ◌∷◌, get_or-append_seam, get_or_past}
+use Rattle.mwc_states.proofs.Imports.{get_or-take, get_or_append_left}
+use Rattle.std.proofs.{Common.length-take, Common.get_or-drop, lemmas.List.length_push}
+use Rattle.mwc_states.specs.Inner.SizeRows.{count_in}
 unfoldable use Rattle.mwc_states.specs.Inner.SizeRows.{count_in}
 
 -- numbers past the end of a list are 0

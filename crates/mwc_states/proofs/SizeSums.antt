@@ -1,7 +1,6 @@
 -- Sums of numbers below one.
-use Rattle.mwc_states.proofs.Imports.{◌≡◌, ℕ, zero, suc, ◌+◌, ◌-◌, ◌*◌, ◌<◌, ◌≤◌, ◌==◌, cond, ltb, refl, ap, arith, nat_tests, later, sum_below}
-use Rattle.mwc_states.proofs.Imports.{cases_lt}
-use Rattle.std.proofs.Common.{inl, inr}
+use Rattle.mwc_states.proofs.Imports.{◌≡◌, ℕ, zero, suc, ◌+◌, ◌-◌, ◌*◌, ◌<◌, ◌≤◌, ◌==◌, cond, ltb, refl, ap, arith, nat_tests, later}
+use Rattle.mwc_states.proofs.Imports.{sum_below, cases_lt, inl, inr}
 
 pub sum-more : (n : ℕ) (f : ℕ → ℕ) → sum_below (n + 1) f ≡ sum_below n f + f n
 unfolding sum_below

@@ -1,6 +1,6 @@
 -- The counts of the states of a level, each times a value, as they go on along links.
-use Rattle.mwc_states.proofs.Imports.{◌≡◌, ◌∙◌, ℕ, zero, suc, ◌+◌, ◌*◌, ◌<◌, ◌≤◌, ◌==◌, Bool, true, false, cond, ltb, List, length, refl, sym, ap, arith, nat_tests, later, sum_below}
-use Rattle.mwc_states.proofs.Imports.{Forward, along, link_at, sent, sent_by, step, total}
+use Rattle.mwc_states.proofs.Imports.{◌≡◌, ◌∙◌, ℕ, zero, suc, ◌+◌, ◌*◌, ◌<◌, ◌≤◌, ◌==◌, Bool, true, false, cond, ltb, List, length, refl}
+use Rattle.mwc_states.proofs.Imports.{sym, ap, arith, nat_tests, later, sum_below, Forward, along, link_at, sent, sent_by, step, total}
 use Rattle.mwc_states.proofs.SizeSums.{sum-alike, sum-zeros, sum-plus, sum-one, sum-later}
 
 total-plus : (n : ℕ) (f g value : ℕ → ℕ → ℕ) → total n (λ k s. f k s + g k s) value ≡ total n f value + total n g value

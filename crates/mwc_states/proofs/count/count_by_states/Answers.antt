@@ -1,4 +1,4 @@
-use Rattle.council_game.specs.{Votes.minimal_coalitions}
+use Rattle.mwc_states.proofs.Imports.{minimal_coalitions}
 use Rattle.mwc_states.proofs.count.count_by_states.Goals as goal
 
 pub of_sizes-requires : goal.of_sizes-requires

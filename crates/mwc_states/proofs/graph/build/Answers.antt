@@ -1,6 +1,5 @@
-use Rattle.std.proofs.Common.{◌∙◌, ◌+◌, ℕ, List, [], drop, length, get_or, sum_by, ap, arith}
-use Rattle.std.proofs.lemmas.List.{map-append, take_rest, Sums.sum_by-take-drop}
-use Rattle.mwc_states.specs.Inner.Tables.{IsLevel}
+use Rattle.mwc_states.proofs.Imports.{◌∙◌, ◌+◌, ℕ, List, [], drop, length, get_or, sum_by, ap, arith, map-append, take_rest}
+use Rattle.mwc_states.proofs.Imports.{sum_by-take-drop, IsLevel}
 use Rattle.mwc_states.proofs.Building.{built-none, built-more, built-all}
 use Rattle.mwc_states.proofs.graph.build.Goals as goal
 

@@ -1,9 +1,6 @@
-use Rattle.std.proofs.Common.{arith}
-use Rattle.std.proofs.Common.{◌∙◌, ◌&&◌, not, get_or, ap, rules, tests}
-use Rattle.std.proofs.lemmas.{Fn.filter_same}
-use Rattle.mwc_states.specs.Inner.Sets.{meets}
-use Rattle.mwc_states.specs.Inner.Later.{misses_all}
-use Rattle.mwc_states.proofs.{Implied.misses_all-implied, Implied.misses_all-filter, Implied.misses_all-insert}
+use Rattle.mwc_states.proofs.Imports.{arith, ◌∙◌, ◌&&◌, not, get_or, ap, rules, meets, misses_all}
+use Rattle.std.proofs.{Common.tests, lemmas.Fn.filter_same}
+use Rattle.mwc_states.proofs.Implied.{misses_all-implied, misses_all-filter, misses_all-insert}
 use Rattle.mwc_states.proofs.misses.add.Goals as goal
 
 pub returns-then-is_implied : goal.returns-then-is_implied

@@ -1,12 +1,8 @@
-use Rattle.mwc_states.proofs.Imports.{◌≡◌, ◌∙◌, ℕ, ◌-◌, ◌<◌, refl, sym, ap, arith, cases_eq, length, get_or, [], List}
-use Rattle.std.proofs.Common.{subst, inl, inr, set, get_or-set_same, get_or-set_other, length-set}
-use Rattle.std.proofs.lemmas.List.{get_or-take}
-use Rattle.mwc_states.specs.declared.size_rows.SizeRows.{SizeRows}
-use Rattle.mwc_states.specs.Inner.Sets.{has}
-use Rattle.mwc_states.specs.Inner.Links.{AreSizesOf}
-use Rattle.mwc_states.specs.Inner.Counting.{AreLeading, AreCompleting}
-use Rattle.mwc_states.proofs.LevelCounts.{links_of, as-many, level-at, level-small, level-few, one-before, complete-first, complete-next, complete-fits, complete-go}
-use Rattle.mwc_states.proofs.LevelCounts.{all-sets, with-sum, with-fits, with-ends}
+use Rattle.mwc_states.proofs.Imports.{◌≡◌, ◌∙◌, ℕ, ◌-◌, ◌<◌, refl, sym, ap, arith, cases_eq, length, get_or, [], List, subst, inl, inr, set}
+use Rattle.mwc_states.proofs.Imports.{get_or-set_same, get_or-set_other, length-set, get_or-take, SizeRows, has, AreSizesOf, AreLeading}
+use Rattle.mwc_states.proofs.Imports.{AreCompleting}
+use Rattle.mwc_states.proofs.LevelCounts.{links_of, as-many, level-at, level-small, level-few, one-before, complete-first, complete-next}
+use Rattle.mwc_states.proofs.LevelCounts.{complete-fits, complete-go, all-sets, with-sum, with-fits, with-ends}
 use Rattle.mwc_states.proofs.set_counts.count.Goals as goal
 
 pub loop-level-init : goal.loop-level-init

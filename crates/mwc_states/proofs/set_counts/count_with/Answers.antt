@@ -1,7 +1,5 @@
-use Rattle.mwc_states.proofs.Imports.{ℕ, ◌+◌, refl, ap, arith, length, link_at, sum_below, count_at, pairs_of}
-use Rattle.council_base.proofs.Shared.Lists.{get_or-zeros}
-use Rattle.mwc_states.proofs.Ranges.{link-read}
-use Rattle.mwc_states.proofs.SizeSums.{sum-more, sum-fewer}
+use Rattle.mwc_states.proofs.Imports.{ℕ, ◌+◌, refl, ap, arith, length, link_at, sum_below, count_at, pairs_of, get_or-zeros}
+use Rattle.mwc_states.proofs.{Ranges.link-read, SizeSums.sum-more, SizeSums.sum-fewer}
 use Rattle.mwc_states.proofs.set_counts.count_with.Goals as goal
 
 pub loop-row-init : goal.loop-row-init

@@ -1,6 +1,6 @@
-use Rattle.mwc_states.proofs.Imports.{◌+◌, arith}
-use Rattle.mwc_states.specs.Inner.Counting.{AreLeading}
-use Rattle.mwc_states.proofs.LevelCounts.{links_of, as-many, level-at, level-long, level-few, each-pushed, lead-first, lead-next, lead-few, lead-go}
+use Rattle.mwc_states.proofs.Imports.{◌+◌, arith, AreLeading}
+use Rattle.mwc_states.proofs.LevelCounts.{links_of, as-many, level-at, level-long, level-few, each-pushed, lead-first, lead-next, lead-few}
+use Rattle.mwc_states.proofs.LevelCounts.{lead-go}
 use Rattle.mwc_states.proofs.set_counts.lead.Goals as goal
 
 pub loop-level-init : goal.loop-level-init

@@ -1,7 +1,4 @@
-use Rattle.mwc_states.proofs.Imports.{◌≡◌, ℕ, ◌+◌, ◌<◌, length, get_or}
-use Rattle.std.proofs.Common.{map}
-use Rattle.mwc_states.specs.declared.size_rows.SizeRows.{SizeRows}
-use Rattle.mwc_states.specs.Inner.Counting.{AreLeading}
+use Rattle.mwc_states.proofs.Imports.{◌≡◌, ℕ, ◌+◌, ◌<◌, length, get_or, map, SizeRows, AreLeading}
 use Rattle.mwc_states.proofs.set_counts.lead.Given as goal
 
 abbrev pub invariant-loop-level : goal.invariant-loop-level

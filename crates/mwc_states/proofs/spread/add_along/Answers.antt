@@ -1,6 +1,5 @@
 use Rattle.mwc_states.proofs.Imports.{◌∙◌, ap, arith, refl, sum_below, source, target, count_at}
-use Rattle.mwc_states.proofs.Ranges.{link-read}
-use Rattle.mwc_states.proofs.Sending.{sent-more, sent-fits}
+use Rattle.mwc_states.proofs.{Ranges.link-read, Sending.sent-more, Sending.sent-fits}
 use Rattle.mwc_states.proofs.spread.add_along.Goals as goal
 
 pub loop-row-init : goal.loop-row-init

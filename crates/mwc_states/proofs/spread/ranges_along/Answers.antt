@@ -1,5 +1,4 @@
-use Rattle.mwc_states.proofs.Imports.{◌≡◌, ◌∙◌, ◌+◌, ap, arith, cases_lt, common_steps, EndBy, length, List, SizeRange}
-use Rattle.std.proofs.lemmas.List.{get_or_past}
+use Rattle.mwc_states.proofs.Imports.{◌≡◌, ◌∙◌, ◌+◌, ap, arith, cases_lt, common_steps, EndBy, length, List, SizeRange, get_or_past}
 use Rattle.mwc_states.proofs.Ranges.{covers-more, written}
 use Rattle.mwc_states.proofs.spread.ranges_along.Goals as goal
 

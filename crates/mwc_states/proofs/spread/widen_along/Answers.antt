@@ -1,5 +1,6 @@
-use Rattle.mwc_states.proofs.Imports.{◌≡◌, ◌∙◌, ◌+◌, ◌<◌, length, sym, ap, arith, range_at, SizeRange, link_at, source, target}
-use Rattle.std.proofs.Common.{below_more, set, get_or-set_same}
+use Rattle.mwc_states.proofs.Imports.{◌≡◌, ◌∙◌, ◌+◌, ◌<◌, length, sym, ap, arith, range_at, SizeRange, link_at, source, target, set}
+use Rattle.mwc_states.proofs.Imports.{get_or-set_same}
+use Rattle.std.proofs.Common.{below_more}
 use Rattle.mwc_states.proofs.Ranges.{grown, grown-ends, covers-more, covers-alike, link-read}
 use Rattle.mwc_states.proofs.spread.widen_along.Goals as goal
 

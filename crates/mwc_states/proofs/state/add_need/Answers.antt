@@ -1,5 +1,4 @@
-use Rattle.std.proofs.Common.{arith}
-use Rattle.mwc_states.proofs.Leaving.{need-added}
+use Rattle.mwc_states.proofs.{Imports.arith, Leaving.need-added}
 use Rattle.mwc_states.proofs.state.add_need.Goals as goal
 
 pub returns-in-Minimal : goal.returns-in-Minimal

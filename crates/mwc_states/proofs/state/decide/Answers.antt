@@ -1,12 +1,10 @@
-use Rattle.std.proofs.Common.{◌≡◌, ◌∙◌, ◌<◌, ◌==◌, ◌∷◌, [], ℕ, Bool, false, List, length, ap, sym, arith, refl, eqb-true}
-use Rattle.std.proofs.lemmas.Bool.Decides.{nat_tests}
-use Rattle.mwc_states.specs.declared.what.What.{What}
-use Rattle.std.proofs.lemmas.{Bool.and_parts, Bool.both_ways, Bool.MatchBool-at_true, Bool.MatchBool-at_false}
-use Rattle.mwc_states.specs.{Inner.Sets.weigh, Inner.Sets.meets, Inner.States.needs_each, Inner.States.completes}
-use Rattle.mwc_states.proofs.{Leaving.leads-dead, Leaving.leads-complete, Leaving.leads-open, Levels.link-in}
-use Rattle.mwc_states.specs.Inner.Tables.{completes_link}
-use Rattle.mwc_states.proofs.state.decide.Goals as goal
+use Rattle.mwc_states.proofs.Imports.{◌≡◌, ◌∙◌, ◌<◌, ◌==◌, ◌∷◌, [], ℕ, Bool, false, List, length, ap, sym, arith, refl, nat_tests, What}
+use Rattle.mwc_states.proofs.Imports.{and_parts, both_ways, MatchBool-at_true, MatchBool-at_false, weigh, meets, needs_each, completes}
+use Rattle.mwc_states.proofs.Imports.{completes_link}
+use Rattle.std.proofs.Common.{eqb-true}
 use Rattle.mwc_states.proofs.state.decide.Goals.{else-is_zero-via-then-is_zero+else-is_over, else-is_zero-via-else-is_zero}
+use Rattle.mwc_states.proofs.{Leaving.leads-dead, Leaving.leads-complete, Leaving.leads-open, Levels.link-in}
+use Rattle.mwc_states.proofs.state.decide.Goals as goal
 
 some-rows : {b : Bool} (state : List (List ℕ)) → b ≡ (length state == 0) → b ≡ false → 0 < length state
 some-rows {b} state is none = grind (arith, nat_tests)

@@ -1,6 +1,5 @@
-use Rattle.std.proofs.Common.{◌∙◌, take_all, ap, sym, arith}
-use Rattle.std.proofs.lemmas.{List.Sums.sum_by_more_le_part, Bool.not-true}
-use Rattle.mwc_states.specs.Inner.Later.{weigh_able}
+use Rattle.mwc_states.proofs.Imports.{◌∙◌, take_all, ap, sym, arith, not-true, weigh_able}
+use Rattle.std.proofs.lemmas.List.Sums.{sum_by_more_le_part}
 use Rattle.mwc_states.proofs.Able.{able-le, missed}
 use Rattle.mwc_states.proofs.later.Later.is_missed.Goals as goal
 

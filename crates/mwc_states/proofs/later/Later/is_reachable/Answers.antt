@@ -1,6 +1,4 @@
-use Rattle.std.proofs.Common.{arith}
-use Rattle.std.proofs.Common.{◌∙◌}
-use Rattle.mwc_states.proofs.Meeting.{meets-total, none-needed}
+use Rattle.mwc_states.proofs.{Imports.arith, Imports.◌∙◌, Meeting.meets-total, Meeting.none-needed}
 use Rattle.mwc_states.proofs.later.Later.is_reachable.Goals as goal
 
 pub returns-clause-some : goal.returns-clause-some

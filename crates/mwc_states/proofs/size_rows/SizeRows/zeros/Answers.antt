@@ -1,5 +1,4 @@
-use Rattle.mwc_states.proofs.Imports.{◌≡◌, ◌∙◌, ◌<◌, ap, arith, common_steps, length, range_at, width}
-use Rattle.std.proofs.lemmas.List.{get_or_past}
+use Rattle.mwc_states.proofs.Imports.{◌≡◌, ◌∙◌, ◌<◌, ap, arith, common_steps, length, range_at, width, get_or_past}
 use Rattle.mwc_states.proofs.SizeRows.{laid-more, count-zeros, range-read}
 use Rattle.mwc_states.proofs.size_rows.SizeRows.zeros.Goals as goal
 
