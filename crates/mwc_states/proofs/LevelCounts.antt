@@ -190,7 +190,6 @@ one-before {levels = levels} {n = n} {rows = rows} are some = let e : n ≡ n - 
 pub each-pushed : {A : Type 0} (P : ℕ → A → Type 0) (xs : List A) (x : A) (n : ℕ) → length xs ≡ n → ((i : ℕ) (d : A) → i < n → P i (get_or xs i d)) → P n x
     → (i : ℕ) (d : A) → i < n + 1 → P i (get_or (xs ++ x ∷ []) i d)
 each-pushed P xs x n long each last i d below = elim (cases_lt i n) [
-  | inl lt ↦ subst (λ y. P i y) (sym (get_or_append_left xs (x ∷ []) d i (omega (arith, lt, long)))) (each i d lt)
-  | inr ge ↦ (let e : i ≡ n = omega (arith, ge, below) in
-      subst (λ y. P i y) (sym (get_or_push xs x d i (long ∙ sym e))) (subst (λ k. P k x) (sym e) last))
+  | inl lt ↦ rw (get_or_append_left xs (x ∷ []) d i (omega (arith, lt, long))) (each i d lt)
+  | inr ge ↦ (let e : i ≡ n = omega (arith, ge, below) in rw (get_or_push xs x d i (long ∙ sym e), e) last)
 ]

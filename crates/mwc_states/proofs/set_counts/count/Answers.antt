@@ -60,19 +60,13 @@ loop-level-preserved c =
     let room : i < length c.loop-level.each = omega (arith, links.within, c.requires.few, c.loop-level.invariant.long) in record {
       inside = omega (arith, c.loop-level.invariant.inside);
       leading_long = omega (arith, c.truncate.ensures.len, c.loop-level.invariant.leading_long);
-      leading = λ k d lt. subst (λ r. AreLeading (links_of c.args.levels.now) k r)
-          (sym (ap (λ (l : List SizeRows). get_or l k d) c.truncate.ensures.items ∙ get_or-take i c.loop-level.leading.items k d lt))
-          (c.loop-level.invariant.leading k d (omega (arith, lt)));
+      leading = λ k d lt. rw (c.truncate.ensures.items, get_or-take i c.loop-level.leading.items k d lt) (c.loop-level.invariant.leading k d (omega (arith, lt)));
       completing = complete-next c.requires links are (omega arith) c.in_ok-completing-2.ensures.ranges c.in_ok-completing-2.ensures.counts;
       long = omega (arith, c.loop-level.invariant.long, length-set c.loop-level.each i c.count_with.result);
       each = λ j le lt. elim (cases_eq j i) [
-        | inl e ↦ subst (λ k. AreSizesOf (links_of c.args.levels.now) (has k) (get_or (set c.loop-level.each i c.count_with.result) k [])) (sym e)
-            (subst (λ l. AreSizesOf (links_of c.args.levels.now) (has i) l) (sym (get_or-set_same c.loop-level.each i c.count_with.result [] room)) (record {
-              long = c.count_with.ensures.long;
-              each = λ s small. c.count_with.ensures.counts s ∙ with-sum c.requires links are lead s;
-            }))
-        | inr ne ↦ subst (λ l. AreSizesOf (links_of c.args.levels.now) (has j) l) (sym (get_or-set_other c.loop-level.each i j c.count_with.result [] ne))
-            (c.loop-level.invariant.each j (omega (arith, le, ne)) lt)
+        | inl e ↦ rw (e, get_or-set_same c.loop-level.each i c.count_with.result [] room)
+            (record { long = c.count_with.ensures.long; each = λ s small. c.count_with.ensures.counts s ∙ with-sum c.requires links are lead s })
+        | inr ne ↦ rw (get_or-set_other c.loop-level.each i j c.count_with.result [] ne) (c.loop-level.invariant.each j (omega (arith, le, ne)) lt)
       ];
     }
 
