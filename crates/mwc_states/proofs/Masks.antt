@@ -76,12 +76,6 @@ pub count-coalitions : (n : ℕ) (test : List Bool → Bool) (s : ℕ)
 count-coalitions n test s = grind (arith, count-passing, size-number, length-filter)
 
 -- ---- what a coalition weighs under a rule
-pub weigh-cons : (m : List ℕ) (ms : List (List ℕ)) (b : Bool) (set : List Bool) (r : ℕ)
-    → weigh (m ∷ ms) (b ∷ set) r ≡ cond b (get_or m r 0) 0 + weigh ms set r
-unfolding weigh
-weigh-cons m ms true set r = refl
-weigh-cons m ms false set r = omega arith
-
 weigh-from : (members : List (List ℕ)) (ws : List ℕ) (r n a c : ℕ)
     → ((p : ℕ) → p < length members → get_or (get_or members p []) r 0 ≡ get_or ws (a + p) 0)
     → weigh members (map (λ p. has n p c) (range_with_len a (length members))) r

@@ -54,11 +54,6 @@ unfolding sum_below
 sum-one zero k f = grind (arith, nat_tests)
 sum-one (suc n) k f = grind (arith, nat_tests, sum-one n k f)
 
-pub sum-times : (n c : ℕ) (f : ℕ → ℕ) → sum_below n (λ j. c * f j) ≡ c * sum_below n f
-unfolding sum_below
-sum-times zero c f = omega arith
-sum-times (suc n) c f = omega (arith, sum-times n c f)
-
 -- numbers by size with one member more
 pub sum-later : (n : ℕ) (f g : ℕ → ℕ) → sum_below (suc n) (λ a. later 1 f a * g a) ≡ sum_below n (λ a. f a * g (a + 1))
 unfolding sum_below

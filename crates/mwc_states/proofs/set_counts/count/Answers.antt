@@ -1,5 +1,5 @@
-use Rattle.mwc_states.proofs.Imports.{◌≡◌, ◌∙◌, ℕ, ◌-◌, ◌<◌, refl, sym, ap, arith, cases_eq, length, get_or, [], List, subst, inl, inr, set}
-use Rattle.mwc_states.proofs.Imports.{get_or-set_same, get_or-set_other, length-set, get_or-take, SizeRows, has, AreSizesOf, AreLeading}
+use Rattle.mwc_states.proofs.Imports.{◌≡◌, ◌∙◌, ℕ, ◌-◌, ◌<◌, refl, arith, cases_eq, length, [], subst, inl, inr}
+use Rattle.mwc_states.proofs.Imports.{get_or-set_same, get_or-set_other, length-set, get_or-take}
 use Rattle.mwc_states.proofs.Imports.{AreCompleting}
 use Rattle.mwc_states.proofs.LevelCounts.{links_of, as-many, level-at, level-small, level-few, one-before, complete-first, complete-next}
 use Rattle.mwc_states.proofs.LevelCounts.{complete-fits, complete-go, all-sets, with-sum, with-fits, with-ends}
