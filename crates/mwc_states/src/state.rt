@@ -11,6 +11,7 @@ use crate::row::{self, Row};
 use crate::table::Table;
 use crate::what::What;
 use council_base::Memory;
+use std::alloc::Global;
 
 /// The row that leads to no coalition.
 pub(crate) const DEAD: u32 = 0;
@@ -99,6 +100,7 @@ fn is_over(what: What, later: &Later) -> bool
 ///
 /// Returns `Memory` if memory was refused.
 pub(crate) fn decide(
+    alloc: Global,
     what: What,
     state: &[Row],
     member: &Row,
@@ -129,5 +131,5 @@ pub(crate) fn decide(
         return Ok(COMPLETE);
     }
     left.insert(0, need)?;
-    Ok(next.add(left)? + FIRST)
+    Ok(next.add(alloc, left)? + FIRST)
 }
