@@ -42,12 +42,8 @@ pub(crate) fn decide_level(
             return Ok(None);
         }
         let state = table.state(place);
-        let without = decide(
-            alloc, what, state, member, false, later, &mut left, &mut next,
-        )?;
-        let with = decide(
-            alloc, what, state, member, true, later, &mut left, &mut next,
-        )?;
+        let without = decide(what, state, member, false, later, &mut left, &mut next)?;
+        let with = decide(what, state, member, true, later, &mut left, &mut next)?;
         links.push([without, with])?;
     }
     Ok(Some((links, next)))

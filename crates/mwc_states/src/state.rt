@@ -11,7 +11,6 @@ use crate::row::{self, Row};
 use crate::table::Table;
 use crate::what::What;
 use council_base::Memory;
-use std::alloc::Global;
 
 /// The row that leads to no coalition.
 pub(crate) const DEAD: u32 = 0;
@@ -100,7 +99,6 @@ fn is_over(what: What, later: &Later) -> bool
 ///
 /// Returns `Memory` if memory was refused.
 pub(crate) fn decide(
-    alloc: Global,
     what: What,
     state: &[Row],
     member: &Row,
@@ -131,5 +129,5 @@ pub(crate) fn decide(
         return Ok(COMPLETE);
     }
     left.insert(0, need)?;
-    Ok(next.add(alloc, left)? + FIRST)
+    Ok(next.add(left)? + FIRST)
 }
