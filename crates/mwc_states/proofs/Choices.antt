@@ -1,5 +1,5 @@
--- What the rows of a level are worth, over the choices that lead to them, and how many sets complete
--- them.
+-- What the rows of a level are worth, over the choices that lead to them, and how many sets
+-- complete them.
 use Rattle.mwc_states.proofs.Imports.{step, total, Forward, Backward, cases_lt, inl, inr, drop-cons, has, count_sets, accepts, over_choices}
 use Rattle.mwc_states.proofs.Imports.{◌≡◌, ◌∙◌, ℕ, zero, suc, ◌+◌, ◌-◌, ◌*◌, ◌^◌, ◌<◌, ◌≤◌, ◌==◌, ◌&&◌, Bool, false, cond, leb, ltb, List}
 use Rattle.mwc_states.proofs.Imports.{[], ◌∷◌, length, drop, get_or, sym, ap, arith, nat_tests, later, sum_below, along, link_at, sent_by}

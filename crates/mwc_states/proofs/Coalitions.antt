@@ -135,7 +135,7 @@ module _ (v : Votes) (members : List (List ℕ)) (need : List ℕ) (game : IsVot
     )
   ]
 
-  -- how many of the coalitions that are counted pass a test, from how many sets that a graph accepts do
+  -- how many of the counted coalitions pass a test, from how many sets that a graph accepts do
   pub sizes-are : (what : What) (levels : List (List (List ℕ))) (test : List Bool → Bool) (p : ℕ → Bool) (sizes : List ℕ) → length levels ≡ n
       → ((xs : List Bool) → length xs ≡ n → accepts levels 2 xs ≡ completes what members (need ∷ []) xs)
       → ((c : ℕ) → test (set_of n c) ≡ p c) → AreSizesOf levels test sizes → AreSizeCounts n p (counted_coalitions what v) sizes

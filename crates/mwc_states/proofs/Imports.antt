@@ -1,4 +1,4 @@
--- The words of other libraries and of the definitions that two or more files of these proofs take; `tools/imports.py` writes them.
+-- The words of other libraries and of the definitions that two or more files of these proofs take.
 pub use Rattle.council_base.proofs.Shared.Lists.{get_or-zeros}
 pub use Rattle.council_base.specs.{Coalitions.size, declared.limits.TheConstants.RULES}
 pub use Rattle.council_game.specs.{Game.votes_of, Votes.rule_at}

@@ -5,8 +5,8 @@ use Rattle.council_base.specs.declared.limits.TheConstants.{MEMBERS, SIZES}
 use Rattle.mwc_states.specs.Inner.Sets.{count_sets}
 
 -- A level has a row for each of its states, from row 2 on; row 0 is dead, and row 1 is complete. A
--- link is the row of the next level that it leads to. The graph accepts a set from a row if the links
--- that it chooses lead to row 1 in the end.
+-- link is the row of the next level that it leads to. The graph accepts a set from a row if the
+-- links that it chooses lead to row 1 in the end.
 unfoldable pub accepts : List (List (List ℕ)) → ℕ → List Bool → Bool
 accepts [] k set = nat_eq k 1
 accepts (links ∷ levels) k [] = false

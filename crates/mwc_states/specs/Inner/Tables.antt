@@ -37,8 +37,8 @@ abbrev pub Leads : What → List (List ℕ) → List ℕ → Bool → List (List
 Leads what later member taken state next link = (set : List Bool) → length set ≡ length later
     → completes what (member ∷ later) state (taken ∷ set) ≡ completes_link what later next link set
 
--- where each row of a level leads without the member and with it, up to that of the first i states of
--- a table, and the table of the next level
+-- where each row of a level leads without the member and with it, up to that of the first i states
+-- of a table, and the table of the next level
 pub record IsLevel (what : What) (member : List ℕ) (later : List (List ℕ)) (table : List (List (List ℕ)))
     (links : List (List ℕ)) (next : List (List (List ℕ))) (i : ℕ) : Type 0 where
   pub long : length links ≡ 2 + i
