@@ -1,26 +1,18 @@
 -- Members that a minimal set may have.
-use Rattle.std.proofs.Common.{◌≡◌, ◌∙◌, ℕ, ◌+◌, ◌-◌, ◌≤◌, Bool, true, false, not, ◌&&◌, cond, ltb, List, [], ◌∷◌, get_or}
-use Rattle.std.proofs.Common.{ap, sym, arith, zero-add, add_assoc}
-use Rattle.std.specs.List.{list_all, range_with_len}
-use Rattle.std.proofs.lemmas.{Bool.and_parts, Bool.cond-true, Bool.cond_both, Bool.both_ways, Bool.false_from_ne_true, Bool.true_from_ne_false, Bool.not-true, Bool.Decides.nat_tests}
-use Rattle.std.proofs.lemmas.{List.Folds.list_all-map, List.Folds.list_any_at, List.FromFn.get_or-range_with_len, List.Sums.sum_by-cons}
-use Rattle.council_base.specs.declared.limits.TheConstants.{RULES}
-use Rattle.mwc_states.specs.declared.what.What.TheVariants.{Minimal}
-use Rattle.mwc_states.specs.{Inner.Sets.weigh, Inner.Sets.meets, Inner.Sets.without_one, Inner.States.needs_each, Inner.Later.fits, Inner.Later.is_able, Inner.Later.weigh_able}
-use Rattle.mwc_states.proofs.{Meeting.Reaches, Meeting.reach, Meeting.reached}
+use Rattle.mwc_states.proofs.Imports.{list_all, and_parts, both_ways, not-true, nat_tests, list_all-map, get_or-range_with_len, sum_by-cons}
+use Rattle.mwc_states.proofs.Imports.{◌≡◌, ◌∙◌, ℕ, ◌+◌, ◌≤◌, Bool, true, false, not, cond, List, [], ◌∷◌, get_or, sym, arith, zero-add}
+use Rattle.mwc_states.proofs.Imports.{Minimal, weigh, meets, without_one, needs_each, fits, weigh_able}
+use Rattle.std.proofs.lemmas.Bool.{cond-true, cond_both, false_from_ne_true, true_from_ne_false}
+use Rattle.std.proofs.lemmas.List.Folds.{list_any_at}
+use Rattle.mwc_states.specs.Inner.Later.{is_able}
+use Rattle.mwc_states.proofs.Meeting.{Reaches, reach, reached}
 
 -- without a member that is not able, the others meet the need
 spared : (need row member : List ℕ) (others : ℕ → ℕ) → is_able need row member ≡ false
     → Reaches (λ r. others r + get_or member r 0) need → Reaches (λ r. others r + get_or member r 0) row → Reaches others need
 unfolding is_able
 spared need row member others not_able meets_need meets_row r lt =
-    let test : ℕ → Bool = λ r. ltb 0 (get_or need r 0) && ltb (get_or row r 0 - get_or need r 0) (get_or member r 0) in
-    let at : get_or (range_with_len 0 RULES) r 0 ≡ r = get_or-range_with_len 0 RULES r 0 lt ∙ zero-add r in
-    let none : test r ≡ false = false_from_ne_true (test r) (λ e. both_ways _ not_able
-    (list_any_at test (range_with_len 0 RULES) r 0 lt (ap test at ∙ e))) in
-    let h : get_or need r 0 ≤ others r + get_or member r 0 = meets_need r lt in
-    let k : get_or row r 0 ≤ others r + get_or member r 0 = meets_row r lt in
-    grind (arith, nat_tests)
+    grind (arith, get_or-range_with_len, zero-add, false_from_ne_true, both_ways, list_any_at, nat_tests)
 
 pub able-le : (need row : List ℕ) (r : ℕ) (member : List ℕ) → cond (is_able need row member) (get_or member r 0) 0 ≤ get_or member r 0
 able-le need row r member = cond_both (is_able need row member) (get_or member r 0) 0 (λ (n : ℕ). n ≤ get_or member r 0) (λ e. omega arith) (λ e. omega arith)
@@ -41,8 +33,7 @@ within-able need row (member ∷ members) (true ∷ set) others each meets_need 
     let apart = and_parts _ _ each in
     let without : ℕ → ℕ = λ r. others r + weigh members set r in
     let one : list_all (λ less. not (meets (λ r. others r + get_or member r 0 + weigh members less r) need)) (without_one set) ≡ true =
-    (λ i. list_all (λ less. not (meets (λ r. add_assoc (others r) (get_or member r 0) (weigh members less r) i) need)) (without_one set))
-    ∙ sym (list_all-map (λ less. not (meets (λ r. others r + weigh (member ∷ members) less r) need)) (λ less. true ∷ less) (without_one set)) ∙ apart.1 in
+    grind (arith, list_all-map) in
     let able : is_able need row member ≡ true = true_from_ne_false _ (λ e. both_ways _ (not-true _ apart.0)
     (reached without need (spared need row member without e (λ k lt. omega (arith, meets_need k lt)) (λ k lt. omega (arith, meets_row k lt))))) in
     let rest = within-able need row members set (λ r. others r + get_or member r 0) one

@@ -1,116 +1,93 @@
 -- The graph, one level after the other.
-use Rattle.std.proofs.Common.{◌≡◌, ◌∙◌, ℕ, zero, suc, ◌+◌, ◌^◌, ◌<◌, ◌≤◌, Bool, List, [], ◌∷◌, ◌++◌, length, get_or, sym, ap, refl}
-use Rattle.std.proofs.Common.{arith, inl, inr, length-append, append_assoc, append-nil, drop, drop-cons, cond, length-drop, add-one}
-use Rattle.std.proofs.lemmas.{Bool.cases_eq, Bool.cases_lt, List.get_or_append_left, List.get_or_past}
-use Rattle.std.proofs.Math.Seq.{get_or-append_seam}
-use Rattle.mwc_states.specs.declared.what.What.{What}
-use Rattle.mwc_states.specs.Inner.States.{completes}
-use Rattle.mwc_states.specs.Inner.Links.{accepts, states_at}
-use Rattle.mwc_states.specs.Inner.Tables.{IsLevel, completes_link, link_at}
-use Rattle.mwc_states.specs.Inner.Graphs.{Continue, IsBuilt, IsGraphOf}
+use Rattle.mwc_states.proofs.Imports.{◌≡◌, ◌∙◌, ℕ, zero, suc, ◌+◌, ◌^◌, ◌<◌, ◌≤◌, Bool, List, [], ◌∷◌, ◌++◌, length, get_or, sym, ap, refl}
+use Rattle.mwc_states.proofs.Imports.{arith, drop, drop-cons, cond, length-drop, What, accepts, states_at, IsIn, IsLevel, completes_link}
+use Rattle.mwc_states.proofs.Imports.{is_empty, link_at, IsBuilding, IsGraphOf}
+use Rattle.std.proofs.Common.{append_assoc, append-nil, add-one}
+use Rattle.mwc_states.proofs.Levels.{link-in}
+use Rattle.mwc_states.specs.Inner.Graphs.{Continue}
 
 abbrev Rows : Type 0
 Rows = List (List ℕ)
 
-accepts-state : (levels : List Rows) (k : ℕ) (set : List Bool) → accepts levels (k + 2) set ≡ accepts levels (suc (suc k)) set
-accepts-state levels k set = let e : k + 2 ≡ suc (suc k) = omega arith in ap (λ (l : ℕ). accepts levels l set) e
-
 -- a level more in front of levels that go on from its table
-module _ (what : What) (member : List ℕ) (later : Rows) (table next : List Rows) (links : Rows) (level : IsLevel what member later table links next)
-    (rest : List Rows) (on : Continue what later next rest) where
-  link-accepts : (link : ℕ) (set : List Bool) → link < 2 + length next → length set ≡ length later
-      → accepts rest link set ≡ completes_link what later next link set
-  unfolding accepts completes_link
-  link-accepts zero set lt long = refl
-  link-accepts (suc zero) set lt long = refl
-  link-accepts (suc (suc k)) set lt long = sym (accepts-state rest k set) ∙ on k set (omega arith) long
+continues : (what : What) (member : List ℕ) (later : Rows) (table next : List Rows) (links : Rows) (rest : List Rows) → length table ≤ 2 ^ 26
+    → IsLevel what member later table links next (length table) → Continue what later next rest → Continue what (member ∷ later) table (links ∷ rest)
+unfolding accepts
+continues what member later table next links rest few level on = record {
+  long = omega (arith, on.long);
+  states = omega (arith, level.long);
+  ends = ends;
+  few = at-most;
+  linked = linked;
+  accept = accept;
+}
+  where
+    ends : (i : ℕ) → i < suc (length rest) → 2 ≤ length (get_or (links ∷ rest) i [])
+    ends zero lt = omega (arith, level.long)
+    ends (suc i) lt = on.ends i (omega arith)
 
-  continues : Continue what (member ∷ later) table (links ∷ rest)
-  unfolding accepts
-  continues k [] lt long = absurd (omega arith)
-  continues k (taken ∷ set) lt long =
-      accepts-state (links ∷ rest) k (taken ∷ set)
-      ∙ link-accepts (link_at links k taken) set (level.below k (cond taken 1 0)) (omega arith) ∙ sym (level.each k taken set lt (omega arith))
+    at-most : (i : ℕ) → states_at (links ∷ rest) i ≤ 2 ^ 26
+    at-most zero = omega (arith, level.long, few)
+    at-most (suc i) = on.few i
+
+    linked : (i k taken : ℕ) → i < suc (length rest) → link_at (get_or (links ∷ rest) i []) k taken < 2 + states_at (links ∷ rest) (i + 1)
+    linked zero k taken lt = omega (arith, level.below k taken, on.states)
+    linked (suc i) k taken lt = let e : suc i + 1 ≡ suc (i + 1) = omega arith in omega (arith, on.linked i k taken (omega arith), ap (states_at (links ∷ rest)) e)
+
+    accept : (k : ℕ) (set : List Bool) → k < 2 + length table → length set ≡ suc (length later) → accepts (links ∷ rest) k set ≡ completes_link what (member ∷ later) table k set
+    accept k [] lt long = absurd (omega arith)
+    accept k (taken ∷ set) lt long =
+        on.accept (link_at links k (cond taken 1 0)) set (level.below k (cond taken 1 0)) (omega arith) ∙ sym (level.each k taken set lt (omega arith))
+
+-- no level, after the last member
+at-end : (what : What) (later : Rows) (table : List Rows) → length table ≡ 0 → length later ≡ 0 → Continue what later table []
+unfolding accepts completes_link is_empty
+at-end what later table empty none = record {
+  long = omega (arith, none);
+  states = omega (arith, empty);
+  ends = λ i lt. absurd (omega arith);
+  few = λ i. omega arith;
+  linked = λ i k taken lt. absurd (omega arith);
+  accept = accept;
+}
+  where
+    accept : (k : ℕ) (set : List Bool) → k < 2 + length table → length set ≡ length later → accepts [] k set ≡ completes_link what later table k set
+    accept zero set lt long = refl
+    accept (suc zero) [] lt long = refl
+    accept (suc zero) (taken ∷ set) lt long = absurd (omega (arith, none))
+    accept (suc (suc k)) set lt long = absurd (omega (arith, empty))
 
 module _ (what : What) (members : Rows) (need : List ℕ) where
-  pub built-none : (table : List Rows) → table ≡ (need ∷ []) ∷ [] → 1 ≤ length members → IsBuilt what members need [] table 0
-  built-none table is some = record {
-    long = refl;
-    first = λ e. omega (arith, ap length is);
-    root = λ lt. absurd (omega arith);
-    few = λ k. omega arith;
-    linked = λ k j taken lt. absurd (omega arith);
-    linked_last = λ k j taken e. absurd (omega arith);
+  pub built-none : (table : List Rows) (room : ℕ) → IsIn [] table (need ∷ []) 0 → 1 ≤ length members → length members ≤ 40 → room ≤ 2 ^ 26
+      → IsBuilding what members need [] table 0 room
+  built-none table room is some few room_few = record {
     last = λ e. absurd (omega arith);
-    accept = λ rest on set long. on 0 set (omega (arith, ap length is)) long ∙ ap (λ (t : List Rows). completes what members (get_or t 0 []) set) is;
-  }
-
-  module _ (levels table next : List Rows) (links : Rows) (member : List ℕ) (i : ℕ) (lt : i < length members)
-      (built : IsBuilt what members need levels table i) (level : IsLevel what member (drop (i + 1) members) table links next) where
-    abbrev longer : List Rows
-    longer = levels ++ links ∷ []
-
-    at-old : (k : ℕ) → k < i → get_or longer k [] ≡ get_or levels k []
-    at-old k below = get_or_append_left levels (links ∷ []) [] k (omega (arith, built.long, below))
-
-    at-new : get_or longer i [] ≡ links
-    at-new = ap (λ (k : ℕ). get_or longer k []) (sym built.long) ∙ get_or-append_seam levels links [] []
-
-    states-new : states_at longer i ≡ length table
-    states-new = ap length at-new ∙ level.long
-
-    more-few : length table ≤ 2 ^ 26 → (k : ℕ) → states_at longer k ≤ 2 ^ 26
-    more-few few k = elim (cases_lt k i) [
-      | inl old ↦ omega (arith, ap length (at-old k old), built.few k)
-      | inr ge ↦ elim (cases_eq k i) [
-        | inl e ↦ omega (arith, few, states-new, ap (states_at longer) e)
-        | inr ne ↦ omega (arith, ap length (get_or_past longer k [] (omega (arith, length-append {A = Rows} levels (links ∷ []), built.long, ge, ne))))
-      ]
-    ]
-
-    more-linked : (k j taken : ℕ) → k + 1 < i + 1 → get_or (get_or (get_or longer k []) j []) taken 0 < 2 + states_at longer (k + 1)
-    more-linked k j taken below =
-        let old : k < i = omega arith in
-        let same = ap (λ (l : Rows). get_or (get_or l j []) taken 0) (at-old k old) in
-        elim (cases_eq (k + 1) i) [
-          | inl e ↦ omega (arith, same, built.linked_last k j taken e, states-new, ap (states_at longer) e)
-          | inr ne ↦ (let more : k + 1 < i = omega (arith, old, ne) in omega (arith, same, built.linked k j taken more, ap length (at-old (k + 1) more)))
-        ]
-
-    pub built-more : length table ≤ 2 ^ 26 → member ≡ get_or members i [] → IsBuilt what members need longer next (i + 1)
-    built-more few is = record {
-      long = omega (arith, length-append {A = Rows} levels (links ∷ []), built.long);
-      first = λ e. absurd (omega arith);
-      root = λ _. elim (cases_eq i 0) [
-        | inl e ↦ omega (arith, states-new, built.first e, ap (states_at longer) e)
-        | inr ne ↦ omega (arith, ap length (at-old 0 (omega (arith, ne))), built.root (omega (arith, ne)))
-      ];
-      few = more-few few;
-      linked = more-linked;
-      linked_last = λ k j taken e. (let same : k ≡ i = omega arith in
-          omega (arith, ap (λ (l : Rows). get_or (get_or l j []) taken 0) (ap (λ (q : ℕ). get_or longer q []) same ∙ at-new), level.below j taken));
-      last = λ e. level.last (omega (arith, length-drop (i + 1) members, e));
-      accept = λ rest on set long.
-          let parts : drop i members ≡ member ∷ drop (i + 1) members = drop-cons members i [] lt ∙ (λ k. (sym is) k ∷ drop ((sym (add-one i)) k) members) in
-          let onward = continues what member (drop (i + 1) members) table next links level rest on in
-          ap (λ (l : List Rows). accepts l 2 set) (append_assoc levels (links ∷ []) rest)
-          ∙ built.accept (links ∷ rest) (rw parts onward) set long;
-    }
-
-  pub built-all : (levels table : List Rows) (i : ℕ) → 1 ≤ length members → length members ≤ 40 → i ≡ length members
-      → IsBuilt what members need levels table i → IsGraphOf what members need levels
-  built-all levels table i some few end built = record {
-    graph = record {
-      some = omega (arith, built.long, end, some);
-      few = omega (arith, built.long, end, few);
-      root = built.root (omega (arith, end, some));
-      few_states = built.few;
-      linked = λ k j taken lt. elim (cases_eq (k + 1) i) [
-        | inl e ↦ omega (arith, built.linked_last k j taken e, built.last end)
-        | inr ne ↦ built.linked k j taken (omega (arith, lt, built.long, ne))
-      ];
+    room_few = room_few;
+    onward = λ rest on. record {
+      graph = record {
+        some = omega (arith, on.long);
+        few = omega (arith, on.long);
+        root = omega (arith, on.states, is.below);
+        ends = on.ends;
+        few_states = on.few;
+        linked = on.linked;
+      };
+      long = on.long;
+      accepts_all = λ set long. on.accept 2 set (omega (arith, is.below)) long ∙ sym (link-in what members [] table (need ∷ []) 0 set is);
     };
-    long = built.long ∙ end;
-    accepts_all = λ set long. ap (λ (l : List Rows). accepts l 2 set) (sym (append-nil levels))
-        ∙ built.accept [] (λ k xs lt l. absurd (omega (arith, lt, built.last end))) set long;
   }
+
+  pub built-more : (levels table next : List Rows) (links : Rows) (i room less : ℕ) → i < length members
+      → IsBuilding what members need levels table i room → IsLevel what (get_or members i []) (drop (i + 1) members) table links next (length table)
+      → length table ≤ room → less ≤ room → IsBuilding what members need (levels ++ links ∷ []) next (i + 1) less
+  built-more levels table next links i room less lt built level few le = record {
+    last = λ e. level.last (omega (arith, length-drop (i + 1) members, e));
+    room_few = omega (arith, le, built.room_few);
+    onward = λ rest on.
+        let parts : drop i members ≡ get_or members i [] ∷ drop (i + 1) members = drop-cons members i [] lt ∙ (λ k. get_or members i [] ∷ drop ((sym (add-one i)) k) members) in
+        rw (append_assoc levels (links ∷ []) rest) (built.onward (links ∷ rest) (rw parts (continues what _ _ table next links rest (omega (arith, few, built.room_few)) level on)));
+  }
+
+  pub built-all : (levels table : List Rows) (i room : ℕ) → i ≡ length members → IsBuilding what members need levels table i room → IsGraphOf what members need levels
+  built-all levels table i room end built =
+      rw append-nil at (built.onward [] (at-end what _ table (built.last end) (omega (arith, length-drop i members, end))))

@@ -1,26 +1,24 @@
 -- The coalitions of a game that are counted are the sets that complete its quotas; how many of them
 -- pass a test.
-use Rattle.std.proofs.Common.{◌≡◌, ◌∙◌, ℕ, zero, suc, ◌<◌, ◌≤◌, Bool, true, false, not, ◌&&◌, ◌==◌, List, [], ◌∷◌, length, get_or, set}
-use Rattle.std.proofs.Common.{filter, refl, sym, ap, arith, inl, inr, leb, map, sum, sum_by, length-set, get_or-set_same, get_or-set_other, ◌^◌}
-use Rattle.std.specs.{List.range_with_len, List.list_all, Cmp.both_ways as same_test}
-use Rattle.std.proofs.lemmas.Bool.{and_parts, and_from, not-true, not_from_false, cases_eq, cases_lt, Decides.nat_tests}
-use Rattle.std.proofs.lemmas.List.{get_or_past, length-map, Sums.sum_by-cons, Folds.list_all-map, FromFn.fill_by_all, FromFn.get_or-map-range_with_len, FromFn.length-map-range_with_len}
-use Rattle.council_base.specs.Coalitions.{has, size, without}
+use Rattle.mwc_states.proofs.Imports.{winning_coalitions, What, Minimal, Winning, weigh, meets, without_one, count_sets, completes, accepts}
+use Rattle.mwc_states.proofs.Imports.{◌≡◌, ◌∙◌, ℕ, zero, suc, ◌<◌, ◌≤◌, Bool, true, false, not, ◌&&◌, ◌==◌, List, [], ◌∷◌, length, get_or}
+use Rattle.mwc_states.proofs.Imports.{get_or-set_other, ◌^◌, and_parts, not-true, cases_eq, cases_lt, nat_tests, get_or_past, sum_by-cons}
+use Rattle.mwc_states.proofs.Imports.{get_or_default, list_all-map, size, rule_at, down, weight, votes_of, minimal_coalitions}
+use Rattle.mwc_states.proofs.Imports.{set, filter, refl, sym, ap, arith, inl, inr, leb, sum_by, length-set, get_or-set_same}
+use Rattle.mwc_states.proofs.Imports.{AreSizesOf, AreRowsOf}
+use Rattle.std.proofs.lemmas.List.{FromFn.fill_by_all, FromFn.get_or-map-range_with_len, FromFn.length-map-range_with_len, Sums.sum_by-le}
+use Rattle.std.proofs.{Common.sum, lemmas.Bool.and_from, lemmas.Bool.not_from_false}
+use Rattle.council_base.specs.Coalitions.{has, without}
 use Rattle.council_base.proofs.Shared.{Digits.has-kept, Digits.has-gone, Lists.filter-both}
-use Rattle.council_game.specs.Votes.{RuleView, Votes, IsVotes, rule_at, wins, minimal, down, weight}
+use Rattle.council_game.specs.Votes.{RuleView, Votes, IsVotes, wins, minimal}
 use Rattle.council_game.proofs.Shared.{Lists.all-at, Lists.all-of, Lists.all-rules, Meanings.needs-each-member, WinningByPlaces.rule-is}
-use Rattle.council_game.specs.{Game.GameView, Game.IsGame, Game.AreNonemptyCoalitions, Game.votes_of, Votes.minimal_coalitions}
+use Rattle.council_game.specs.Game.{GameView, IsGame, AreNonemptyCoalitions}
 use Rattle.power_index.specs.Tables.{AreSizeCounts}
 use Rattle.power_index.proofs.Shared.Minimal.{minimal-are-coalitions, minimal-few}
-use Rattle.swings.specs.Swings.{winning_coalitions}
 use Rattle.swings.proofs.Winning.{winning-are-coalitions, winning-few}
-use Rattle.mwc_states.specs.declared.what.What.{What}
-use Rattle.mwc_states.specs.declared.what.What.TheVariants.{Minimal, Winning}
-use Rattle.mwc_states.specs.Inner.Sets.{weigh, meets, without_one, count_sets}
-use Rattle.mwc_states.specs.Inner.States.{completes}
-use Rattle.mwc_states.specs.Inner.Links.{accepts, AreSizesOf}
-use Rattle.mwc_states.specs.Inner.Games.{AreRowsOf, counted_coalitions, is_counted}
+use Rattle.mwc_states.specs.Inner.Games.{counted_coalitions, is_counted}
 use Rattle.mwc_states.proofs.Masks.{set_of, count-coalitions, weigh-set}
+use Rattle.std.specs.{List.range_with_len, List.list_all, Cmp.both_ways as same_test}
 
 -- ---- a set without one of its members
 each-less : (f : List Bool → Bool) (xs : List Bool) → list_all f (without_one xs) ≡ true
@@ -69,15 +67,6 @@ column-sum (row ∷ rows) [] r long same = absurd (omega arith)
 column-sum (row ∷ rows) (w ∷ ws) r long same =
     let rest = column-sum rows ws r (omega arith) (λ p lt. same (suc p) (omega arith)) in
     omega (arith, same 0 (omega arith), rest, sum_by-cons (λ (member : List ℕ). get_or member r 0) row rows, sum_by-cons (λ (x : ℕ). x) w ws)
-
-zeros : (rows : List (List ℕ)) (p : ℕ) → get_or {A = ℕ} (map {B = ℕ} (λ _. 0) rows) p 0 ≡ 0
-zeros [] p = refl
-zeros (row ∷ rows) zero = refl
-zeros (row ∷ rows) (suc p) = zeros rows p
-
-no-sum : (rows : List (List ℕ)) → sum (map {B = ℕ} (λ _. 0) rows) ≡ 0
-no-sum [] = refl
-no-sum (row ∷ rows) = omega (arith, sum_by-cons (λ (x : ℕ). x) 0 (map (λ (_ : List ℕ). 0) rows), no-sum rows)
 
 -- ---- who wins meets the quotas
 all-past : (t : ℕ → Bool) (k n : ℕ) → k ≤ n → ((i : ℕ) → k ≤ i → t i ≡ true) → list_all t (range_with_len 0 n) ≡ list_all t (range_with_len 0 k)
@@ -138,14 +127,15 @@ module _ (v : Votes) (members : List (List ℕ)) (need : List ℕ) (game : IsVot
         ))
     | inr past ↦ omega (
       arith,
-      column-sum members (map (λ _. 0) members) r (sym (length-map members (λ _. 0))) (λ p below.
+      sum_by-le (λ member. get_or member r 0) 0 members (λ p d below.
+          (let none : get_or (get_or members p []) r 0 ≡ 0 =
           rows.weights p r (omega (arith, below, rows.long))
-          ∙ ap (λ (rule : RuleView). get_or rule.weights p 0) (get_or_past v.rules r (record { quota = 0; weights = [] }) past) ∙ sym (zeros members p)),
-      no-sum members,
+          ∙ ap (λ (rule : RuleView). get_or rule.weights p 0) (get_or_past v.rules r (record { quota = 0; weights = [] }) past) in
+          omega (arith, none, ap (λ (member : List ℕ). get_or member r 0) (get_or_default members p d [] below)))),
     )
   ]
 
-  -- how many of the coalitions that are counted pass a test, from how many sets that a graph accepts do
+  -- how many of the counted coalitions pass a test, from how many sets that a graph accepts do
   pub sizes-are : (what : What) (levels : List (List (List ℕ))) (test : List Bool → Bool) (p : ℕ → Bool) (sizes : List ℕ) → length levels ≡ n
       → ((xs : List Bool) → length xs ≡ n → accepts levels 2 xs ≡ completes what members (need ∷ []) xs)
       → ((c : ℕ) → test (set_of n c) ≡ p c) → AreSizesOf levels test sizes → AreSizeCounts n p (counted_coalitions what v) sizes

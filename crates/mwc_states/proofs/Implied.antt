@@ -1,9 +1,9 @@
 -- Rows that are all missed: one more, and those that another implies.
-use Rattle.std.proofs.Common.{◌≡◌, ◌∙◌, ℕ, Bool, true, not, ◌&&◌, List, [], ◌∷◌, ◌++◌, get_or, take, drop, filter, ap, sym, refl, arith}
-use Rattle.std.specs.List.{list_all, list_any}
-use Rattle.std.proofs.lemmas.{Bool.Decides.nat_tests, List.take-append-drop, List.Folds.list_all-append}
-use Rattle.mwc_states.specs.{Inner.Sets.meets, Inner.Later.misses_all}
-use Rattle.mwc_states.proofs.{Meeting.meets-through}
+use Rattle.mwc_states.proofs.Imports.{◌≡◌, ◌∙◌, ℕ, Bool, true, not, ◌&&◌, List, [], ◌∷◌, ◌++◌, get_or, take, drop, filter, ap, sym, refl}
+use Rattle.mwc_states.proofs.Imports.{arith, list_all, nat_tests, meets, misses_all}
+use Rattle.std.specs.List.{list_any}
+use Rattle.std.proofs.{Common.take-append-drop, lemmas.List.Folds.list_all-append}
+use Rattle.mwc_states.proofs.Meeting.{meets-through}
 
 -- a row that meets one of them
 pub misses_all-implied : (w : ℕ → ℕ) (x : List ℕ) (rows : List (List ℕ)) → list_any (λ row. meets (λ r. get_or x r 0) row) rows ≡ true

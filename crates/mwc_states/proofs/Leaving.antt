@@ -1,15 +1,12 @@
 -- What is left of a state once a member is decided.
-use Rattle.std.proofs.Common.{◌≡◌, ◌∙◌, ℕ, ◌+◌, ◌-◌, ◌<◌, ◌≤◌, Bool, true, false, not, ◌&&◌, cond, List, [], ◌∷◌, length, get_or, take, drop, max, ◌⊎◌, inl, inr, Result, Ok, Err, IfOk}
-use Rattle.std.proofs.Common.{ap, sym, refl, arith, subst}
-use Rattle.std.specs.{Bool.MatchBool, List.list_all}
-use Rattle.std.proofs.lemmas.{Bool.Decides.nat_tests, Bool.and_parts, Bool.false≢true, Bool.not_from_true, Bool.and_left}
-use Rattle.std.proofs.lemmas.{List.Folds.list_all-map, List.Folds.list_all_more, List.Folds.list_all_at, List.drop_more}
-use Rattle.council_base.specs.declared.limits.TheConstants.{RULES}
-use Rattle.mwc_states.specs.declared.what.What.{What}
-use Rattle.mwc_states.specs.declared.what.What.TheVariants.{Minimal, Winning}
-use Rattle.mwc_states.specs.{Inner.Sets.weigh, Inner.Sets.meets, Inner.Sets.without_one, Inner.Sets.is_empty, Inner.Sums.row_at, Inner.States.needs_each, Inner.States.completes}
-use Rattle.mwc_states.specs.{Inner.Later.misses_all, Inner.Later.fits, Inner.Later.spares_none, Inner.Later.misses_left, Inner.Later.IsLeft, Inner.Later.HasNoneLeft, Inner.Later.AddsMiss}
-use Rattle.mwc_states.proofs.{Meeting.reach, Meeting.reached, Meeting.meets-left, Meeting.meets-most, Meeting.meets-through}
+use Rattle.mwc_states.proofs.Imports.{list_all-map, drop_more, RULES, What, Minimal, Winning, weigh, meets, without_one, is_empty, row_at}
+use Rattle.mwc_states.proofs.Imports.{◌≡◌, ◌∙◌, ℕ, ◌+◌, ◌-◌, ◌<◌, ◌≤◌, Bool, true, false, not, ◌&&◌, cond, List, [], ◌∷◌, length, get_or}
+use Rattle.mwc_states.proofs.Imports.{take, drop, max, ◌⊎◌, inl, inr, ap, sym, refl, arith, subst, list_all, nat_tests, and_parts}
+use Rattle.mwc_states.proofs.Imports.{needs_each, completes, misses_all, fits, IsLeft}
+use Rattle.std.proofs.Common.{Result, Ok, Err, IfOk, MatchBool}
+use Rattle.std.proofs.lemmas.{Bool.false≢true, Bool.not_from_true, Bool.and_left, List.Folds.list_all_more, List.Folds.list_all_at}
+use Rattle.mwc_states.specs.Inner.Later.{spares_none, misses_left, HasNoneLeft, AddsMiss}
+use Rattle.mwc_states.proofs.Meeting.{reach, reached, meets-left, meets-most, meets-through}
 
 pub fits-meets : (what : What) (members : List (List ℕ)) (need : List ℕ) (set : List Bool) → fits what members need set ≡ true → meets (weigh members set) need ≡ true
 fits-meets what members need set fitting = (and_parts (meets (weigh members set) need) (needs_each what members set need) fitting).0

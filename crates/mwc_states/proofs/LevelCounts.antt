@@ -1,20 +1,16 @@
 -- From level to level of a graph.
-use Rattle.mwc_states.proofs.Imports.{◌≡◌, ◌∙◌, ℕ, zero, suc, ◌+◌, ◌-◌, ◌*◌, ◌^◌, ◌<◌, ◌≤◌, ◌==◌, ◌&&◌, Bool, true, false, cond, ltb, List, [], ◌∷◌, length, drop, get_or, sym, ap, arith, nat_tests, later, sum_below, pow_mono, cases_lt}
-use Rattle.mwc_states.proofs.Imports.{CanGo, HaveAllRoom, along, completed, link_at, step, total, Forward, Backward, EndBy, range_at, count_at}
-use Rattle.mwc_states.specs.declared.size_rows.SizeRows.{SizeRows}
-use Rattle.mwc_states.specs.Inner.Sets.{has, count_sets}
-use Rattle.mwc_states.specs.Inner.Links.{IsGraph, states_at}
+use Rattle.mwc_states.proofs.Imports.{◌≡◌, ◌∙◌, ℕ, zero, suc, ◌+◌, ◌-◌, ◌*◌, ◌^◌, ◌<◌, ◌≤◌, ◌==◌, ◌&&◌, Bool, true, false, cond, ltb, List}
+use Rattle.mwc_states.proofs.Imports.{[], ◌∷◌, length, drop, get_or, sym, ap, arith, nat_tests, later, sum_below, cases_lt, along, link_at}
+use Rattle.mwc_states.proofs.Imports.{step, total, Forward, Backward, EndBy, range_at, count_at, SizeRows, has, count_sets, states_at}
+use Rattle.mwc_states.proofs.Imports.{accepts, AreLeading, AreCompleting, over_choices, drop-cons, get_or_past, drop_all, get_or-map}
+use Rattle.mwc_states.proofs.Imports.{length-map, get_or_append_left, get_or_push, map, ◌++◌, subst, inl, inr}
+use Rattle.std.proofs.Common.{pow_mono, Vec, Global}
+use Rattle.mwc_states.specs.Inner.{Counting.with_member, Links.IsGraph, Ways.CanGo, Ways.HaveAllRoom}
+use Rattle.mwc_states.proofs.Choices.{choices-few, choices-sets, complete-all, complete-few, with-sets, along-few, later-alike}
+use Rattle.mwc_states.proofs.{SetCounts.sets-few, SizeRows.count-past, SizeSums.sum-alike, SizeSums.sum-one, Totals.total-along}
+unfoldable use Rattle.mwc_states.specs.Inner.Sets.{count_sets}
 unfoldable use Rattle.mwc_states.specs.Inner.Links.{accepts}
-use Rattle.mwc_states.specs.Inner.Counting.{AreLeading, AreCompleting, with_member}
 unfoldable use Rattle.mwc_states.specs.Inner.Counting.{over_choices}
-use Rattle.mwc_states.proofs.Choices.{choices-few, choices-sets, complete-all, complete-few, with-sets, along-few, later-zero, later-alike}
-use Rattle.mwc_states.proofs.SetCounts.{sets-few, sets-empty, sets-none}
-use Rattle.mwc_states.proofs.SizeSums.{sum-alike, sum-one}
-use Rattle.mwc_states.proofs.Totals.{total-along}
-use Rattle.mwc_states.proofs.SizeRows.{count-past}
-use Rattle.std.proofs.Math.Seq.{drop-cons, get_or-append_seam}
-use Rattle.std.proofs.lemmas.List.{get_or_past, drop_all, get_or-map, length-map, get_or_append_left}
-use Rattle.std.proofs.Common.{Vec, Global, map, ◌++◌, subst, inl, inr}
 
 -- ---- a level
 abbrev pub links_of : List (Vec (List ℕ) Global) → List (List (List ℕ))
@@ -35,27 +31,25 @@ level-at levels i links lt is = record {
   is = ap (λ (v : Vec (List ℕ) Global). v.items) is ∙ sym (get_or-map (λ v. v.items) levels i links [] lt);
 }
 
-pub level-long : {levels : List (List (List ℕ))} {i : ℕ} {links : List (List ℕ)} → IsLevel levels i links → length links ≡ states_at levels i
-level-long h = ap (λ (l : List (List ℕ)). length l) h.is
-
 module _ {levels : List (List (List ℕ))} {i : ℕ} {links : List (List ℕ)} (graph : IsGraph levels) (h : IsLevel levels i links) where
+  pub level-long : length links ≡ 2 + states_at levels i
+  level-long = omega (arith, ap (λ (l : List (List ℕ)). length l) h.is, graph.ends i h.within)
+
   pub level-small : (p choice : ℕ) → link_at links p choice < 2 + states_at levels (i + 1)
   level-small p choice =
       let small = graph.linked i p choice h.within in omega (arith, small, ap (λ (l : List (List ℕ)). link_at l p choice) h.is)
 
-  pub level-few : length links + 2 ≤ 2 ^ 26 + 2
-  level-few = omega (arith, level-long h, graph.few_states i)
+  pub level-few : length links ≤ 2 ^ 26 + 2
+  level-few = omega (arith, level-long, graph.few_states i)
 
   -- ---- forward
   module _ {rows : SizeRows} (are : AreLeading levels i rows) where
     lead-total : (value : ℕ → ℕ → ℕ) → total (length links) (count_at rows) value ≡ over_choices levels i value
-    lead-total value = ap (λ (n : ℕ). total n (count_at rows) value) (level-long h) ∙ are.sums value
+    lead-total value = ap (λ (n : ℕ). total n (count_at rows) value) level-long ∙ are.sums value
 
     pub lead-go : (to : ℕ) → i + 1 < length levels → to ≡ 2 + states_at levels (i + 1) → CanGo Forward links rows.ranges.items to
     lead-go to more is = record {
-      some = omega (arith, are.long);
-      some_come = omega (arith, is);
-      lead = λ choice p lt. (omega (arith, lt, level-long h, are.long), omega (arith, level-small p choice, is));
+      lead = λ choice p lt. (omega (arith, lt, level-long, are.long), omega (arith, level-small p choice, is));
       ends = λ k. omega (arith, are.ends k, more, graph.few);
     }
 
@@ -76,8 +70,8 @@ module _ {levels : List (List (List ℕ))} {i : ℕ} {links : List (List ℕ)} (
     lead-next more is room counts = record {
       long = room.long ∙ is;
       ends = room.ends (i + 1) are.ends;
-      sums = λ value. (λ t. total (states_at levels (i + 1)) (λ k s. counts k s t) value)
-          ∙ total-along (states_at levels (i + 1)) links (count_at rows) value (λ p choice lt. level-small p choice)
+      sums = λ value. (λ t. total (2 + states_at levels (i + 1)) (λ k s. counts k s t) value)
+          ∙ total-along (2 + states_at levels (i + 1)) links (count_at rows) value (λ p choice lt. level-small p choice)
           (λ k. count-past _ _ _ (i + 1) k 40 are.ends (omega (arith, more, graph.few)))
           ∙ lead-total (step links value) ∙ (λ t. over_choices levels i (step (h.is t) value)) ∙ one_more value;
     }
@@ -96,30 +90,25 @@ module _ {levels : List (List (List ℕ))} {i : ℕ} {links : List (List ℕ)} (
     front : links ∷ rest ≡ drop i levels
     front = let e : i + 1 ≡ suc i = omega arith in (λ t. h.is t ∷ drop (e t) levels) ∙ sym (drop-cons levels i [] h.within)
 
-    pub complete-go : CanGo Backward links rows.ranges.items (length links + 2)
-    complete-go = record {
-      some = omega (arith, are.long);
-      some_come = omega arith;
-      lead = λ choice p lt. (omega (arith, level-small p choice, are.long), omega (arith, lt));
+    pub complete-go : (to : ℕ) → to ≡ length links → CanGo Backward links rows.ranges.items to
+    complete-go to is = record {
+      lead = λ choice p lt. (omega (arith, level-small p choice, are.long), omega (arith, lt, is));
       ends = λ k. omega (arith, are.ends k, graph.few);
     }
 
-    pub complete-fits : (k s : ℕ) → completed links (count_at rows) k s < 2 ^ 64
+    pub complete-fits : (k s : ℕ) → along Backward links (count_at rows) k s < 2 ^ 64
     complete-fits k s =
         let few = complete-few links rest (count_at rows) left (states_at levels (i + 1)) are.each (λ p choice lt. level-small p choice) k s in
-        let own : cond (1 == k) (later 0 (count_at rows 1) s) 0 ≤ later 0 (count_at rows 1) s = grind (arith, nat_tests) in
         let up : 2 ^ suc left ≤ 2 ^ 40 = pow_mono {j = 40} (omega (arith, h.within, graph.few)) in
-        let low : 2 ^ left ≤ 2 ^ 40 = pow_mono {j = 40} (omega (arith, h.within, graph.few)) in
-        omega (arith, few, own, up, low, later-zero (count_at rows 1) s, are.each 1 s (omega arith), sets-few left s (accepts rest 1))
+        omega (arith, few, up)
 
-    pub complete-next : {made : SizeRows} → length made.ranges.items ≡ length links + 2
-        → ((m : ℕ) → EndBy m rows.ranges.items → EndBy (m + 1) made.ranges.items)
-        → ((k s : ℕ) → count_at made k s ≡ completed links (count_at rows) k s) → AreCompleting levels i made
-    complete-next long ends counts = record {
-      long = omega (arith, long, level-long h);
-      ends = λ k. omega (arith, ends (left + 1) are.ends k, one_level);
+    pub complete-next : {made : SizeRows} {to : ℕ} → to ≡ length links → HaveAllRoom Backward links rows.ranges.items to made.ranges.items
+        → ((k s : ℕ) → count_at made k s ≡ along Backward links (count_at rows) k s) → AreCompleting levels i made
+    complete-next is room counts = record {
+      long = room.long ∙ is ∙ level-long;
+      ends = λ k. omega (arith, room.ends (left + 1) are.ends k, one_level);
       each = λ k s lt. counts k s ∙ complete-all links rest (count_at rows) left (states_at levels (i + 1)) are.each (λ p choice lt. level-small p choice)
-          k s (omega (arith, lt, level-long h)) ∙ (λ t. count_sets (one_level t) (accepts (front t) k) s);
+          k s (omega (arith, lt, level-long)) ∙ (λ t. count_sets (one_level t) (accepts (front t) k) s);
     }
 
     -- ---- both
@@ -130,8 +119,8 @@ module _ {levels : List (List (List ℕ))} {i : ℕ} {links : List (List ℕ)} (
           (λ t. total (length links) (count_at leading) (λ p a. later-alike (a + 1) (count_at rows (link_at links p 1))
           (count_sets left (accepts rest (link_at links p 1))) s (are.each (link_at links p 1) (s - (a + 1)) (level-small p 1)) t))
           ∙ (λ t. total (length links) (count_at leading) (λ p a. with-sets links rest left s p a t))
-          ∙ (λ t. total (length links) (count_at leading) (λ p a. later a (count_sets (suc left) (λ set. has 0 set && accepts (front t) (p + 2) set)) s))
-          ∙ lead-total lead (λ p a. later a (count_sets (suc left) (λ set. has 0 set && accepts (drop i levels) (p + 2) set)) s)
+          ∙ (λ t. total (length links) (count_at leading) (λ p a. later a (count_sets (suc left) (λ set. has 0 set && accepts (front t) p set)) s))
+          ∙ lead-total lead (λ p a. later a (count_sets (suc left) (λ set. has 0 set && accepts (drop i levels) p set)) s)
           ∙ choices-sets levels i 0 (suc left) i (length levels) s (omega arith) (omega (arith, h.within)) (omega (arith, h.within))
 
       pub with-fits : (s : ℕ) → with_member links (count_at leading) (count_at rows) s < 2 ^ 64
@@ -150,29 +139,29 @@ module _ (levels : List (List (List ℕ))) {rows : SizeRows} (ends : EndBy 1 row
   lead-first some long one = record {
     long = long;
     ends = ends;
-    sums = λ value. sum-alike (states_at levels 0) _ _ (λ p lt. row value p) ∙ sum-one (states_at levels 0) 0 (λ p. value p 0) ∙ here (value 0 0);
+    sums = λ value. sum-alike (2 + states_at levels 0) _ _ (λ p lt. row value p) ∙ sum-one (2 + states_at levels 0) 2 (λ p. value p 0) ∙ here (value 2 0);
   }
     where
-      here : (v : ℕ) → cond (ltb 0 (states_at levels 0)) v 0 ≡ v
+      here : (v : ℕ) → cond (ltb 2 (2 + states_at levels 0)) v 0 ≡ v
       here v = grind (arith, nat_tests)
 
-      row : (value : ℕ → ℕ → ℕ) (p : ℕ) → sum_below 41 (λ a. count_at rows (p + 2) a * value p a) ≡ cond (0 == p) (value p 0) 0
-      row value p = sum-alike 41 _ _ (λ a lt. ap (λ (n : ℕ). n * value p a) (one (p + 2) a) ∙ times (p + 2 == 2 && a == 0) (value p a) ∙ tests a (value p a))
-          ∙ sum-one 41 0 (λ a. cond (0 == p) (value p a) 0)
+      row : (value : ℕ → ℕ → ℕ) (p : ℕ) → sum_below 41 (λ a. count_at rows p a * value p a) ≡ cond (2 == p) (value p 0) 0
+      row value p = sum-alike 41 _ _ (λ a lt. ap (λ (n : ℕ). n * value p a) (one p a) ∙ times (p == 2 && a == 0) (value p a) ∙ tests a (value p a))
+          ∙ sum-one 41 0 (λ a. cond (2 == p) (value p a) 0)
         where
           times : (b : Bool) (v : ℕ) → cond b 1 0 * v ≡ cond b v 0
           times true v = omega arith
           times false v = omega arith
 
-          tests : (a v : ℕ) → cond (p + 2 == 2 && a == 0) v 0 ≡ cond (0 == a) (cond (0 == p) v 0) 0
+          tests : (a v : ℕ) → cond (p == 2 && a == 0) v 0 ≡ cond (0 == a) (cond (2 == p) v 0) 0
           tests a v = grind (arith, nat_tests)
 
   pub complete-first : length rows.ranges.items ≡ 2 → ((k s : ℕ) → count_at rows k s ≡ cond (k == 1 && s == 0) 1 0) → AreCompleting levels (length levels) rows
-  unfolding accepts
+  unfolding accepts count_sets
   complete-first long one = record {
     long = omega (arith, long, ap (λ (l : List (List ℕ)). length l) past);
     ends = λ k. omega (arith, ends k);
-    each = λ k s lt. one k s ∙ sym (last k s (omega (arith, lt, ap (λ (l : List (List ℕ)). length l) past))) ∙ (λ t. count_sets (sym none t) (accepts (sym gone t) k) s);
+    each = λ k s lt. one k s ∙ sym (last k s) ∙ (λ t. count_sets (sym none t) (accepts (sym gone t) k) s);
   }
     where
       past : get_or levels (length levels) [] ≡ []
@@ -184,10 +173,9 @@ module _ (levels : List (List (List ℕ))) {rows : SizeRows} (ends : EndBy 1 row
       gone : drop (length levels) levels ≡ []
       gone = drop_all _ levels (omega arith)
 
-      last : (k s : ℕ) → k < 2 → count_sets 0 (accepts [] k) s ≡ cond (k == 1 && s == 0) 1 0
-      last zero s lt = sets-none 0 s
-      last (suc zero) s lt = sets-empty 0 s
-      last (suc (suc k)) s lt = absurd (omega arith)
+      last : (k s : ℕ) → count_sets 0 (accepts [] k) s ≡ cond (k == 1 && s == 0) 1 0
+      last k zero = grind (arith, nat_tests)
+      last k (suc s) = grind (arith, nat_tests)
 
 pub all-sets : {levels : List (List (List ℕ))} {rows : SizeRows} → 1 ≤ states_at levels 0 → AreCompleting levels 0 rows → (s : ℕ)
     → count_at rows 2 s ≡ count_sets (length levels) (λ set. true && accepts levels 2 set) s
@@ -202,7 +190,6 @@ one-before {levels = levels} {n = n} {rows = rows} are some = let e : n ≡ n - 
 pub each-pushed : {A : Type 0} (P : ℕ → A → Type 0) (xs : List A) (x : A) (n : ℕ) → length xs ≡ n → ((i : ℕ) (d : A) → i < n → P i (get_or xs i d)) → P n x
     → (i : ℕ) (d : A) → i < n + 1 → P i (get_or (xs ++ x ∷ []) i d)
 each-pushed P xs x n long each last i d below = elim (cases_lt i n) [
-  | inl lt ↦ subst (λ y. P i y) (sym (get_or_append_left xs (x ∷ []) d i (omega (arith, lt, long)))) (each i d lt)
-  | inr ge ↦ (let e : i ≡ n = omega (arith, ge, below) in
-      subst (λ y. P i y) (sym (ap (λ (k : ℕ). get_or (xs ++ x ∷ []) k d) (e ∙ sym long) ∙ get_or-append_seam xs x [] d)) (subst (λ k. P k x) (sym e) last))
+  | inl lt ↦ rw (get_or_append_left xs (x ∷ []) d i (omega (arith, lt, long))) (each i d lt)
+  | inr ge ↦ (let e : i ≡ n = omega (arith, ge, below) in rw (get_or_push xs x d i (long ∙ sym e), e) last)
 ]

@@ -18,6 +18,5 @@ mod Sending
 mod SetCounts
 mod SizeRows
 mod SizeSums
-mod Sorting
 mod Tables
 mod Totals

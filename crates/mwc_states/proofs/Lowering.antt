@@ -1,10 +1,8 @@
 -- Rows lowered to the least of the later ones.
-use Rattle.std.proofs.Common.{◌≡◌, ◌∙◌, ℕ, ◌+◌, ◌-◌, ◌<◌, ◌≤◌, List, [], length, get_or, set, min, max, ltb, Bool, true, ap, arith, inl, inr}
-use Rattle.std.proofs.Common.{length-set, get_or-set_same, get_or-set_other}
-use Rattle.std.proofs.lemmas.{Bool.cases_lt, Bool.ltb-true, List.get_or_read}
-use Rattle.council_base.specs.declared.limits.TheConstants.{RULES}
-use Rattle.mwc_states.specs.{Inner.Sets.weigh, Inner.Sets.meets, Inner.Sums.row_at, Inner.Sums.HasSum, Inner.Sums.IsAscending}
-use Rattle.mwc_states.specs.{Inner.Sums.AreListed, Inner.Sums.AreSums}
+use Rattle.mwc_states.proofs.Imports.{◌≡◌, ◌∙◌, ℕ, ◌+◌, ◌-◌, ◌<◌, ◌≤◌, List, [], length, get_or, set, min, max, ltb, Bool, true, ap, arith}
+use Rattle.mwc_states.proofs.Imports.{inl, inr, length-set, get_or-set_same, get_or-set_other, cases_lt, RULES, weigh, meets, row_at}
+use Rattle.mwc_states.proofs.Imports.{HasSum, IsAscending, AreListed, AreSums}
+use Rattle.std.proofs.{Common.ltb-true, lemmas.List.get_or_read}
 use Rattle.mwc_states.proofs.Meeting.{reach, reached}
 
 -- those from the last before place k on

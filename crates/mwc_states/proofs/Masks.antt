@@ -1,12 +1,11 @@
 -- Coalitions, which are numbers, as sets: how many of them pass a test, and what they weigh.
-use Rattle.std.proofs.Common.{◌≡◌, ◌∙◌, ℕ, zero, suc, ◌+◌, ◌^◌, ◌<◌, Bool, true, false, ◌&&◌, ◌==◌, cond, List, [], ◌∷◌, length, get_or, map}
-use Rattle.std.proofs.Common.{filter, sum_by, refl, sym, ap, arith}
+use Rattle.mwc_states.proofs.Imports.{get_or, map, filter, sum_by, refl, sym, ap, arith, nat_tests, sum_by-cons, size, down, weight, weigh}
+use Rattle.mwc_states.proofs.Imports.{◌≡◌, ◌∙◌, ℕ, zero, suc, ◌+◌, ◌^◌, ◌<◌, Bool, true, false, ◌&&◌, ◌==◌, cond, List, [], ◌∷◌, length}
+use Rattle.mwc_states.proofs.Imports.{count_sets}
 use Rattle.std.specs.List.{range_with_len}
-use Rattle.std.proofs.lemmas.{Bool.Decides.nat_tests, List.Sums.length-filter, List.Sums.sum_by-cons}
-use Rattle.council_base.specs.Coalitions.{has, size}
-use Rattle.council_game.specs.Votes.{down, weight}
+use Rattle.std.proofs.lemmas.List.Sums.{length-filter}
+use Rattle.council_base.specs.Coalitions.{has}
 use Rattle.council_game.proofs.Shared.Sets.{double-pow, first-in, first-out, rest-in, rest-out, sum-down, sum-none}
-use Rattle.mwc_states.specs.Inner.Sets.{weigh, count_sets}
 
 -- the set of a coalition of n members, member by member
 abbrev pub set_of : ℕ → ℕ → List Bool
@@ -24,8 +23,7 @@ pub set-out : (n c : ℕ) → c < 2 ^ n → set_of (suc n) c ≡ false ∷ set_o
 set-out n c lt = λ i. first-out n c lt i ∷ map-later (λ p. has (suc n) p c) (λ p. has n p c) 0 n (λ p _. rest-out n p c) i
 
 pub set-in : (n c : ℕ) → c < 2 ^ n → set_of (suc n) (2 ^ n + c) ≡ true ∷ set_of n c
-set-in n c lt =
-    λ i. first-in n c lt i ∷ map-later (λ p. has (suc n) p (2 ^ n + c)) (λ p. has n p c) 0 n (λ p below. rest-in n p c (omega (arith, below))) i
+set-in n c lt = grind (arith, first-in, map-later, rest-in)
 
 filter-map : (f : ℕ → Bool) (ps : List ℕ) → length (filter (λ b. b) (map f ps)) ≡ length (filter f ps)
 filter-map f [] = refl
@@ -75,17 +73,9 @@ count-passing (suc n) test (suc s) =
 
 pub count-coalitions : (n : ℕ) (test : List Bool → Bool) (s : ℕ)
     → count_sets n test s ≡ length (filter (λ c. test (set_of n c) && (size n c == s)) (down (2 ^ n)))
-count-coalitions n test s =
-    count-passing n test s ∙ (λ i. sum_by (λ c. cond (test (set_of n c) && ((sym (size-number n c)) i == s)) 1 0) (down (2 ^ n)))
-    ∙ sym (length-filter (λ c. test (set_of n c) && (size n c == s)) (down (2 ^ n)))
+count-coalitions n test s = grind (arith, count-passing, size-number, length-filter)
 
 -- ---- what a coalition weighs under a rule
-pub weigh-cons : (m : List ℕ) (ms : List (List ℕ)) (b : Bool) (set : List Bool) (r : ℕ)
-    → weigh (m ∷ ms) (b ∷ set) r ≡ cond b (get_or m r 0) 0 + weigh ms set r
-unfolding weigh
-weigh-cons m ms true set r = refl
-weigh-cons m ms false set r = omega arith
-
 weigh-from : (members : List (List ℕ)) (ws : List ℕ) (r n a c : ℕ)
     → ((p : ℕ) → p < length members → get_or (get_or members p []) r 0 ≡ get_or ws (a + p) 0)
     → weigh members (map (λ p. has n p c) (range_with_len a (length members))) r
@@ -96,14 +86,10 @@ weigh-from (m ∷ ms) ws r n a c same =
     let rest = weigh-from ms ws r n (a + 1) c (λ p lt.
     (let at : a + suc p ≡ a + 1 + p = omega arith in same (suc p) (omega arith) ∙ ap (λ (k : ℕ). get_or ws k 0) at)) in
     let first : get_or m r 0 ≡ get_or ws a 0 = same 0 (omega arith) ∙ ap (λ (k : ℕ). get_or ws k 0) (let z : a + 0 ≡ a = omega arith in z) in
-    let here = weigh-cons m ms (has n a c) (map (λ p. has n p c) (range_with_len (a + 1) (length ms))) r in
     let more = sum_by-cons (λ p. get_or ws p 0) a (filter (λ p. has n p c) (range_with_len (a + 1) (length ms))) in
     grind (arith, nat_tests)
 
 pub weigh-set : (members : List (List ℕ)) (ws : List ℕ) (r n c : ℕ) → length members ≡ n → length ws ≡ n
     → ((p : ℕ) → p < n → get_or (get_or members p []) r 0 ≡ get_or ws p 0) → weigh members (set_of n c) r ≡ weight ws c
 unfolding weight
-weigh-set members ws r n c long full same =
-    let from = weigh-from members ws r n 0 c (λ p lt. same p (omega (arith, lt, long)) ∙ ap (λ (k : ℕ). get_or ws k 0) (let z : p ≡ 0 + p = omega arith in z)) in
-    ap (λ (k : ℕ). weigh members (map (λ p. has n p c) (range_with_len 0 k)) r) (sym long) ∙ from
-    ∙ (λ i. sum_by (λ p. get_or ws p 0) (filter (λ p. has ((sym full) i) p c) (range_with_len 0 ((long ∙ sym full) i))))
+weigh-set members ws r n c long full same = grind (arith, weigh-from)

@@ -1,11 +1,8 @@
 -- Weights that meet rows.
-use Rattle.std.proofs.Common.{◌≡◌, ◌∙◌, ℕ, ◌-◌, ◌<◌, ◌≤◌, Bool, true, false, cond, leb, List, [], ◌∷◌, length, get_or, max}
-use Rattle.std.proofs.Common.{sum_by, ap, sym, refl, subst, arith, zero-add}
-use Rattle.std.specs.List.{range_with_len}
-use Rattle.std.proofs.lemmas.{Bool.leb-true, Bool.le-leb, Bool.Decides.same_from_decides}
-use Rattle.std.proofs.lemmas.{List.FromFn.get_or-range_with_len, List.Sums.AllPass-from_list_all, List.Sums.list_all-from_AllPass, List.Sums.sum_by-cons, List.nil_from_length}
-use Rattle.council_base.specs.declared.limits.TheConstants.{RULES}
-use Rattle.mwc_states.specs.Inner.Sets.{weigh, meets}
+use Rattle.mwc_states.proofs.Imports.{◌≡◌, ℕ, ◌-◌, ◌<◌, ◌≤◌, Bool, true, false, cond, List, [], ◌∷◌, length, get_or, max, sum_by, refl}
+use Rattle.mwc_states.proofs.Imports.{arith, zero-add, get_or-range_with_len, sum_by-cons, RULES, weigh, meets}
+use Rattle.std.proofs.lemmas.{Bool.Decides.same_from_decides, List.nil_from_length, List.Sums.list_all-from_AllPass}
+use Rattle.std.proofs.Common.{leb-true, le-leb}
 
 -- weights are at least as great as a row under each rule
 abbrev pub Reaches : (ℕ → ℕ) → List ℕ → Type 0
@@ -13,20 +10,14 @@ Reaches weights row = (r : ℕ) → r < RULES → get_or row r 0 ≤ weights r
 
 pub reach : (w : ℕ → ℕ) (row : List ℕ) → meets w row ≡ true → Reaches w row
 unfolding meets
-reach w row is r lt =
-    let test : ℕ → Bool = λ r. leb (get_or row r 0) (w r) in
-    let at : get_or (range_with_len 0 RULES) r 0 ≡ r = get_or-range_with_len 0 RULES r 0 lt ∙ zero-add r in
-    leb-true _ _ (subst (λ (k : ℕ). test k ≡ true) at (AllPass-from_list_all test (range_with_len 0 RULES) is r 0 lt))
+reach w row is r lt = grind (arith, get_or-range_with_len, zero-add, leb-true)
 
 pub reached : (w : ℕ → ℕ) (row : List ℕ) → Reaches w row → meets w row ≡ true
 unfolding meets
-reached w row h = list_all-from_AllPass (λ r. leb (get_or row r 0) (w r)) (range_with_len 0 RULES)
-    (λ k d lt. let at : k ≡ get_or (range_with_len 0 RULES) k d = sym (get_or-range_with_len 0 RULES k d lt ∙ zero-add k) in
-    subst (λ (r : ℕ). leb (get_or row r 0) (w r) ≡ true) at (le-leb _ _ (h k lt)))
+reached w row h = grind (arith, list_all-from_AllPass, get_or-range_with_len, zero-add, le-leb)
 
 pub meets-same : (v w : ℕ → ℕ) (x y : List ℕ) → (Reaches v x → Reaches w y) → (Reaches w y → Reaches v x) → meets v x ≡ meets w y
-meets-same v w x y to from =
-    same_from_decides (meets v x) (meets w y) (λ e. to (reach v x e), λ h. reached v x (from h)) (reach w y, reached w y)
+meets-same v w x y to from = grind (arith, same_from_decides, reach, reached)
 
 -- who meets a row meets each row that it meets
 pub meets-through : (w : ℕ → ℕ) (x y : List ℕ) → meets w x ≡ true → meets (λ r. get_or x r 0) y ≡ true → meets w y ≡ true
@@ -38,8 +29,7 @@ meets-most w x y z is meets_y = meets-same w w z x (λ h r lt. omega (arith, is 
 
 -- a row that is raised, and is met by the same weights
 pub meets-raised_same : (w : ℕ → ℕ) (x y : List ℕ) → ((r : ℕ) → get_or x r 0 ≤ get_or y r 0) → (meets w x ≡ true → meets w y ≡ true) → meets w y ≡ meets w x
-meets-raised_same w x y above met =
-    meets-same w w y x (λ h r lt. omega (arith, above r, h r lt)) (λ h. reach w y (met (reached w x h)))
+meets-raised_same w x y above met = grind (arith, meets-same, reach, reached)
 
 -- one member less
 pub meets-left : (x y member : List ℕ) (members : List (List ℕ)) (taken : Bool) (set : List Bool)
@@ -68,5 +58,4 @@ meets-total members total row set is met = reached _ row (λ r lt. omega (arith,
 
 pub none-needed : (members : List (List ℕ)) (total row : List ℕ) → ((r : ℕ) → get_or total r 0 ≡ sum_by (λ member. get_or member r 0) members)
     → length members ≡ 0 → meets (λ r. get_or total r 0) row ≡ true → (r : ℕ) → r < RULES → get_or row r 0 ≡ 0
-none-needed members total row is none met r lt =
-    omega (arith, is r, reach _ row met r lt, ap (sum_by (λ member. get_or member r 0)) (nil_from_length members none))
+none-needed members total row is none met r lt = grind (arith, reach, nil_from_length)

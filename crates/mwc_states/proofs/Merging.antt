@@ -1,11 +1,9 @@
 -- Sums, one more after another; with and without one more member.
-use Rattle.std.proofs.Common.{◌≡◌, ◌∙◌, ℕ, ◌+◌, ◌-◌, ◌<◌, ◌≤◌, Bool, true, false, List, [], ◌∷◌, length, get_or, set, drop, replicate, sum_by, zero, suc}
-use Rattle.std.proofs.Common.{ap, sym, refl, subst, arith}
-use Rattle.std.proofs.lemmas.{List.drop_all, List.drop_more, List.Sums.sum_by-cons, List.Sums.sum_by-drop_more, List.Sums.sum_by-take-drop}
-use Rattle.council_base.specs.declared.limits.TheConstants.{RULES}
-use Rattle.council_base.proofs.Shared.Lists.{get_or-zeros}
-use Rattle.mwc_states.specs.{Inner.Sets.weigh, Inner.Sums.row_at, Inner.Sums.IsSum, Inner.Sums.HasSum, Inner.Sums.IsAscending}
-use Rattle.mwc_states.specs.{Inner.Sums.AddsMember, Inner.Sums.AreListed}
+use Rattle.mwc_states.proofs.Imports.{◌≡◌, ◌∙◌, ℕ, ◌+◌, ◌-◌, ◌<◌, ◌≤◌, Bool, true, false, List, [], ◌∷◌, length, get_or, set, drop, sum_by}
+use Rattle.mwc_states.proofs.Imports.{zero, suc, ap, sym, refl, subst, arith, drop_all, drop_more, sum_by-cons, sum_by-take-drop, RULES}
+use Rattle.mwc_states.proofs.Imports.{get_or-zeros, weigh, row_at, HasSum, IsAscending, AreListed}
+use Rattle.std.proofs.{Common.replicate, lemmas.List.Sums.sum_by-drop_more}
+use Rattle.mwc_states.specs.Inner.Sums.{IsSum, AddsMember}
 use Rattle.mwc_states.proofs.Meeting.{weigh-nil}
 
 -- ---- one more member

@@ -1,7 +1,7 @@
 -- The pairs of a choice and a set, by size.
-use Rattle.mwc_states.proofs.Imports.{◌≡◌, ◌∙◌, ℕ, ◌+◌, ◌-◌, ◌*◌, ◌<◌, ◌≤◌, List, length, get_or, sym, ap, arith, nat_tests, later, sum_below, SizeRange, width}
+use Rattle.mwc_states.proofs.Imports.{◌≡◌, ◌∙◌, ℕ, ◌+◌, ◌-◌, ◌*◌, ◌<◌, ◌≤◌, List, length, get_or, sym, ap, arith, nat_tests, later}
+use Rattle.mwc_states.proofs.Imports.{sum_below, SizeRange, width, get_or_past}
 use Rattle.mwc_states.proofs.SizeSums.{sum-more, sum-zeros, sum-stays, sum-fewer}
-use Rattle.std.proofs.lemmas.List.{get_or_past}
 
 -- a row of choices, and one of sets
 module _ (choices sets : ℕ → ℕ) (range r other_range o : SizeRange) (counts numbers : List ℕ) (is : range ≡ r) (other_is : other_range ≡ o)

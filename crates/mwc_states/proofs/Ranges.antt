@@ -1,7 +1,7 @@
 -- Ranges that grow.
-use Rattle.mwc_states.proofs.Imports.{◌≡◌, ◌∙◌, ℕ, ◌<◌, ◌≤◌, List, length, ap, arith, cases_eq, Covers, range_at, SizeRange, link_at, get_or, get_or_default, []}
-use Rattle.std.proofs.lemmas.List.{take-append-le}
-use Rattle.std.proofs.Common.{take, drop, take_all, ◌++◌, set, get_or-set_same, get_or-set_other}
+use Rattle.mwc_states.proofs.Imports.{◌≡◌, ◌∙◌, ℕ, ◌<◌, ◌≤◌, List, length, ap, arith, cases_eq, Covers, range_at, SizeRange, link_at}
+use Rattle.mwc_states.proofs.Imports.{get_or, get_or_default, [], take-append-le, take, drop, take_all, ◌++◌, set, get_or-set_same}
+use Rattle.mwc_states.proofs.Imports.{get_or-set_other}
 
 pub covers-self : (r : SizeRange) → Covers r 0 r
 covers-self r = record { first = omega arith; end = omega arith }

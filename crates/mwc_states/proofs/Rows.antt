@@ -1,6 +1,6 @@
 -- Rows that a loop makes, rule by rule.
-use Rattle.std.proofs.Common.{◌≡◌, ℕ, ◌+◌, ◌<◌, ◌≤◌, List, length, get_or, set, arith, get_or-set_same, get_or-set_other, length-set}
-use Rattle.council_base.specs.declared.limits.TheConstants.{RULES}
+use Rattle.mwc_states.proofs.Imports.{◌≡◌, ℕ, ◌+◌, ◌<◌, ◌≤◌, List, length, get_or, set, arith, get_or-set_same, get_or-set_other}
+use Rattle.mwc_states.proofs.Imports.{length-set, RULES}
 
 -- new has what f says under the first n rules, and what old has under the others
 abbrev pub IsMadeUntil : ℕ → (ℕ → ℕ) → List ℕ → List ℕ → Type 0
@@ -8,5 +8,4 @@ IsMadeUntil n f old new = (length new ≡ RULES) × ((k : ℕ) → k < n → get
 
 -- one rule more
 pub made_more : (n : ℕ) (f : ℕ → ℕ) (old new : List ℕ) (x : ℕ) → IsMadeUntil n f old new → n < RULES → x ≡ f n → IsMadeUntil (n + 1) f old (set new n x)
-made_more n f old new x made below is =
-    (grind (arith, length-set new n x), λ k lt. grind (arith, made.1 k, get_or-set_same, get_or-set_other), λ k le. grind (arith, made.2 k, get_or-set_other))
+made_more n f old new x made below is = grind (arith, length-set, get_or-set_same, get_or-set_other)

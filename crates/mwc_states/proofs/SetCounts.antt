@@ -1,7 +1,7 @@
 -- How many sets pass a test, by size.
-use Rattle.mwc_states.proofs.Imports.{◌≡◌, ◌∙◌, ℕ, zero, suc, ◌+◌, ◌-◌, ◌*◌, ◌^◌, ◌<◌, ◌≤◌, ◌==◌, Bool, true, false, cond, List, [], ◌∷◌, refl, sym, ap, arith, nat_tests, later, cases_lt, ◌⊎◌}
-use Rattle.std.proofs.Common.{inl, inr}
-unfoldable use Rattle.mwc_states.specs.Inner.Sets.{count_sets, is_empty}
+use Rattle.mwc_states.proofs.Imports.{◌≡◌, ◌∙◌, ℕ, zero, suc, ◌+◌, ◌-◌, ◌*◌, ◌^◌, ◌<◌, ◌≤◌, Bool, true, false, List, ◌∷◌, refl, sym, ap}
+use Rattle.mwc_states.proofs.Imports.{arith, nat_tests, later, cases_lt, ◌⊎◌, inl, inr, count_sets}
+unfoldable use Rattle.mwc_states.specs.Inner.Sets.{count_sets}
 
 pub sets-none : (n s : ℕ) → count_sets n (λ set. false) s ≡ 0
 unfolding count_sets
@@ -10,21 +10,9 @@ sets-none zero (suc s) = refl
 sets-none (suc n) zero = sets-none n zero
 sets-none (suc n) (suc s) = omega (arith, sets-none n (suc s), sets-none n s)
 
--- only the empty set is empty
-pub sets-empty : (n s : ℕ) → count_sets n is_empty s ≡ cond (s == 0) 1 0
-unfolding count_sets is_empty
-sets-empty zero zero = refl
-sets-empty zero (suc s) = grind (arith, nat_tests)
-sets-empty (suc n) zero = sets-empty n zero
-sets-empty (suc n) (suc s) = ap (λ (m : ℕ). m + count_sets n (λ set. false) s) (sets-empty n (suc s)) ∙ omega (arith, sets-none n s)
-
 pub sets-few : (n s : ℕ) (test : List Bool → Bool) → count_sets n test s ≤ 2 ^ n
 unfolding count_sets
-sets-few zero zero test = one (test [])
-  where
-    one : (b : Bool) → cond b 1 0 ≤ 2 ^ 0
-    one true = omega arith
-    one false = omega arith
+sets-few zero zero test = grind (arith, true, false)
 sets-few zero (suc s) test = omega arith
 sets-few (suc n) zero test = let more : 2 ^ suc n ≡ 2 * 2 ^ n = omega arith in omega (arith, more, sets-few n zero (λ set. test (false ∷ set)))
 sets-few (suc n) (suc s) test =

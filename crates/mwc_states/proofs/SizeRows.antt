@@ -1,9 +1,10 @@
 -- Rows of counts: what is read, and what is added.
-use Rattle.mwc_states.proofs.Imports.{◌≡◌, ◌∙◌, ◌⊎◌, ℕ, ◌+◌, ◌-◌, ◌*◌, ◌<◌, ◌≤◌, ◌==◌, ◌&&◌, cond, leb, ltb, List, length, get_or, take, drop, sym, ap, arith, nat_tests, later}
-use Rattle.mwc_states.proofs.Imports.{cases_eq, cases_lt, get_or_default, AreLaidOut, range_at, width, SizeRange}
-use Rattle.std.proofs.Common.{◌≢◌, set, get_or-set_same, length-take, ◌++◌, [], ◌∷◌}
-use Rattle.std.proofs.Math.Seq.{get_or-append_seam}
-use Rattle.std.proofs.lemmas.List.{get_or_past, get_or-take, get_or-drop, length_push, get_or_append_left}
+use Rattle.mwc_states.proofs.Imports.{◌≡◌, ◌∙◌, ◌⊎◌, ℕ, ◌+◌, ◌-◌, ◌*◌, ◌<◌, ◌≤◌, ◌==◌, ◌&&◌, cond, leb, ltb, List, length, get_or, take}
+use Rattle.mwc_states.proofs.Imports.{drop, sym, ap, arith, nat_tests, later, cases_eq, cases_lt, get_or_default, AreLaidOut, range_at}
+use Rattle.mwc_states.proofs.Imports.{width, SizeRange, ◌≢◌, set, get_or-set_same, ◌++◌, [], ◌∷◌, get_or-append_seam, get_or_past}
+use Rattle.mwc_states.proofs.Imports.{get_or-take, get_or_append_left}
+use Rattle.std.proofs.{Common.length-take, Common.get_or-drop, lemmas.List.length_push}
+use Rattle.mwc_states.specs.Inner.SizeRows.{count_in}
 unfoldable use Rattle.mwc_states.specs.Inner.SizeRows.{count_in}
 
 -- numbers past the end of a list are 0
@@ -35,13 +36,8 @@ pub past-rows : (ranges : List SizeRange) (k : ℕ) → length ranges ≤ k → 
 past-rows ranges k le = ap width (get_or_past ranges k (record { first = 0; end = 0 }) le)
 
 -- ---- rows laid out one after another
-pub record AreLaid (ranges : List SizeRange) (starts : List ℕ) (n end : ℕ) : Type 0 where
-  pub long : length starts ≡ n
-  pub apart : (j k : ℕ) → j < k → k < n → get_or starts j 0 + width (range_at ranges j) ≤ get_or starts k 0
-  pub within : (k : ℕ) → k < n → get_or starts k 0 + width (range_at ranges k) ≤ end
-
-pub laid-more : (ranges : List SizeRange) (starts : List ℕ) (n end w : ℕ) → AreLaid ranges starts n end → w ≡ width (range_at ranges n)
-    → AreLaid ranges (starts ++ end ∷ []) (n + 1) (end + w)
+pub laid-more : (ranges : List SizeRange) (starts : List ℕ) (n end w : ℕ) → AreLaidOut ranges starts n end → w ≡ width (range_at ranges n)
+    → AreLaidOut ranges (starts ++ end ∷ []) (n + 1) (end + w)
 laid-more ranges starts n end w h wide = record {
   long = omega (arith, length_push starts end, h.long);
   apart = λ j k lt below. grind (arith, h.apart j k lt, h.within j, cases_eq k n, before j, before k, last);
@@ -53,14 +49,6 @@ laid-more ranges starts n end w h wide = record {
 
     last : get_or (starts ++ end ∷ []) n 0 ≡ end
     last = ap (λ (k : ℕ). get_or (starts ++ end ∷ []) k 0) (sym h.long) ∙ get_or-append_seam starts end [] 0
-
-pub laid-all : (ranges : List SizeRange) (starts : List ℕ) (n end size : ℕ) → AreLaid ranges starts n end → n ≡ length ranges → size ≡ end
-    → AreLaidOut ranges starts size
-laid-all ranges starts n end size h all is = record {
-  long = omega (arith, h.long);
-  apart = λ j k lt below. h.apart j k lt (omega arith);
-  within = λ k below. omega (arith, h.within k (omega arith));
-}
 
 -- where all counts are 0, those of each row are
 pub count-zeros : (ranges : List SizeRange) (starts counts : List ℕ) (k s : ℕ) → ((p : ℕ) → get_or counts p 0 ≡ 0) → count_in ranges starts counts k s ≡ 0
@@ -100,12 +88,12 @@ module _ (ranges : List SizeRange) (starts old : List ℕ) (row fo eo more place
     (at : place ≡ get_or starts row 0 + (fo + more) - (range_at ranges row).first) (long : length numbers ≡ eo - fo)
     (are : (t : ℕ) → sets t ≡ later fo (λ j. get_or numbers j 0) t) where
   -- sizes of another row are at other places
-  beside : (k s : ℕ) → AreLaidOut ranges starts (length old) → row < length ranges → (row ≡ k → ⊥) → (range_at ranges k).first ≤ s → s < (range_at ranges k).end
+  beside : (k s : ℕ) → AreLaidOut ranges starts (length ranges) (length old) → row < length ranges → (row ≡ k → ⊥) → (range_at ranges k).first ≤ s → s < (range_at ranges k).end
       → (get_or starts k 0 + (s - (range_at ranges k).first) < get_or starts row 0)
       ⊎ (get_or starts row 0 + width (range_at ranges row) ≤ get_or starts k 0 + (s - (range_at ranges k).first))
   beside k s laid below ne from to = grind (arith, laid.apart k row, laid.apart row k, past-rows ranges k, cases_lt k row, cases_lt k (length ranges))
 
-  pub row-added : (new : List ℕ) (k s : ℕ) → AreLaidOut ranges starts (length old) → row < length ranges
+  pub row-added : (new : List ℕ) (k s : ℕ) → AreLaidOut ranges starts (length ranges) (length old) → row < length ranges
       → ((p : ℕ) → get_or new p 0 ≡ get_or old p 0 + 1 * later place (λ j. get_or numbers j 0) p)
       → count_in ranges starts new k s ≡ count_in ranges starts old k s + cond (row == k) (later more sets s) 0
   unfolding count_in

@@ -1,7 +1,6 @@
 -- Sums of numbers below one.
-use Rattle.mwc_states.proofs.Imports.{◌≡◌, ℕ, zero, suc, ◌+◌, ◌-◌, ◌*◌, ◌<◌, ◌≤◌, ◌==◌, cond, ltb, refl, ap, arith, nat_tests, later, sum_below}
-use Rattle.mwc_states.proofs.Imports.{cases_lt}
-use Rattle.std.proofs.Common.{inl, inr}
+use Rattle.mwc_states.proofs.Imports.{◌≡◌, ℕ, zero, suc, ◌+◌, ◌-◌, ◌*◌, ◌<◌, ◌≤◌, ◌==◌, cond, ltb, refl, ap, arith, nat_tests, later}
+use Rattle.mwc_states.proofs.Imports.{sum_below, cases_lt, inl, inr}
 
 pub sum-more : (n : ℕ) (f : ℕ → ℕ) → sum_below (n + 1) f ≡ sum_below n f + f n
 unfolding sum_below
@@ -54,11 +53,6 @@ pub sum-one : (n k : ℕ) (f : ℕ → ℕ) → sum_below n (λ j. cond (k == j)
 unfolding sum_below
 sum-one zero k f = grind (arith, nat_tests)
 sum-one (suc n) k f = grind (arith, nat_tests, sum-one n k f)
-
-pub sum-times : (n c : ℕ) (f : ℕ → ℕ) → sum_below n (λ j. c * f j) ≡ c * sum_below n f
-unfolding sum_below
-sum-times zero c f = omega arith
-sum-times (suc n) c f = omega (arith, sum-times n c f)
 
 -- numbers by size with one member more
 pub sum-later : (n : ℕ) (f g : ℕ → ℕ) → sum_below (suc n) (λ a. later 1 f a * g a) ≡ sum_below n (λ a. f a * g (a + 1))

@@ -2,6 +2,7 @@
 ghost use Rattle.std.specs.Prelude.{◌≡◌, ◌<◌, ◌≤◌, ◌^◌, ℕ, [], ◌∷◌, IfOk, IfSome, length, map, slice_index, sum_by};
 ghost use Rattle.council_base.specs.declared.limits.TheConstants.{MEMBERS, RULES, TOTAL};
 ghost use Rattle.mwc_states.specs.Inner.Graphs.{IsGraphOf};
+ghost use Rattle.mwc_states.specs.Inner.Tables.{IsIn};
 
 use crate::later::Later;
 use crate::level::{Links, decide_level};
@@ -21,10 +22,10 @@ fn sums_for(states: usize, rules: usize) -> usize {
 
 /// Makes the table of the first level, whose only state is the need.
 fn first_table(alloc: Global, need: &Row) -> Result<Table, Memory>
-    ensures { IfOk result (λ table. table ≡ (need.now ∷ []) ∷ []) }
+    ensures { IfOk result (λ table. IsIn [] table (need.now ∷ []) 0) }
 {
     let mut table = Table::new(alloc);
-    table.push(&[*need])?;
+    table.add(&[*need])?;
     Ok(table)
 }
 

@@ -11,7 +11,7 @@ ghost use Rattle.mwc_states.specs.Inner.Ways.{link_at};
 
 use crate::level::Links;
 use crate::size_rows::SizeRows;
-use crate::spread::{backward, spread};
+use crate::spread::spread;
 use crate::way::Way;
 use council_base::{Memory, SizeCounts, limits};
 use std::alloc::Global;
@@ -23,7 +23,7 @@ pub(crate) struct SetCounts {
     pub(crate) each: [SizeCounts; limits::MEMBERS],
 }
 
-/// Counts the choices of the first members that lead to each state, for each level.
+/// Counts the choices of the first members that lead to each row, for each level.
 fn lead(alloc: Global, levels: &[Links]) -> Result<Vec<SizeRows>, Memory>
     requires { IsGraph (map (λ links. links.items) levels.now) }
     ensures long { IfOk result (λ leading. length leading.items ≡ length levels.now) }
@@ -31,18 +31,17 @@ fn lead(alloc: Global, levels: &[Links]) -> Result<Vec<SizeRows>, Memory>
         → AreLeading (map (λ links. links.items) levels.now) i (slice_index_or leading.items i d)) }
 {
     let mut leading = Vec::with_capacity(alloc, levels.len())?;
-    leading.push(SizeRows::unit(alloc, levels[0].len() + 2, 2)?)?;
-    for level in 1..levels.len() {
-        let (links, rows) = (&levels[level - 1], levels[level].len() + 2);
-        let next = spread(alloc, Way::Forward, links, &leading[level - 1], rows)?;
-        leading.push(next)?;
+    leading.push(SizeRows::unit(alloc, levels[0].len(), 2)?)?;
+    for level in 0..levels.len() - 1 {
+        let (links, rows) = (&levels[level], levels[level + 1].len());
+        leading.push(spread(alloc, Way::Forward, links, &leading[level], rows)?)?;
     }
     Ok(leading)
 }
 
 /// Counts the accepted sets that have the member of a level, by size.
 fn count_with(leading: &SizeRows, links: &Links, completing: &SizeRows) -> SizeCounts
-    requires leading { length links.now.items + 2 ≤ length leading.now.ranges.items }
+    requires leading { length links.now.items ≤ length leading.now.ranges.items }
     requires completing { (p : ℕ) → p < length links.now.items
         → link_at links.now.items p 1 < length completing.now.ranges.items }
     requires sizes { (j k : ℕ) → (range_at leading.now.ranges.items j).end
@@ -54,9 +53,8 @@ fn count_with(leading: &SizeRows, links: &Links, completing: &SizeRows) -> SizeC
         ≡ with_member links.now.items (count_at leading.now) (count_at completing.now) s }
 {
     let mut sizes = [0; limits::SIZES];
-    for state in 0..links.len() {
-        let link = links[state][1];
-        leading.add_pairs(state + 2, completing, link as usize, &mut sizes);
+    for row in 0..links.len() {
+        leading.add_pairs(row, completing, links[row][1] as usize, &mut sizes);
     }
     sizes
 }
@@ -64,7 +62,7 @@ fn count_with(leading: &SizeRows, links: &Links, completing: &SizeRows) -> SizeC
 /// Counts the sets that a graph accepts, by size and by member.
 ///
 /// It goes over the levels once forward and once backward, and keeps the counts of all levels.
-/// Member i is decided at level i, and the root is state 0 of level 0.
+/// Member i is decided at level i, and the root is row 2 of level 0.
 ///
 /// # Errors
 ///
@@ -83,7 +81,7 @@ pub(crate) fn count(alloc: Global, levels: &[Links]) -> Result<Box<SetCounts>, M
         let links = &levels[level];
         each[level] = count_with(&leading[level], links, &completing);
         leading.truncate(level);
-        completing = backward(alloc, links, &completing)?;
+        completing = spread(alloc, Way::Backward, links, &completing, links.len())?;
     }
     let all = completing.sizes(2);
     Ok(Box::new(alloc, SetCounts { all, each })?)

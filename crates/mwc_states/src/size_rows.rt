@@ -31,7 +31,7 @@ pub(crate) struct SizeRows {
     /// Where the counts of each row start.
     starts: Vec<u32>,
     counts: Vec<u64>,
-    ghost laid_out: { AreLaidOut ranges.items starts.items (length counts.items) },
+    ghost laid_out: { AreLaidOut ranges.items starts.items (length ranges.items) (length counts.items) },
 }
 
 impl SizeRows {

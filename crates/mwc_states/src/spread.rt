@@ -2,10 +2,9 @@
 ghost use Rattle.std.specs.Prelude.{◌≡◌, ℕ, ◌+◌, ◌<◌, ◌≤◌, ◌^◌, IfOk, length};
 ghost use Rattle.council_base.specs.declared.limits.TheConstants.{MEMBERS, SIZES};
 ghost use Rattle.mwc_states.specs.declared.size_rows.TheConstants.{ROWS};
-ghost use Rattle.mwc_states.specs.declared.way.Way.TheVariants.{Backward};
 ghost use Rattle.mwc_states.specs.Inner.Ranges.{Covers, EndBy, range_at};
 ghost use Rattle.mwc_states.specs.Inner.SizeRows.{count_at};
-ghost use Rattle.mwc_states.specs.Inner.Ways.{CanGo, HaveAllRoom, HaveRoom, Lead, along, completed, sent_by};
+ghost use Rattle.mwc_states.specs.Inner.Ways.{CanGo, HaveAllRoom, HaveRoom, Lead, along, sent_by};
 
 use crate::level::Links;
 use crate::size_range::SizeRange;
@@ -25,10 +24,10 @@ fn widen_along(ranges: &mut [SizeRange], way: Way, choice: usize, links: &Links,
     ensures ends { (m : ℕ) → EndBy m from.now.ranges.items → EndBy (m + 1) ranges.old
         → EndBy (m + 1) ranges.new }
 {
-    for state in 0..links.len() {
-        let link = links[state][choice];
-        let range = from.range(way.source(state + 2, link));
-        ranges[way.target(state + 2, link)].widen(range, choice);
+    for row in 0..links.len() {
+        let link = links[row][choice];
+        let range = from.range(way.source(row, link));
+        ranges[way.target(row, link)].widen(range, choice);
     }
 }
 
@@ -44,14 +43,9 @@ fn add_along(rows: &mut SizeRows, way: Way, choice: usize, links: &Links, from: 
     ensures counts { (k s : ℕ) → count_at rows.new k s ≡ count_at rows.old k s
         + sent_by way choice links.now.items (count_at from.now) (length links.now.items) k s }
 {
-    for state in 0..links.len() {
-        let link = links[state][choice];
-        rows.add(
-            way.target(state + 2, link),
-            choice,
-            from,
-            way.source(state + 2, link),
-        );
+    for row in 0..links.len() {
+        let link = links[row][choice];
+        rows.add(way.target(row, link), choice, from, way.source(row, link));
     }
 }
 
@@ -69,15 +63,12 @@ fn ranges_along(
 {
     let mut ranges = Vec::new(alloc);
     ranges.resize(rows, SizeRange::EMPTY)?;
-    ranges[1] = from.range(1);
     widen_along(&mut ranges, way, 0, links, from);
     widen_along(&mut ranges, way, 1, links, from);
     Ok(ranges)
 }
 
 /// Makes the rows that counts come to along the links of a level.
-///
-/// Row 1 has room for what it has in `from`.
 pub(crate) fn spread(
     alloc: Global,
     way: Way,
@@ -96,26 +87,5 @@ pub(crate) fn spread(
     let mut made = SizeRows::zeros(alloc, ranges_along(alloc, way, links, from, rows)?)?;
     add_along(&mut made, way, 0, links, from);
     add_along(&mut made, way, 1, links, from);
-    Ok(made)
-}
-
-/// Counts the sets that complete each state of a level, from those of the next level.
-pub(crate) fn backward(
-    alloc: Global,
-    links: &Links,
-    completing: &SizeRows,
-) -> Result<SizeRows, Memory>
-    requires few { length links.now.items + 2 ≤ ROWS }
-    requires go { CanGo Backward links.now.items completing.now.ranges.items
-        (length links.now.items + 2) }
-    requires fits { (k s : ℕ) → completed links.now.items (count_at completing.now) k s < 2 ^ 64 }
-    ensures long { IfOk result (λ made. length made.ranges.items ≡ length links.now.items + 2) }
-    ensures ends { IfOk result (λ made. (m : ℕ) → EndBy m completing.now.ranges.items
-        → EndBy (m + 1) made.ranges.items) }
-    ensures counts { IfOk result (λ made. (k s : ℕ) → count_at made k s
-        ≡ completed links.now.items (count_at completing.now) k s) }
-{
-    let mut made = spread(alloc, Way::Backward, links, completing, links.len() + 2)?;
-    made.add(1, 0, completing, 1);
     Ok(made)
 }

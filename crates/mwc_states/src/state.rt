@@ -1,25 +1,25 @@
 //! States.
-ghost use Rattle.std.specs.Prelude.{◌≡◌, ◌<◌, ◌⊎◌, ℕ, true, false, List, [], length, drop, IfOk};
+ghost use Rattle.std.specs.Prelude.{◌≡◌, ◌+◌, ◌<◌, ◌^◌, ◌⊎◌, ℕ, true, false, List, [], length, drop, IfOk};
 ghost use Rattle.std.specs.Bool.{MatchBool};
 ghost use Rattle.mwc_states.specs.Inner.Sums.{row_at};
-ghost use Rattle.mwc_states.specs.Inner.Later.{IsLeft, HasNoneLeft, Leads};
+ghost use Rattle.mwc_states.specs.Inner.Later.{IsLeft, HasNoneLeft};
+ghost use Rattle.mwc_states.specs.Inner.Tables.{Grows, Leads};
 ghost use Rattle.mwc_states.specs.declared.what.What.TheVariants.{Minimal};
 
 use crate::later::Later;
 use crate::row::{self, Row};
+use crate::table::Table;
 use crate::what::What;
 use council_base::Memory;
 
-/// Where a state leads once a member is decided.
-#[derive(Clone, Copy, Debug, PartialEq, Eq)]
-pub(crate) enum Next {
-    /// To no coalition.
-    Dead,
-    /// To one coalition, that no later member joins.
-    Complete,
-    /// To a state of the later members.
-    Open,
-}
+/// The row that leads to no coalition.
+pub(crate) const DEAD: u32 = 0;
+
+/// The row that leads to one coalition, which no later member joins.
+pub(crate) const COMPLETE: u32 = 1;
+
+/// The row of the first state. The others follow.
+const FIRST: u32 = 2;
 
 /// Adds a state's need to the misses of the later members, if a member is taken that a minimal set
 /// cannot spare.
@@ -90,10 +90,10 @@ fn is_over(what: What, later: &Later) -> bool
     }
 }
 
-/// Decides a member in a state, and returns where that leads.
+/// Decides a member in a state, and returns the row of what is left.
 ///
-/// If it leads to a state of the later members, that state is in `next`. No row is no state, and
-/// dead.
+/// A state that is left is added to the next table; `left` is a buffer for it. No row is no state,
+/// and leads nowhere.
 ///
 /// # Errors
 ///
@@ -104,26 +104,30 @@ pub(crate) fn decide(
     member: &Row,
     taken: bool,
     later: &Later,
-    next: &mut Vec<Row>,
-) -> Result<Next, Memory>
-    ensures leads { IfOk result (λ to.
-        Leads what later.now.members.now member.now taken state.now to next.new.items) }
-    ensures open { IfOk result (λ to. to ≡ Next.Open
-        → 0 < length later.now.members.now) }
+    left: &mut Vec<Row>,
+    next: &mut Table,
+) -> Result<u32, Memory>
+    requires { length next.old < 2 ^ 31 }
+    ensures below { IfOk result (λ link. link < 2 + length next.new) }
+    ensures leads { IfOk result (λ link.
+        Leads what later.now.members.now member.now taken state.now next.new link) }
+    ensures grows { IfOk result (λ _. Grows 1 next.old next.new) }
+    ensures last { IfOk result (λ _. length later.now.members.now ≡ 0
+        → length next.new ≡ length next.old) }
 {
     if state.is_empty() {
-        return Ok(Next::Dead);
+        return Ok(DEAD);
     }
     let need = later.raise(&row::reduce(&state[0], member, taken));
     if !later.is_reachable(&need) {
-        return Ok(Next::Dead);
+        return Ok(DEAD);
     }
-    if !list_misses(what, state, member, taken, later, &need, next)? {
-        return Ok(Next::Dead);
+    if !list_misses(what, state, member, taken, later, &need, left)? {
+        return Ok(DEAD);
     }
     if row::is_zero(&need) && is_over(what, later) {
-        return Ok(Next::Complete);
+        return Ok(COMPLETE);
     }
-    next.insert(0, need)?;
-    Ok(Next::Open)
+    left.insert(0, need)?;
+    Ok(next.add(left)? + FIRST)
 }

@@ -3,7 +3,7 @@ ghost use Rattle.std.specs.Prelude.{◌≡◌};
 
 /// The way in which counts go along links.
 ///
-/// Row k + 2 is of state k of a level; a link is the row of the next level that it leads to.
+/// A link is the row of the next level that a row leads to.
 #[derive(Clone, Copy)]
 pub(crate) enum Way {
     /// To the rows of the next level.

@@ -3,6 +3,7 @@ use Rattle.std.specs.Prelude.{ℕ, ◌+◌, ◌^◌, ◌<◌, ◌≤◌, ◌≡�
 use Rattle.mwc_states.specs.declared.what.What.{What}
 use Rattle.mwc_states.specs.Inner.States.{completes}
 use Rattle.mwc_states.specs.Inner.Links.{IsGraph, accepts, states_at}
+use Rattle.mwc_states.specs.Inner.Tables.{completes_link}
 
 -- a graph that accepts the sets of members that complete the need
 pub record IsGraphOf (what : What) (members : List (List ℕ)) (need : List ℕ) (levels : List (List (List ℕ))) : Type 0 where
@@ -11,27 +12,20 @@ pub record IsGraphOf (what : What) (members : List (List ℕ)) (need : List ℕ)
   pub accepts_all : (set : List Bool) → length set ≡ length members
       → accepts levels 2 set ≡ completes what members (need ∷ []) set
 
--- further levels accept, from each state of a table, the sets of members that complete it
-abbrev pub Continue : What → List (List ℕ) → List (List (List ℕ)) → List (List (List ℕ)) → Type 0
-Continue what members table rest =
-    (k : ℕ) (set : List Bool) → k < length table → length set ≡ length members
-    → accepts rest (k + 2) set ≡ completes what members (slice_index_or table k []) set
+-- further levels go on from a table: from each row they accept the sets of members that complete it
+pub record Continue (what : What) (members : List (List ℕ)) (table rest : List (List (List ℕ))) : Type 0 where
+  pub long : length rest ≡ length members
+  pub states : states_at rest 0 ≡ length table
+  pub ends : (i : ℕ) → i < length rest → 2 ≤ length (slice_index_or rest i [])
+  pub few : (i : ℕ) → states_at rest i ≤ 2 ^ 26
+  pub linked : (i k taken : ℕ) → i < length rest
+      → slice_index (slice_index_or (slice_index_or rest i []) k []) taken < 2 + states_at rest (i + 1)
+  pub accept : (k : ℕ) (set : List Bool) → k < 2 + length table → length set ≡ length members
+      → accepts rest k set ≡ completes_link what members table k set
 
--- the first i levels of the graph, and the table of the states that they lead to
-pub record IsBuilt (what : What) (members : List (List ℕ)) (need : List ℕ) (levels table : List (List (List ℕ))) (i : ℕ) : Type 0 where
-  pub long : length levels ≡ i
-  pub first : i ≡ 0 → 1 ≤ length table
-  pub root : 0 < i → 1 ≤ states_at levels 0
-  pub few : (k : ℕ) → states_at levels k ≤ 2 ^ 26
-  pub linked : (k j taken : ℕ) → k + 1 < i
-      → slice_index (slice_index_or (slice_index_or levels k []) j []) taken < 2 + states_at levels (k + 1)
-  pub linked_last : (k j taken : ℕ) → k + 1 ≡ i
-      → slice_index (slice_index_or (slice_index_or levels k []) j []) taken < 2 + length table
-  pub last : i ≡ length members → length table ≡ 0
-  pub accept : (rest : List (List (List ℕ))) → Continue what (drop i members) table rest
-      → (set : List Bool) → length set ≡ length members → accepts (levels ++ rest) 2 set ≡ completes what members (need ∷ []) set
-
--- a graph that is being built: `room` more states may come
+-- the first i levels of a graph that is being built, and the table of the states that they lead to;
+-- `room` more states may come
 pub record IsBuilding (what : What) (members : List (List ℕ)) (need : List ℕ) (levels table : List (List (List ℕ))) (i room : ℕ) : Type 0 where
-  pub built : IsBuilt what members need levels table i
+  pub last : i ≡ length members → length table ≡ 0
   pub room_few : room ≤ 2 ^ 26
+  pub onward : (rest : List (List (List ℕ))) → Continue what (drop i members) table rest → IsGraphOf what members need (levels ++ rest)

@@ -1,13 +1,12 @@
 -- What a state leads to: how its need and its misses change once a member is decided.
-use Rattle.std.specs.Prelude.{ℕ, ◌≡◌, ◌<◌, ◌≤◌, ◌-◌, Bool, true, false, not, ◌&&◌, nat_lt, List, ◌∷◌, slice_index, sum_by, length}
+use Rattle.std.specs.Prelude.{ℕ, ◌≡◌, ◌<◌, ◌≤◌, ◌-◌, Bool, true, false, not, ◌&&◌, nat_lt, List, ◌∷◌, slice_index, sum_by}
 use Rattle.std.specs.Prelude.{if◌then◌else◌}
 use Rattle.std.specs.List.{list_all, list_any, range_with_len}
 use Rattle.council_base.specs.declared.limits.TheConstants.{RULES}
 use Rattle.mwc_states.specs.declared.what.What.{What}
 use Rattle.mwc_states.specs.declared.what.What.TheVariants.{Minimal, Winning}
-use Rattle.mwc_states.specs.declared.state.Next.{Next}
 use Rattle.mwc_states.specs.Inner.Sets.{weigh, meets}
-use Rattle.mwc_states.specs.Inner.States.{needs_each, completes, completes_next}
+use Rattle.mwc_states.specs.Inner.States.{needs_each}
 
 -- weights miss each of some rows
 abbrev pub misses_all : (ℕ → ℕ) → List (List ℕ) → Bool
@@ -62,8 +61,3 @@ pub record IsLeft (what : What) (members : List (List ℕ)) (member : List ℕ) 
 abbrev pub HasNoneLeft : What → List (List ℕ) → List ℕ → Bool → List ℕ → List (List ℕ) → List ℕ → Type 0
 HasNoneLeft what members member taken need misses later_need =
     (set : List Bool) → fits what members later_need set ≡ true → misses_left what members member taken need misses set ≡ false
-
--- a state leads there, for the sets of the later members
-abbrev pub Leads : What → List (List ℕ) → List ℕ → Bool → List (List ℕ) → Next → List (List ℕ) → Type 0
-Leads what members member taken state to next = (set : List Bool) → length set ≡ length members
-    → completes what (member ∷ members) state (taken ∷ set) ≡ completes_next what to members next set

@@ -19,8 +19,8 @@ pub record Covers (range : SizeRange) (more : ℕ) (other : SizeRange) : Type 0 
 abbrev pub EndBy : ℕ → List SizeRange → Type 0
 EndBy end ranges = (k : ℕ) → (range_at ranges k).end ≤ end
 
--- where each row starts among all `counts` counts
-pub record AreLaidOut (ranges : List SizeRange) (starts : List ℕ) (counts : ℕ) : Type 0 where
-  pub long : length starts ≡ length ranges
-  pub apart : (j k : ℕ) → j < k → k < length ranges → slice_index starts j + width (range_at ranges j) ≤ slice_index starts k
-  pub within : (k : ℕ) → k < length ranges → slice_index starts k + width (range_at ranges k) ≤ counts
+-- where each of the first n rows starts among `counts` counts
+pub record AreLaidOut (ranges : List SizeRange) (starts : List ℕ) (n counts : ℕ) : Type 0 where
+  pub long : length starts ≡ n
+  pub apart : (j k : ℕ) → j < k → k < n → slice_index starts j + width (range_at ranges j) ≤ slice_index starts k
+  pub within : (k : ℕ) → k < n → slice_index starts k + width (range_at ranges k) ≤ counts

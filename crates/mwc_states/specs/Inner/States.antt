@@ -1,12 +1,10 @@
 -- States: what some decided members leave for the later ones. A state is its need, and the rows
 -- that the later ones must miss.
-use Rattle.std.specs.Prelude.{ℕ, ◌≡◌, Bool, true, false, not, ◌&&◌, List, [], ◌∷◌}
+use Rattle.std.specs.Prelude.{ℕ, Bool, true, false, not, ◌&&◌, List, [], ◌∷◌}
 use Rattle.std.specs.List.{list_all}
 use Rattle.mwc_states.specs.declared.what.What.{What}
 use Rattle.mwc_states.specs.declared.what.What.TheVariants.{Minimal, Winning}
-use Rattle.mwc_states.specs.declared.state.Next.{Next}
-use Rattle.mwc_states.specs.declared.state.Next.TheVariants.{Dead, Complete, Open}
-use Rattle.mwc_states.specs.Inner.Sets.{weigh, meets, without_one, is_empty}
+use Rattle.mwc_states.specs.Inner.Sets.{weigh, meets, without_one}
 
 -- a minimal set misses the need if any one of its members leaves
 abbrev pub needs_each : What → List (List ℕ) → List Bool → List ℕ → Bool
@@ -20,10 +18,3 @@ completes what members (need ∷ misses) set =
     meets (weigh members set) need
     && (needs_each what members set need
     && list_all (λ miss. not (meets (weigh members set) miss)) misses)
-
--- what is left of a state once a member is decided: no set completes it; only the empty one; or
--- those that complete the next state
-abbrev pub completes_next : What → Next → List (List ℕ) → List (List ℕ) → List Bool → Bool
-completes_next what Dead members next set = false
-completes_next what Complete members next set = is_empty set
-completes_next what Open members next set = completes what members next set

@@ -1,5 +1,5 @@
--- Counts that go along the links of a level. Row k + 2 is of state k.
-use Rattle.std.specs.Prelude.{ℕ, ◌+◌, ◌<◌, ◌≤◌, ◌≡◌, ◌==◌, if◌then◌else◌, List, [], length, slice_index, slice_index_or}
+-- Counts that go along the links of a level.
+use Rattle.std.specs.Prelude.{ℕ, ◌+◌, ◌<◌, ◌≡◌, ◌==◌, if◌then◌else◌, List, [], length, slice_index, slice_index_or}
 use Rattle.council_base.specs.declared.limits.TheConstants.{MEMBERS}
 use Rattle.mwc_states.specs.declared.way.Way.{Way}
 use Rattle.mwc_states.specs.declared.way.Way.TheVariants.{Forward, Backward}
@@ -17,7 +17,7 @@ abbrev pub target : Way → ℕ → ℕ → ℕ
 target Forward row link = link
 target Backward row link = row
 
--- where state p leads without its member (0) or with it (1)
+-- where row p leads without the member (0) or with it (1)
 abbrev pub link_at : List (List ℕ) → ℕ → ℕ → ℕ
 link_at links p choice = slice_index (slice_index_or links p []) choice
 
@@ -25,39 +25,32 @@ link_at links p choice = slice_index (slice_index_or links p []) choice
 abbrev pub sent : Way → ℕ → (ℕ → ℕ → ℕ) → ℕ → ℕ → ℕ → ℕ → ℕ
 sent way choice counts row link k s = if target way row link == k then later choice (counts (source way row link)) s else 0
 
--- what comes to row k along the links of the first n states, for a choice
+-- what comes to row k along the links of the first n rows, for a choice
 abbrev pub sent_by : Way → ℕ → List (List ℕ) → (ℕ → ℕ → ℕ) → ℕ → ℕ → ℕ → ℕ
-sent_by way choice links counts n k s = sum_below n (λ p. sent way choice counts (p + 2) (link_at links p choice) k s)
+sent_by way choice links counts n k s = sum_below n (λ p. sent way choice counts p (link_at links p choice) k s)
 
 -- what comes to row k along all links
 abbrev pub along : Way → List (List ℕ) → (ℕ → ℕ → ℕ) → ℕ → ℕ → ℕ
 along way links counts k s = sent_by way 0 links counts (length links) k s + sent_by way 1 links counts (length links) k s
 
--- what comes back to row k along all links; row 1 keeps what it has
-abbrev pub completed : List (List ℕ) → (ℕ → ℕ → ℕ) → ℕ → ℕ → ℕ
-completed links counts k s = along Backward links counts k s + (if 1 == k then later 0 (counts 1) s else 0)
-
 -- each link leads from a row below `from` to a row below `to`
 abbrev pub Lead : Way → ℕ → List (List ℕ) → ℕ → ℕ → Type 0
 Lead way choice links from to = (p : ℕ) → p < length links
-    → (source way (p + 2) (link_at links p choice) < from) × (target way (p + 2) (link_at links p choice) < to)
+    → (source way p (link_at links p choice) < from) × (target way p (link_at links p choice) < to)
 
 -- each row that counts come to, for a choice, has room for those of the row that they come from
 abbrev pub HaveRoom : Way → ℕ → List (List ℕ) → List SizeRange → List SizeRange → Type 0
 HaveRoom way choice links from to = (p : ℕ) → p < length links
-    → Covers (range_at to (target way (p + 2) (link_at links p choice))) choice (range_at from (source way (p + 2) (link_at links p choice)))
+    → Covers (range_at to (target way p (link_at links p choice))) choice (range_at from (source way p (link_at links p choice)))
 
 -- the counts of rows with these ranges can go along the links to `rows` rows
 pub record CanGo (way : Way) (links : List (List ℕ)) (from : List SizeRange) (rows : ℕ) : Type 0 where
-  pub some : 2 ≤ length from
-  pub some_come : 2 ≤ rows
   pub lead : (choice : ℕ) → Lead way choice links (length from) rows
   pub ends : EndBy MEMBERS from
 
--- `rows` ranges have room for what comes along the links, and that of row 1 for what row 1 has
+-- `rows` ranges have room for what comes along the links
 pub record HaveAllRoom (way : Way) (links : List (List ℕ)) (from : List SizeRange) (rows : ℕ) (to : List SizeRange) : Type 0 where
   pub long : length to ≡ rows
   pub ends : (m : ℕ) → EndBy m from → EndBy (m + 1) to
-  pub own : Covers (range_at to 1) 0 (range_at from 1)
   pub without : HaveRoom way 0 links from to
   pub with_member : HaveRoom way 1 links from to

@@ -1,5 +1,4 @@
-use Rattle.std.proofs.Common.{arith}
-use Rattle.council_game.specs.{Game.votes_of, Votes.minimal_coalitions}
+use Rattle.mwc_states.proofs.Imports.{minimal_coalitions}
 use Rattle.mwc_states.proofs.count.count_by_states.Goals as goal
 
 pub of_sizes-requires : goal.of_sizes-requires

@@ -1,4 +1,4 @@
-use Rattle.council_game.specs.{Game.votes_of, Votes.minimal_coalitions}
+use Rattle.mwc_states.proofs.Imports.{votes_of, minimal_coalitions}
 use Rattle.mwc_states.proofs.count.count_by_states.Given as goal
 
 abbrev pub ghost-of_sizes : goal.ghost-of_sizes

@@ -1,9 +1,8 @@
-use Rattle.std.proofs.Common.{◌∙◌, ◌≡◌, ◌<◌, ℕ, Bool, true, List, [], length, map, get_or, refl, sym, ap, arith}
-use Rattle.std.proofs.lemmas.List.{length-map}
-use Rattle.council_game.specs.{Game.votes_of, Votes.has}
-use Rattle.mwc_states.specs.Inner.Sets.{has as set_has}
-use Rattle.mwc_states.specs.Inner.{Games.AreRowsOf, Graphs.IsGraphOf}
+use Rattle.mwc_states.proofs.Imports.{◌∙◌, ◌≡◌, Bool, true, List, [], length, map, get_or, refl, sym, ap, arith, length-map, votes_of}
+use Rattle.mwc_states.proofs.Imports.{AreRowsOf, IsGraphOf}
+use Rattle.council_game.specs.Votes.{has}
 use Rattle.mwc_states.proofs.Coalitions.{counted-few, counted-nonempty, light, sizes-are, set-at}
+use Rattle.mwc_states.specs.Inner.Sets.{has as set_has}
 use Rattle.mwc_states.proofs.count.count_sets.Goals as goal
 
 pub build-requires-clause-light : goal.build-requires-clause-light

@@ -1,5 +1,4 @@
-use Rattle.std.proofs.Common.{arith}
-use Rattle.swings.specs.Swings.{winning_coalitions}
+use Rattle.mwc_states.proofs.Imports.{winning_coalitions}
 use Rattle.mwc_states.proofs.count.count_swings.Goals as goal
 
 pub of_sizes-requires : goal.of_sizes-requires

@@ -1,4 +1,4 @@
-use Rattle.swings.specs.Swings.{winning_coalitions}
+use Rattle.mwc_states.proofs.Imports.{winning_coalitions}
 use Rattle.mwc_states.proofs.count.count_swings.Given as goal
 
 abbrev pub ghost-of_sizes : goal.ghost-of_sizes

@@ -1,4 +1,4 @@
-use Rattle.council_game.specs.{Game.votes_of}
+use Rattle.mwc_states.proofs.Imports.{votes_of}
 use Rattle.mwc_states.specs.Inner.Games.{AreFirstRows}
 use Rattle.mwc_states.proofs.count.members.Given as goal
 

@@ -1,5 +1,4 @@
-use Rattle.council_game.specs.{Game.votes_of, Votes.rule_at}
-use Rattle.mwc_states.specs.Inner.Games.{IsFilled}
+use Rattle.mwc_states.proofs.Imports.{votes_of, rule_at, IsFilled}
 use Rattle.mwc_states.proofs.count.quotas.Given as goal
 
 abbrev pub invariant-loop-r : goal.invariant-loop-r

@@ -1,6 +1,4 @@
-use Rattle.std.proofs.Common.{get_or}
-use Rattle.council_game.specs.{Game.votes_of, Votes.rule_at}
-use Rattle.mwc_states.specs.Inner.Games.{IsFilled}
+use Rattle.mwc_states.proofs.Imports.{get_or, votes_of, rule_at, IsFilled}
 use Rattle.mwc_states.proofs.count.weights_at.Given as goal
 
 abbrev pub invariant-loop-r : goal.invariant-loop-r

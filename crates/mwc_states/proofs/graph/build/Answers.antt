@@ -1,14 +1,11 @@
-use Rattle.std.proofs.Common.{◌∙◌, ◌+◌, ◌^◌, ◌≤◌, ℕ, List, [], drop, length, get_or, sum_by, ap, arith, refl}
-use Rattle.std.proofs.lemmas.List.{map-append, take_rest, Sums.sum_by-take-drop}
-use Rattle.mwc_states.specs.Inner.Tables.{IsLevel}
+use Rattle.mwc_states.proofs.Imports.{◌∙◌, ◌+◌, ℕ, List, [], drop, length, get_or, sum_by, ap, arith, map-append, take_rest}
+use Rattle.mwc_states.proofs.Imports.{sum_by-take-drop, IsLevel}
 use Rattle.mwc_states.proofs.Building.{built-none, built-more, built-all}
 use Rattle.mwc_states.proofs.graph.build.Goals as goal
 
 pub loop-level-init : goal.loop-level-init
-loop-level-init g c = record {
-  built = rw c.in_ok-levels.ensures.items (built-none c.args.what c.args.members.now c.args.need.now c.in_ok-table.table c.in_ok-table.ensures c.requires.some);
-  room_few = omega (arith, c.min-room.ensures);
-}
+loop-level-init g c = rw c.in_ok-levels.ensures.items
+    (built-none c.args.what c.args.members.now c.args.need.now c.in_ok-table.table _ c.in_ok-table.ensures c.requires.some c.requires.few (omega (arith, c.min-room.ensures)))
 
 pub new-requires-clause-rules : goal.new-requires-clause-rules
 new-requires-clause-rules g c = c.requires.rules
@@ -22,20 +19,13 @@ new-requires-clause-few g c r lt =
 
 pub loop-level-preserved : goal.loop-level-preserved
 loop-level-preserved g c =
-    let done = c.loop-level.invariant in
     let members = c.args.members.now in
     let later = c.in_ok-later.ensures ∙ take_rest members (c.loop-level.level + 1) in
     let level : IsLevel c.args.what (get_or members c.loop-level.level []) (drop (c.loop-level.level + 1) members) c.loop-level.table
-    c.in-Some.links.items c.in-Some.next = rw later at (rw c.in-Some.is at c.in_ok-links.ensures) in
-    let few : length c.loop-level.table ≤ 2 ^ 26 = omega (arith, done.room_few, c.if-len-room.false, c.len.ensures) in
-    record {
-      built = rw (c.in_ok-push.ensures.items, map-append)
-          (built-more c.args.what members c.args.need.now _ c.loop-level.table c.in-Some.next c.in-Some.links.items
-          (get_or members c.loop-level.level []) c.loop-level.level c.loop-level-test.true done.built level few refl);
-      room_few = omega (arith, done.room_few);
-    }
+    c.in-Some.links.items c.in-Some.next (length c.loop-level.table) = rw later at (rw c.in-Some.is at c.in_ok-links.ensures) in
+    rw (c.in_ok-push.ensures.items, map-append) (built-more c.args.what members c.args.need.now _ c.loop-level.table c.in-Some.next c.in-Some.links.items
+    c.loop-level.level c.loop-level.room _ c.loop-level-test.true c.loop-level.invariant level (omega (arith, c.if-len-room.false, c.len.ensures)) (omega arith))
 
 pub returns : goal.returns
-returns g c =
-    built-all c.args.what c.args.members.now c.args.need.now _ c.loop-level.table c.loop-level.level c.requires.some c.requires.few
-    (omega (arith, c.loop-level-test.false, c.loop-level.auto.level-end)) c.loop-level.invariant.built
+returns g c = built-all c.args.what c.args.members.now c.args.need.now _ c.loop-level.table c.loop-level.level c.loop-level.room
+    (omega (arith, c.loop-level-test.false, c.loop-level.auto.level-end)) c.loop-level.invariant

@@ -1,5 +1,4 @@
-use Rattle.std.proofs.Common.{map}
-use Rattle.mwc_states.specs.Inner.Graphs.{IsBuilding}
+use Rattle.mwc_states.proofs.Imports.{map, IsBuilding}
 use Rattle.mwc_states.proofs.graph.build.Given as goal
 
 abbrev pub invariant-loop-level : goal.invariant-loop-level

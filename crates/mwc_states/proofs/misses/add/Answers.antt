@@ -1,14 +1,10 @@
-use Rattle.std.proofs.Common.{◌∙◌, ◌&&◌, not, get_or, ap, sym, rules, tests}
-use Rattle.std.specs.List.{list_any}
-use Rattle.std.proofs.lemmas.{Fn.filter_same}
-use Rattle.mwc_states.specs.Inner.Sets.{meets}
-use Rattle.mwc_states.specs.Inner.Later.{misses_all}
-use Rattle.mwc_states.proofs.{Implied.misses_all-implied, Implied.misses_all-filter, Implied.misses_all-insert}
+use Rattle.mwc_states.proofs.Imports.{arith, ◌∙◌, ◌&&◌, not, get_or, ap, rules, meets, misses_all}
+use Rattle.std.proofs.{Common.tests, lemmas.Fn.filter_same}
+use Rattle.mwc_states.proofs.Implied.{misses_all-implied, misses_all-filter, misses_all-insert}
 use Rattle.mwc_states.proofs.misses.add.Goals as goal
 
 pub returns-then-is_implied : goal.returns-then-is_implied
-returns-then-is_implied c weights = misses_all-implied weights c.args.miss.now c.args.rows.now.items
-    (ap (list_any (λ row. meets (λ r. get_or c.args.miss.now r 0) row)) (sym c.deref.ensures.value) ∙ sym c.is_implied.ensures ∙ c.if-is_implied.true)
+returns-then-is_implied c weights = grind (arith, misses_all-implied)
 
 pub returns : goal.returns
 returns c weights =

@@ -1,5 +1,4 @@
-use Rattle.std.proofs.Common.{max, get_or}
-use Rattle.mwc_states.proofs.Rows.{IsMadeUntil}
+use Rattle.mwc_states.proofs.{Imports.max, Imports.get_or, Rows.IsMadeUntil}
 use Rattle.mwc_states.proofs.row.max.Given as goal
 
 abbrev pub invariant-loop-r : goal.invariant-loop-r

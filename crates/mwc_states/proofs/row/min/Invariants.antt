@@ -1,5 +1,4 @@
-use Rattle.std.proofs.Common.{min, get_or}
-use Rattle.mwc_states.proofs.Rows.{IsMadeUntil}
+use Rattle.mwc_states.proofs.{Imports.min, Imports.get_or, Rows.IsMadeUntil}
 use Rattle.mwc_states.proofs.row.min.Given as goal
 
 abbrev pub invariant-loop-r : goal.invariant-loop-r

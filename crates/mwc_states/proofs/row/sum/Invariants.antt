@@ -1,4 +1,4 @@
-use Rattle.std.proofs.Common.{take}
+use Rattle.mwc_states.proofs.Imports.{take}
 use Rattle.mwc_states.specs.Inner.Later.{IsTotal}
 use Rattle.mwc_states.proofs.row.sum.Given as goal
 

@@ -1,12 +1,8 @@
-use Rattle.mwc_states.proofs.Imports.{◌≡◌, ◌∙◌, ℕ, ◌-◌, ◌<◌, refl, sym, ap, arith, cases_eq, length, get_or, [], List}
-use Rattle.std.proofs.Common.{subst, inl, inr, set, get_or-set_same, get_or-set_other, length-set}
-use Rattle.std.proofs.lemmas.List.{get_or-take}
-use Rattle.mwc_states.specs.declared.size_rows.SizeRows.{SizeRows}
-use Rattle.mwc_states.specs.Inner.Sets.{has}
-use Rattle.mwc_states.specs.Inner.Links.{AreSizesOf}
-use Rattle.mwc_states.specs.Inner.Counting.{AreLeading, AreCompleting}
-use Rattle.mwc_states.proofs.LevelCounts.{links_of, as-many, level-at, level-small, level-few, one-before, complete-first, complete-next, complete-fits, complete-go}
-use Rattle.mwc_states.proofs.LevelCounts.{all-sets, with-sum, with-fits, with-ends}
+use Rattle.mwc_states.proofs.Imports.{◌≡◌, ◌∙◌, ℕ, ◌-◌, ◌<◌, refl, arith, cases_eq, length, [], subst, inl, inr}
+use Rattle.mwc_states.proofs.Imports.{get_or-set_same, get_or-set_other, length-set, get_or-take}
+use Rattle.mwc_states.proofs.Imports.{AreCompleting}
+use Rattle.mwc_states.proofs.LevelCounts.{links_of, as-many, level-at, level-small, level-few, one-before, complete-first, complete-next}
+use Rattle.mwc_states.proofs.LevelCounts.{complete-fits, complete-go, all-sets, with-sum, with-fits, with-ends}
 use Rattle.mwc_states.proofs.set_counts.count.Goals as goal
 
 pub loop-level-init : goal.loop-level-init
@@ -38,17 +34,20 @@ count_with-requires-clause-fits c =
     with-fits c.requires links (one-before c.loop-level.invariant.completing (omega arith))
     (rw (← c.index.ensures) at (c.loop-level.invariant.leading (c.loop-level.level - 1) c.index.result.now (omega arith)))
 
-pub backward-requires-clause-few : goal.backward-requires-clause-few
-backward-requires-clause-few c = level-few c.requires
-    (level-at c.args.levels.now (c.loop-level.level - 1) c.index-levels-level.result (omega arith) c.index-levels-level.is)
+pub spread-requires-clause-few : goal.spread-requires-clause-few
+spread-requires-clause-few c = omega (
+  arith,
+  level-few c.requires
+      (level-at c.args.levels.now (c.loop-level.level - 1) c.index-levels-level.result (omega arith) c.index-levels-level.is),
+)
 
-pub backward-requires-clause-go : goal.backward-requires-clause-go
-backward-requires-clause-go c =
+pub spread-requires-clause-go : goal.spread-requires-clause-go
+spread-requires-clause-go c =
     let links = level-at c.args.levels.now (c.loop-level.level - 1) c.index-levels-level.result (omega arith) c.index-levels-level.is in
-    complete-go c.requires links (one-before c.loop-level.invariant.completing (omega arith))
+    complete-go c.requires links (one-before c.loop-level.invariant.completing (omega arith)) c.len.result (omega arith)
 
-pub backward-requires-clause-fits : goal.backward-requires-clause-fits
-backward-requires-clause-fits c =
+pub spread-requires-clause-fits : goal.spread-requires-clause-fits
+spread-requires-clause-fits c =
     let links = level-at c.args.levels.now (c.loop-level.level - 1) c.index-levels-level.result (omega arith) c.index-levels-level.is in
     complete-fits c.requires links (one-before c.loop-level.invariant.completing (omega arith))
 
@@ -61,19 +60,13 @@ loop-level-preserved c =
     let room : i < length c.loop-level.each = omega (arith, links.within, c.requires.few, c.loop-level.invariant.long) in record {
       inside = omega (arith, c.loop-level.invariant.inside);
       leading_long = omega (arith, c.truncate.ensures.len, c.loop-level.invariant.leading_long);
-      leading = λ k d lt. subst (λ r. AreLeading (links_of c.args.levels.now) k r)
-          (sym (ap (λ (l : List SizeRows). get_or l k d) c.truncate.ensures.items ∙ get_or-take i c.loop-level.leading.items k d lt))
-          (c.loop-level.invariant.leading k d (omega (arith, lt)));
-      completing = complete-next c.requires links are c.in_ok-completing-2.ensures.long c.in_ok-completing-2.ensures.ends c.in_ok-completing-2.ensures.counts;
+      leading = λ k d lt. rw (c.truncate.ensures.items, get_or-take i c.loop-level.leading.items k d lt) (c.loop-level.invariant.leading k d (omega (arith, lt)));
+      completing = complete-next c.requires links are (omega arith) c.in_ok-completing-2.ensures.ranges c.in_ok-completing-2.ensures.counts;
       long = omega (arith, c.loop-level.invariant.long, length-set c.loop-level.each i c.count_with.result);
       each = λ j le lt. elim (cases_eq j i) [
-        | inl e ↦ subst (λ k. AreSizesOf (links_of c.args.levels.now) (has k) (get_or (set c.loop-level.each i c.count_with.result) k [])) (sym e)
-            (subst (λ l. AreSizesOf (links_of c.args.levels.now) (has i) l) (sym (get_or-set_same c.loop-level.each i c.count_with.result [] room)) (record {
-              long = c.count_with.ensures.long;
-              each = λ s small. c.count_with.ensures.counts s ∙ with-sum c.requires links are lead s;
-            }))
-        | inr ne ↦ subst (λ l. AreSizesOf (links_of c.args.levels.now) (has j) l) (sym (get_or-set_other c.loop-level.each i j c.count_with.result [] ne))
-            (c.loop-level.invariant.each j (omega (arith, le, ne)) lt)
+        | inl e ↦ rw (e, get_or-set_same c.loop-level.each i c.count_with.result [] room)
+            (record { long = c.count_with.ensures.long; each = λ s small. c.count_with.ensures.counts s ∙ with-sum c.requires links are lead s })
+        | inr ne ↦ rw (get_or-set_other c.loop-level.each i j c.count_with.result [] ne) (c.loop-level.invariant.each j (omega (arith, le, ne)) lt)
       ];
     }
 

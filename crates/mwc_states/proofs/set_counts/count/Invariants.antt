@@ -1,8 +1,4 @@
-use Rattle.mwc_states.proofs.Imports.{◌≡◌, ℕ, ◌<◌, ◌≤◌, [], length, get_or}
-use Rattle.mwc_states.specs.declared.size_rows.SizeRows.{SizeRows}
-use Rattle.mwc_states.specs.Inner.Sets.{has}
-use Rattle.mwc_states.specs.Inner.Links.{AreSizesOf}
-use Rattle.mwc_states.specs.Inner.Counting.{AreLeading, AreCompleting}
+use Rattle.mwc_states.proofs.Imports.{◌≡◌, ℕ, ◌<◌, ◌≤◌, [], length, get_or, SizeRows, has, AreSizesOf, AreLeading, AreCompleting}
 use Rattle.mwc_states.proofs.LevelCounts.{links_of}
 use Rattle.mwc_states.proofs.set_counts.count.Given as goal
 

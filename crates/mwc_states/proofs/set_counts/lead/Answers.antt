@@ -1,8 +1,6 @@
-use Rattle.mwc_states.proofs.Imports.{◌≡◌, ℕ, ◌+◌, ◌-◌, ◌<◌, ap, arith, List}
-use Rattle.std.proofs.Common.{subst}
-use Rattle.mwc_states.specs.Inner.Links.{states_at}
-use Rattle.mwc_states.specs.Inner.Counting.{AreLeading}
-use Rattle.mwc_states.proofs.LevelCounts.{links_of, as-many, level-at, level-long, level-few, each-pushed, lead-first, lead-next, lead-few, lead-go}
+use Rattle.mwc_states.proofs.Imports.{◌+◌, arith, AreLeading}
+use Rattle.mwc_states.proofs.LevelCounts.{links_of, as-many, level-at, level-long, level-few, each-pushed, lead-first, lead-next, lead-few}
+use Rattle.mwc_states.proofs.LevelCounts.{lead-go}
 use Rattle.mwc_states.proofs.set_counts.lead.Goals as goal
 
 pub loop-level-init : goal.loop-level-init
@@ -12,41 +10,35 @@ loop-level-init c =
       each = rw c.in_ok-push.ensures.items (each-pushed (AreLeading (links_of c.args.levels.now)) c.in_ok-leading.leading.items c.in_ok-unit.field-0 0
           (omega (arith, c.in_ok-leading.ensures.len)) (λ i d lt. absurd (omega arith))
           (lead-first (links_of c.args.levels.now) c.in_ok-unit.ensures.ends c.requires.root
-          (omega (arith, c.in_ok-unit.ensures.long, c.len.ensures, level-long first)) c.in_ok-unit.ensures.one));
+          (omega (arith, c.in_ok-unit.ensures.long, c.len.ensures, level-long c.requires first)) c.in_ok-unit.ensures.one));
     }
 
 pub spread-requires-clause-few : goal.spread-requires-clause-few
-spread-requires-clause-few c =
-    let next = level-at c.args.levels.now c.loop-level.level c.index-levels-level-in-loop-level.result (omega arith) c.index-levels-level-in-loop-level.is in
-    omega (arith, c.len-in-loop-level.ensures, level-few c.requires next)
-
--- how many rows there are at the next level
-rows-come : (levels : List (List (List ℕ))) (level rows links : ℕ) → 0 < level → rows ≡ links → links ≡ states_at levels level
-    → rows + 2 ≡ 2 + states_at levels (level - 1 + 1)
-rows-come levels level rows links some is long = let e : level - 1 + 1 ≡ level = omega arith in omega (arith, is, long, ap (λ (k : ℕ). states_at levels k) e)
+spread-requires-clause-few c = omega (
+  arith,
+  level-few c.requires
+      (level-at c.args.levels.now (c.loop-level.level + 1) c.index-levels-level-in-loop-level.result (omega arith) c.index-levels-level-in-loop-level.is),
+)
 
 pub spread-requires-clause-go : goal.spread-requires-clause-go
 spread-requires-clause-go c =
-    let links = level-at c.args.levels.now (c.loop-level.level - 1) c.index-levels-level.result (omega arith) c.index-levels-level.is in
-    let next = level-at c.args.levels.now c.loop-level.level c.index-levels-level-in-loop-level.result (omega arith) c.index-levels-level-in-loop-level.is in
-    let are = rw (← c.index.ensures) at (c.loop-level.invariant.each (c.loop-level.level - 1) c.index.result.now (omega arith)) in
-    lead-go c.requires links are _ (omega (arith, next.within)) (rows-come _ c.loop-level.level _ _ (omega arith) (omega (arith, c.len-in-loop-level.ensures)) (level-long next))
+    let links = level-at c.args.levels.now c.loop-level.level c.index-levels-level.result (omega arith) c.index-levels-level.is in
+    let next = level-at c.args.levels.now (c.loop-level.level + 1) c.index-levels-level-in-loop-level.result (omega arith) c.index-levels-level-in-loop-level.is in
+    let are = rw (← c.index.ensures) at (c.loop-level.invariant.each c.loop-level.level c.index.result.now (omega arith)) in
+    lead-go c.requires links are _ (omega (arith, next.within)) (omega (arith, level-long c.requires next))
 
 pub spread-requires-clause-fits : goal.spread-requires-clause-fits
 spread-requires-clause-fits c =
-    let links = level-at c.args.levels.now (c.loop-level.level - 1) c.index-levels-level.result (omega arith) c.index-levels-level.is in
-    lead-few c.requires links (rw (← c.index.ensures) at (c.loop-level.invariant.each (c.loop-level.level - 1) c.index.result.now (omega arith)))
+    let links = level-at c.args.levels.now c.loop-level.level c.index-levels-level.result (omega arith) c.index-levels-level.is in
+    lead-few c.requires links (rw (← c.index.ensures) at (c.loop-level.invariant.each c.loop-level.level c.index.result.now (omega arith)))
 
 pub loop-level-preserved : goal.loop-level-preserved
 loop-level-preserved c =
-    let after : c.loop-level.level - 1 + 1 ≡ c.loop-level.level = omega arith in
-    let links = level-at c.args.levels.now (c.loop-level.level - 1) c.index-levels-level.result (omega arith) c.index-levels-level.is in
-    let next = level-at c.args.levels.now c.loop-level.level c.index-levels-level-in-loop-level.result (omega arith) c.index-levels-level-in-loop-level.is in
-    let are = rw (← c.index.ensures) at (c.loop-level.invariant.each (c.loop-level.level - 1) c.index.result.now (omega arith)) in
-    let come = rows-come _ c.loop-level.level c.len-in-loop-level.result _ (omega arith) (omega (arith, c.len-in-loop-level.ensures)) (level-long next) in
-    let more : AreLeading (links_of c.args.levels.now) (c.loop-level.level - 1 + 1) c.in_ok-next.next =
-    lead-next c.requires links are (omega (arith, next.within)) come c.in_ok-next.ensures.ranges c.in_ok-next.ensures.counts in record {
+    let links = level-at c.args.levels.now c.loop-level.level c.index-levels-level.result (omega arith) c.index-levels-level.is in
+    let next = level-at c.args.levels.now (c.loop-level.level + 1) c.index-levels-level-in-loop-level.result (omega arith) c.index-levels-level-in-loop-level.is in
+    let are = rw (← c.index.ensures) at (c.loop-level.invariant.each c.loop-level.level c.index.result.now (omega arith)) in record {
       long = omega (arith, c.in_ok-push-2.ensures.len, c.loop-level.invariant.long);
-      each = rw c.in_ok-push-2.ensures.items (each-pushed (AreLeading (links_of c.args.levels.now)) c.loop-level.leading.items c.in_ok-next.next c.loop-level.level
-          c.loop-level.invariant.long c.loop-level.invariant.each (subst (λ k. AreLeading (links_of c.args.levels.now) k c.in_ok-next.next) after more));
+      each = rw c.in_ok-push-2.ensures.items (each-pushed (AreLeading (links_of c.args.levels.now)) c.loop-level.leading.items c.in_ok-spread.field-0 (c.loop-level.level + 1)
+          c.loop-level.invariant.long c.loop-level.invariant.each
+          (lead-next c.requires links are (omega (arith, next.within)) (omega (arith, level-long c.requires next)) c.in_ok-spread.ensures.ranges c.in_ok-spread.ensures.counts));
     }

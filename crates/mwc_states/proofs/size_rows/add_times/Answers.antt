@@ -1,5 +1,5 @@
 use Rattle.mwc_states.proofs.Imports.{◌≡◌, ℕ, ◌+◌, ◌-◌, ◌*◌, ◌&&◌, ◌<◌, cond, leb, ltb, get_or, length, List, arith, nat_tests, cases_eq}
-use Rattle.std.proofs.Common.{set, get_or-set_same, get_or-set_other}
+use Rattle.mwc_states.proofs.Imports.{set, get_or-set_same, get_or-set_other}
 use Rattle.mwc_states.proofs.size_rows.add_times.Goals as goal
 
 put : (sum before numbers : List ℕ) (place times j p : ℕ) → place + j < length sum

@@ -1,14 +1,10 @@
-use Rattle.std.proofs.Common.{◌≡◌, ◌∙◌, ◌<◌, ◌==◌, ◌∷◌, [], ℕ, Bool, false, List, length, ap, sym, arith, refl, eqb-true}
-use Rattle.std.proofs.lemmas.Bool.Decides.{nat_tests}
-use Rattle.mwc_states.specs.declared.what.What.{What}
-use Rattle.std.proofs.lemmas.{Bool.and_parts, Bool.both_ways, Bool.MatchBool-at_true, Bool.MatchBool-at_false}
-use Rattle.mwc_states.specs.{Inner.Sets.weigh, Inner.Sets.meets, Inner.States.needs_each, Inner.States.completes}
-use Rattle.mwc_states.proofs.{Leaving.leads-dead, Leaving.leads-complete, Leaving.leads-open}
-use Rattle.mwc_states.proofs.state.decide.Goals as goal
+use Rattle.mwc_states.proofs.Imports.{◌≡◌, ◌∙◌, ◌<◌, ◌==◌, ◌∷◌, [], ℕ, Bool, false, List, length, ap, sym, arith, refl, nat_tests, What}
+use Rattle.mwc_states.proofs.Imports.{and_parts, both_ways, MatchBool-at_true, MatchBool-at_false, weigh, meets, needs_each, completes}
+use Rattle.mwc_states.proofs.Imports.{completes_link}
+use Rattle.std.proofs.Common.{eqb-true}
 use Rattle.mwc_states.proofs.state.decide.Goals.{else-is_zero-via-then-is_zero+else-is_over, else-is_zero-via-else-is_zero}
-
-nonzero : (n : ℕ) → (n ≡ 0 → ⊥) → 0 < n
-nonzero n some = omega (arith, some)
+use Rattle.mwc_states.proofs.{Leaving.leads-dead, Leaving.leads-complete, Leaving.leads-open, Levels.link-in}
+use Rattle.mwc_states.proofs.state.decide.Goals as goal
 
 some-rows : {b : Bool} (state : List (List ℕ)) → b ≡ (length state == 0) → b ≡ false → 0 < length state
 some-rows {b} state is none = grind (arith, nat_tests)
@@ -19,31 +15,30 @@ no-state what members [] set none = refl
 no-state what members (row ∷ rows) set none = absurd (omega arith)
 
 pub returns-then-is_empty-clause-leads : goal.returns-then-is_empty-clause-leads
-returns-then-is_empty-clause-leads c set long =
-    no-state c.args.what _ c.args.state.now _ (eqb-true _ _ (sym c.is_empty.ensures ∙ c.if-is_empty.true))
+unfolding completes_link
+returns-then-is_empty-clause-leads c set long = grind (arith, no-state, eqb-true)
 
 pub returns-then-not-is_reachable-clause-leads : goal.returns-then-not-is_reachable-clause-leads
+unfolding completes_link
 returns-then-not-is_reachable-clause-leads c set long = leads-dead _ _ _ _ _ _ _ (some-rows c.args.state.now c.is_empty.ensures c.if-is_empty.false) c.reduce.ensures c.raise-need.ensures
     (λ set fitting. absurd (both_ways _ c.if-not-is_reachable.true (c.is_reachable.ensures.some set
     (and_parts (meets (weigh c.args.later.now.members.now set) c.raise-need.result) (needs_each c.args.what c.args.later.now.members.now set c.raise-need.result) fitting).0))) set
 
 pub returns-then-not-branch-clause-leads : goal.returns-then-not-branch-clause-leads
+unfolding completes_link
 returns-then-not-branch-clause-leads c set long = leads-dead _ _ _ _ _ _ _ (some-rows c.args.state.now c.is_empty.ensures c.if-is_empty.false) c.reduce.ensures c.raise-need.ensures
     (MatchBool-at_false _ _ c.if-not-branch.true c.in_ok-list_misses.ensures) set
 
 pub returns-then-is_over-clause-leads : goal.returns-then-is_over-clause-leads
+unfolding completes_link
 returns-then-is_over-clause-leads c set long = leads-complete _ _ _ _ _ _ _ (some-rows c.args.state.now c.is_empty.ensures c.if-is_empty.false) c.reduce.ensures c.raise-need.ensures
     (MatchBool-at_true _ _ c.if-not-branch.false c.in_ok-list_misses.ensures) (c.is_zero.ensures.0 c.if-is_zero.true) (c.is_over.ensures.over c.if-is_over.true) set long
 
 pub returns-clause-leads : goal.returns-clause-leads
 returns-clause-leads c set long = leads-open _ _ _ _ _ _ _ (some-rows c.args.state.now c.is_empty.ensures c.if-is_empty.false) c.reduce.ensures c.raise-need.ensures
     (MatchBool-at_true _ _ c.if-not-branch.false c.in_ok-list_misses.ensures) set
-    ∙ ap (λ rows. completes c.args.what c.args.later.now.members.now rows set) (sym c.in_ok-insert.ensures.items)
+    ∙ ap (λ rows. completes c.args.what c.args.later.now.members.now rows set) (sym (c.deref.ensures.value ∙ c.in_ok-insert.ensures.items))
+    ∙ link-in _ _ _ _ _ _ set c.in_ok-add.ensures
 
-pub returns-clause-open : goal.returns-clause-open
-returns-clause-open c is =
-    elim c.else-is_zero.branch [
-      | else-is_zero-via-then-is_zero+else-is_over w ↦ w.is_over.ensures.open w.if-is_over.false
-      | else-is_zero-via-else-is_zero w ↦ nonzero _ (λ none. both_ways _ w.if-is_zero.false
-          (c.is_zero.ensures.1 (c.is_reachable.ensures.none none c.if-not-is_reachable.false)))
-    ]
+pub returns-clause-last : goal.returns-clause-last
+returns-clause-last c none = grind (arith, both_ways)

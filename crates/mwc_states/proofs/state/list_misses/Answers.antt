@@ -1,5 +1,4 @@
-use Rattle.std.proofs.Common.{◌∙◌, ◌<◌, ◌-◌, [], cond, length, get_or, ap, subst}
-use Rattle.std.proofs.lemmas.{List.take_rest, Bool.MatchBool-at_true, Bool.MatchBool-at_false}
+use Rattle.mwc_states.proofs.Imports.{◌∙◌, ◌<◌, ◌-◌, [], cond, length, get_or, ap, subst, take_rest, MatchBool-at_true, MatchBool-at_false}
 use Rattle.mwc_states.proofs.Leaving.{none-left_more, none-left_miss, left-more}
 use Rattle.mwc_states.proofs.state.list_misses.Goals as goal
 

@@ -1,5 +1,4 @@
-use Rattle.std.proofs.Common.{take, drop}
-use Rattle.mwc_states.specs.{Inner.Sums.row_at, Inner.Later.IsLeft}
+use Rattle.mwc_states.proofs.Imports.{take, drop, row_at, IsLeft}
 use Rattle.mwc_states.proofs.state.list_misses.Given as goal
 
 abbrev pub invariant-loop-miss : goal.invariant-loop-miss

@@ -1,5 +1,4 @@
-use Rattle.std.proofs.Common.{length, ◌-◌, ◌+◌}
-use Rattle.mwc_states.proofs.Merging.{Merging}
+use Rattle.mwc_states.proofs.{Imports.length, Imports.◌-◌, Imports.◌+◌, Merging.Merging}
 use Rattle.mwc_states.proofs.sums.add_member.Given as goal
 
 abbrev pub invariant-loop-j : goal.invariant-loop-j

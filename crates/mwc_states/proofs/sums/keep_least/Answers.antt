@@ -1,5 +1,4 @@
-use Rattle.std.proofs.Common.{arith}
-use Rattle.mwc_states.proofs.Lowering.{lowered-more}
+use Rattle.mwc_states.proofs.{Imports.arith, Lowering.lowered-more}
 use Rattle.mwc_states.proofs.sums.keep_least.Goals as goal
 
 pub loop-k-preserved : goal.loop-k-preserved

@@ -1,5 +1,4 @@
-use Rattle.std.proofs.Common.{arith}
-use Rattle.mwc_states.proofs.Merging.{listed-none, listed-room, listed-next}
+use Rattle.mwc_states.proofs.{Imports.arith, Merging.listed-none, Merging.listed-room, Merging.listed-next}
 use Rattle.mwc_states.proofs.sums.list.Goals as goal
 
 pub loop-i-init : goal.loop-i-init

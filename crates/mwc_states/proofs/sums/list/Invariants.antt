@@ -1,5 +1,4 @@
-use Rattle.std.proofs.Common.{drop}
-use Rattle.mwc_states.specs.Inner.Sums.{AreListed}
+use Rattle.mwc_states.proofs.Imports.{drop, AreListed}
 use Rattle.mwc_states.proofs.sums.list.Given as goal
 
 abbrev pub invariant-loop-i : goal.invariant-loop-i

@@ -1,5 +1,4 @@
-use Rattle.std.proofs.Common.{◌∙◌, sym}
-use Rattle.mwc_states.proofs.Leaving.{adds-miss, adds-none}
+use Rattle.mwc_states.proofs.{Imports.◌∙◌, Imports.sym, Leaving.adds-miss, Leaving.adds-none}
 use Rattle.mwc_states.proofs.later.Later.add_miss.Goals as goal
 
 pub returns-in_ok-add : goal.returns-in_ok-add

@@ -1,5 +1,4 @@
-use Rattle.std.proofs.Common.{◌≡◌, ℕ, get_or, take}
-use Rattle.mwc_states.specs.Inner.Later.{weigh_able}
+use Rattle.mwc_states.proofs.Imports.{◌≡◌, ℕ, get_or, take, weigh_able}
 use Rattle.mwc_states.proofs.later.Later.is_missed.Given as goal
 
 abbrev pub invariant-loop-member : goal.invariant-loop-member

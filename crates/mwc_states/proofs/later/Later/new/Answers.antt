@@ -1,8 +1,6 @@
-use Rattle.std.proofs.Common.{subst, sym}
-use Rattle.std.specs.List.{All}
+use Rattle.mwc_states.proofs.Imports.{subst, sym, All, AreSums}
 use Rattle.std.proofs.lemmas.List.Elements.{All-push}
 use Rattle.mwc_states.specs.declared.sums.Sums.{Sums}
-use Rattle.mwc_states.specs.Inner.Sums.{AreSums}
 use Rattle.mwc_states.proofs.later.Later.new.Goals as goal
 
 pub loop-rule-preserved : goal.loop-rule-preserved

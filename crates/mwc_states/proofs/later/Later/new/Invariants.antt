@@ -1,5 +1,4 @@
-use Rattle.std.specs.List.{All}
-use Rattle.mwc_states.specs.Inner.Sums.{AreSums}
+use Rattle.mwc_states.proofs.Imports.{All, AreSums}
 use Rattle.mwc_states.proofs.later.Later.new.Given as goal
 
 abbrev pub invariant-loop-rule : goal.invariant-loop-rule

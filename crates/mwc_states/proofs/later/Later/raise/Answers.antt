@@ -1,5 +1,4 @@
-use Rattle.std.proofs.Common.{◌∙◌, arith, ap, sym, subst, get_or}
-use Rattle.mwc_states.specs.{Inner.Sets.weigh, Inner.Sums.AreSums}
+use Rattle.mwc_states.proofs.Imports.{◌∙◌, arith, ap, sym, subst, get_or, weigh, AreSums}
 use Rattle.mwc_states.proofs.Meeting.{meets-raised_same}
 use Rattle.mwc_states.proofs.later.Later.raise.Goals as goal
 

@@ -1,5 +1,4 @@
-use Rattle.std.proofs.Common.{◌≡◌, ◌≤◌, ℕ, List, Bool, true, get_or}
-use Rattle.mwc_states.specs.Inner.Sets.{weigh, meets}
+use Rattle.mwc_states.proofs.Imports.{◌≡◌, ◌≤◌, ℕ, List, Bool, true, get_or, weigh, meets}
 use Rattle.mwc_states.proofs.later.Later.raise.Given as goal
 
 abbrev pub invariant-loop-sums : goal.invariant-loop-sums

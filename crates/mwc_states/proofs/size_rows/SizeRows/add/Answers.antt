@@ -1,6 +1,5 @@
 use Rattle.mwc_states.proofs.Imports.{◌∙◌, ◌+◌, ◌-◌, ◌<◌, ℕ, List, ap, arith, get_or, length}
-use Rattle.mwc_states.proofs.SizeRows.{row-added, row-fits, number-read}
-use Rattle.mwc_states.proofs.Ranges.{written}
+use Rattle.mwc_states.proofs.{Ranges.written, SizeRows.row-added, SizeRows.row-fits, SizeRows.number-read}
 use Rattle.mwc_states.proofs.size_rows.SizeRows.add.Goals as goal
 
 pub add_times-requires-clause-fits : goal.add_times-requires-clause-fits

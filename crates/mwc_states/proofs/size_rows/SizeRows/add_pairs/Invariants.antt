@@ -1,5 +1,4 @@
-use Rattle.mwc_states.proofs.Imports.{◌≡◌, ℕ, ◌+◌, ◌*◌, get_or, later, sum_below}
-use Rattle.mwc_states.specs.Inner.SizeRows.{count_at}
+use Rattle.mwc_states.proofs.Imports.{◌≡◌, ℕ, ◌+◌, ◌*◌, get_or, later, sum_below, count_at}
 use Rattle.mwc_states.proofs.size_rows.SizeRows.add_pairs.Given as goal
 
 abbrev pub invariant-loop-size : goal.invariant-loop-size

@@ -1,5 +1,4 @@
-use Rattle.mwc_states.proofs.Imports.{arith, get_or_default, common_steps}
-use Rattle.mwc_states.proofs.SizeRows.{row-read}
+use Rattle.mwc_states.proofs.{Imports.arith, Imports.get_or_default, Imports.common_steps, SizeRows.row-read}
 use Rattle.mwc_states.proofs.size_rows.SizeRows.counts.Goals as goal
 
 pub returns-clause-counts : goal.returns-clause-counts

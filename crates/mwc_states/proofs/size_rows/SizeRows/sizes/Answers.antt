@@ -1,5 +1,4 @@
-use Rattle.mwc_states.proofs.Imports.{arith, ◌+◌}
-use Rattle.council_base.proofs.Shared.Lists.{get_or-zeros}
+use Rattle.mwc_states.proofs.Imports.{arith, ◌+◌, get_or-zeros}
 use Rattle.mwc_states.proofs.size_rows.SizeRows.sizes.Goals as goal
 
 pub add_times-requires-clause-fits : goal.add_times-requires-clause-fits

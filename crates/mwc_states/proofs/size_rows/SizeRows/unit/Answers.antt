@@ -1,6 +1,5 @@
-use Rattle.mwc_states.proofs.Imports.{◌≡◌, ◌<◌, ◌-◌, ap, length, range_at, arith, common_steps, cases_lt, SizeRange}
-use Rattle.std.proofs.Common.{◌≢◌, get_or-set_same, get_or-set_other, ℕ}
-use Rattle.std.proofs.lemmas.List.{get_or_past}
+use Rattle.mwc_states.proofs.Imports.{◌≡◌, ◌<◌, ◌-◌, ap, length, range_at, arith, common_steps, cases_lt, SizeRange, ◌≢◌, get_or-set_same}
+use Rattle.mwc_states.proofs.Imports.{get_or-set_other, ℕ, get_or_past}
 use Rattle.mwc_states.proofs.SizeRows.{count-unit, number-read}
 use Rattle.mwc_states.proofs.size_rows.SizeRows.unit.Goals as goal
 

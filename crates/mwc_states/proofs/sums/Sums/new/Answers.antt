@@ -1,5 +1,4 @@
-use Rattle.std.proofs.Common.{arith}
-use Rattle.mwc_states.proofs.Lowering.{sums-lowered}
+use Rattle.mwc_states.proofs.{Imports.arith, Lowering.sums-lowered}
 use Rattle.mwc_states.proofs.sums.Sums.new.Goals as goal
 
 pub returns : goal.returns

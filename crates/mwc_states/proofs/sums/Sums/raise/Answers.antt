@@ -1,6 +1,5 @@
-use Rattle.std.proofs.Common.{ℕ, List, get_or, ltb, arith, rules, subst, sym, ◌∙◌, ap}
+use Rattle.mwc_states.proofs.Imports.{ℕ, List, get_or, ltb, arith, rules, subst, sym, ◌∙◌, ap, AreSums}
 use Rattle.std.proofs.lemmas.List.Sorted.{IsPartitionPoint-from_clause, IsPartitionedBy-ltb, IsNonDecreasingBy-from_default}
-use Rattle.mwc_states.specs.Inner.Sums.{AreSums}
 use Rattle.mwc_states.proofs.Lowering.{meets-raised}
 use Rattle.mwc_states.proofs.sums.Sums.raise.Goals as goal
 
