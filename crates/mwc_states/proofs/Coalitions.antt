@@ -15,7 +15,7 @@ use Rattle.council_game.proofs.Shared.{Lists.all-at, Lists.all-of, Lists.all-rul
 use Rattle.council_game.specs.Game.{GameView, IsGame, AreNonemptyCoalitions}
 use Rattle.power_index.specs.Tables.{AreSizeCounts}
 use Rattle.power_index.proofs.Shared.Minimal.{minimal-are-coalitions, minimal-few}
-use Rattle.swings.proofs.Winning.{winning-are-coalitions, winning-few}
+use Rattle.swings.proofs.Shared.Winning.{winning-are-coalitions, winning-few}
 use Rattle.mwc_states.specs.Inner.Games.{counted_coalitions, is_counted}
 use Rattle.mwc_states.proofs.Masks.{set_of, count-coalitions, weigh-set}
 use Rattle.std.specs.{List.range_with_len, List.list_all, Cmp.both_ways as same_test}

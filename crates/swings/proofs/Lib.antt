@@ -1,6 +1,6 @@
+pub mod Shared
 mod Bounds
 mod Counts
 mod Flips
 mod Orders
 mod Shares
-pub mod Winning

@@ -12,7 +12,7 @@ use Rattle.council_game.proofs.Shared.{Sets.mask_of, Sets.mask-below, Sets.mask-
 use Rattle.power_index.specs.Counting.{count_of_member, count_of_member_size, count_of_size}
 use Rattle.power_index.proofs.Shared.{Members.memberships, Members.size-le, Members.size-pos, Minimal.minimal-some, Sums.sum-times}
 use Rattle.swings.specs.{Indices.factorial, Indices.shapley_shubik, Swings.swings_of_size, Swings.winning_coalitions}
-use Rattle.swings.proofs.{Counts.swings-of-size, Flips.and-swap, Flips.counted, Flips.added-has, Flips.size-less, Winning.none-wins}
+use Rattle.swings.proofs.{Counts.swings-of-size, Flips.and-swap, Flips.counted, Flips.added-has, Flips.size-less, Shared.Winning.none-wins}
 
 -- ---- the coalition of all members, and the empty one
 module _ (n : ℕ) where

@@ -1,5 +1,5 @@
 use Rattle.std.proofs.Common.{arith, ◌-◌}
-use Rattle.swings.proofs.{Winning.winning-few, Counts.fewer-in-tables, Counts.none-of-size-0, Counts.sizes-in-tables}
+use Rattle.swings.proofs.{Shared.Winning.winning-few, Counts.fewer-in-tables, Counts.none-of-size-0, Counts.sizes-in-tables}
 use Rattle.swings.proofs.swings.Swings.of_member_size.Goals as goal
 
 pub returns-then-size-eq0-clause-swings : goal.returns-then-size-eq0-clause-swings
