@@ -1,8 +1,8 @@
 -- Levels: links, while the table of the next level grows.
 use Rattle.mwc_states.proofs.Imports.{◌≡◌, ◌∙◌, ℕ, zero, suc, ◌+◌, ◌<◌, Bool, true, false, cond, List, [], ◌∷◌, ◌++◌, length, get_or, sym}
 use Rattle.mwc_states.proofs.Imports.{ap, refl, arith, inl, inr, length-append, cases_lt, cases_eq, get_or_append_left, get_or_past}
-use Rattle.mwc_states.proofs.Imports.{get_or_push, What, is_empty, completes, Grows, IsIn, IsLevel, completes_link, link_at}
-use Rattle.mwc_states.specs.Inner.Tables.{Leads}
+use Rattle.mwc_states.proofs.Imports.{get_or_push, What, is_empty, completes, Grows, IsIn, IsLevel, completes_link, link_at, ◌-◌}
+use Rattle.mwc_states.specs.Inner.Tables.{AreMerged, AreMoved, IsMoved, Leads}
 
 abbrev Rows : Type 0
 Rows = List (List ℕ)
@@ -91,3 +91,76 @@ module _ (what : What) (member : List ℕ) (later : Rows) (table : List Rows) wh
       both : (taken : Bool) → Leads what later member taken (get_or table i []) new (get_or (without ∷ with ∷ []) (cond taken 1 0) 0)
       both false set long = out set long ∙ link-kept what later 1 next new without set second out_below
       both true set long = in' set long
+
+-- ---- once the table of the next level is sorted
+pub moved-none : (places : List ℕ) (links : Rows) → AreMoved places links [] 0
+moved-none places links = record {
+  long = refl;
+  pair = λ k lt. absurd (omega arith);
+  without = λ k lt. absurd (omega arith);
+  with_member = λ k lt. absurd (omega arith);
+}
+
+pub moved-more : (places : List ℕ) (links new : Rows) (i a b : ℕ) → AreMoved places links new i → IsMoved places (link_at links i 0) a
+    → IsMoved places (link_at links i 1) b → AreMoved places links (new ++ (a ∷ b ∷ []) ∷ []) (i + 1)
+moved-more places links new i a b are out in' =
+    let last : List ℕ = a ∷ b ∷ [] in
+    let at : (k : ℕ) → k < i → get_or (new ++ last ∷ []) k [] ≡ get_or new k [] = λ k lt. get_or_append_left new (last ∷ []) [] k (omega (arith, are.long, lt)) in
+    let here : get_or (new ++ last ∷ []) i [] ≡ last = get_or_push new last [] i are.long in
+    record {
+      long = omega (arith, are.long, length-append new (last ∷ []));
+      pair = λ k lt. elim (cases_lt k i) [
+        | inl less ↦ at k less ∙ are.pair k less ∙ sym (λ j. get_or (at k less j) 0 0 ∷ get_or (at k less j) 1 0 ∷ [])
+        | inr ge ↦ (let e : k ≡ i = omega arith in rw (e, here) refl)
+      ];
+      without = λ k lt. elim (cases_lt k i) [
+        | inl less ↦ rw (at k less) (are.without k less)
+        | inr ge ↦ (let e : k ≡ i = omega arith in rw (e, here) out)
+      ];
+      with_member = λ k lt. elim (cases_lt k i) [
+        | inl less ↦ rw (at k less) (are.with_member k less)
+        | inr ge ↦ (let e : k ≡ i = omega arith in rw (e, here) in')
+      ];
+    }
+
+module _ (what : What) (later : Rows) (old new : List Rows) (places : List ℕ) (are : AreMerged old new places) where
+  -- the same sets complete what a row leads to
+  row-moved : (row to : ℕ) (set : List Bool) → row < 2 + length old → IsMoved places row to
+      → (to < 2 + length new) × (completes_link what later old row set ≡ completes_link what later new to set)
+  unfolding completes_link
+  row-moved zero to set lt (inl low) = rw low.1 (omega arith, refl)
+  row-moved (suc zero) to set lt (inl low) = rw low.1 (omega arith, refl)
+  row-moved (suc (suc k)) to set lt (inl low) = absurd (omega (arith, low.0))
+  row-moved zero to set lt (inr high) = absurd (omega (arith, high.0))
+  row-moved (suc zero) to set lt (inr high) = absurd (omega (arith, high.0))
+  row-moved (suc (suc k)) to set lt (inr high) =
+      let place : suc (suc k) - 2 ≡ k = omega arith in
+      let is : to ≡ get_or places k 0 + 2 = high.1 ∙ ap (λ (q : ℕ). get_or places q 0 + 2) place in
+      let next : to ≡ suc (suc (get_or places k 0)) = omega (arith, is) in
+      let found = are.each k (get_or places k 0) (omega arith) refl (omega (arith, is, high.2)) in
+      rw next (omega (arith, found.0), ap (λ rows. completes what later rows set) (sym found.1))
+
+  pub level-moved : (member : List ℕ) (table : List Rows) (links to : Rows) (i : ℕ) → IsLevel what member later table links old i
+      → AreMoved places links to (2 + i) → IsLevel what member later table to new i
+  level-moved member table links to i level moved = record {
+    long = moved.long;
+    few = omega (arith, level.few, are.few);
+    below = below;
+    each = λ k taken set lt long. level.each k taken set lt long ∙ (row-moved _ _ set (level.below k (cond taken 1 0)) (to-choice k taken lt)).1;
+    last = λ e. omega (arith, level.last e, are.few);
+  }
+    where
+      to-choice : (k : ℕ) (taken : Bool) → k < 2 + i → IsMoved places (link_at links k (cond taken 1 0)) (link_at to k (cond taken 1 0))
+      to-choice k true lt = moved.with_member k lt
+      to-choice k false lt = moved.without k lt
+
+      within : (k choice : ℕ) → k < 2 + i → link_at to k choice < 2 + length new
+      within k zero lt = (row-moved _ _ [] (level.below k 0) (moved.without k lt)).0
+      within k (suc zero) lt = (row-moved _ _ [] (level.below k 1) (moved.with_member k lt)).0
+      within k (suc (suc c)) lt = omega (arith, ap (λ l. get_or l (suc (suc c)) 0) (moved.pair k lt))
+
+      below : (k choice : ℕ) → link_at to k choice < 2 + length new
+      below k choice = elim (cases_lt k (2 + i)) [
+        | inl lt ↦ within k choice lt
+        | inr past ↦ omega (arith, ap (λ l. get_or l choice 0) (get_or_past to k [] (omega (arith, moved.long, past))))
+      ]

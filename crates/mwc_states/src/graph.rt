@@ -25,7 +25,7 @@ fn first_table(alloc: Global, need: &Row) -> Result<Table, Memory>
     ensures { IfOk result (λ table. IsIn [] table (need.now ∷ []) 0) }
 {
     let mut table = Table::new(alloc);
-    table.add(&[*need])?;
+    table.push(&[*need])?;
     Ok(table)
 }
 

@@ -19,7 +19,7 @@ pub(crate) const DEAD: u32 = 0;
 pub(crate) const COMPLETE: u32 = 1;
 
 /// The row of the first state. The others follow.
-const FIRST: u32 = 2;
+pub(crate) const FIRST: u32 = 2;
 
 /// Adds a state's need to the misses of the later members, if a member is taken that a minimal set
 /// cannot spare.
@@ -129,5 +129,5 @@ pub(crate) fn decide(
         return Ok(COMPLETE);
     }
     left.insert(0, need)?;
-    Ok(next.add(left)? + FIRST)
+    Ok(next.push(left)? + FIRST)
 }

@@ -1,5 +1,5 @@
 -- Tables of states, and where the states of one level lead in the next.
-use Rattle.std.specs.Prelude.{ℕ, zero, suc, ◌+◌, ◌*◌, ◌<◌, ◌≤◌, ◌≡◌, Bool, false, List, [], ◌∷◌, length, map, take, drop, slice_index_or, if◌then◌else◌}
+use Rattle.std.specs.Prelude.{ℕ, zero, suc, ◌+◌, ◌-◌, ◌*◌, ◌^◌, ◌<◌, ◌≤◌, ◌≡◌, ◌⊎◌, slice_index, Bool, false, List, [], ◌∷◌, length, map, take, drop, slice_index_or, if◌then◌else◌}
 use Rattle.std.specs.List.{All}
 use Rattle.mwc_states.specs.declared.what.What.{What}
 use Rattle.mwc_states.specs.Inner.Sets.{is_empty}
@@ -25,6 +25,24 @@ pub record IsIn (old new : List (List (List ℕ))) (state : List (List ℕ)) (pl
   pub below : place < length new
   pub here : slice_index_or new place [] ≡ state
   pub grows : Grows 1 old new
+
+-- the new place of each state in a table that has each once; u32::MAX if it has none
+pub record AreMerged (old new : List (List (List ℕ))) (places : List ℕ) : Type 0 where
+  pub long : length places ≡ length old
+  pub few : length new ≤ length old
+  pub each : (k place : ℕ) → k < length old → place ≡ slice_index places k → place + 2 < 2 ^ 32
+      → (place < length new) × (slice_index_or new place [] ≡ slice_index_or old k [])
+
+-- the new row of a row, once its states have new places
+abbrev pub IsMoved : List ℕ → ℕ → ℕ → Type 0
+IsMoved places row new = ((row < 2) × (new ≡ row)) ⊎ ((2 ≤ row) × (new ≡ slice_index places (row - 2) + 2) × (new < 2 ^ 32))
+
+-- the first i links, each to the new rows
+pub record AreMoved (places : List ℕ) (links new : List (List ℕ)) (i : ℕ) : Type 0 where
+  pub long : length new ≡ i
+  pub pair : (k : ℕ) → k < i → slice_index_or new k [] ≡ link_at new k 0 ∷ link_at new k 1 ∷ []
+  pub without : (k : ℕ) → k < i → IsMoved places (link_at links k 0) (link_at new k 0)
+  pub with_member : (k : ℕ) → k < i → IsMoved places (link_at links k 1) (link_at new k 1)
 
 -- whether a set of the later members completes what a link leads to, in the table of the next level
 unfoldable pub completes_link : What → List (List ℕ) → List (List (List ℕ)) → ℕ → List Bool → Bool

@@ -38,7 +38,7 @@ pub returns-clause-leads : goal.returns-clause-leads
 returns-clause-leads c set long = leads-open _ _ _ _ _ _ _ (some-rows c.args.state.now c.is_empty.ensures c.if-is_empty.false) c.reduce.ensures c.raise-need.ensures
     (MatchBool-at_true _ _ c.if-not-branch.false c.in_ok-list_misses.ensures) set
     ∙ ap (λ rows. completes c.args.what c.args.later.now.members.now rows set) (sym (c.deref.ensures.value ∙ c.in_ok-insert.ensures.items))
-    ∙ link-in _ _ _ _ _ _ set c.in_ok-add.ensures
+    ∙ link-in _ _ _ _ _ _ set c.in_ok-push.ensures.is_in
 
 pub returns-clause-last : goal.returns-clause-last
 returns-clause-last c none = grind (arith, both_ways)
