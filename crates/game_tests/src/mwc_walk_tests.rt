@@ -142,24 +142,30 @@ const ROWS: [Row; 12] = [
     ((&[9, 5], &[(10, &[1, 0]), (5, &[1, 1])]), 210, 334),
 ];
 
+/// Returns the game with its places by contribution.
+fn by_contribution(rt: &impl Abort, alloc: Global, game: Game) -> Game {
+    match game.by_contribution(alloc).expect(rt, "memory") {
+        Some(other) => other,
+        None => game,
+    }
+}
+
+/// The walk over a row's statute, its rules in this order, is as the row says.
+fn check_row(rt: &impl Abort, alloc: Global, order: &[usize], row: &Row) {
+    let (statute, coalitions, visits) = row;
+    let game = by_contribution(rt, alloc, game_by_groups(rt, alloc, order, statute));
+    check(rt, &mut Walk::new(&game, 0, 0), *coalitions, *visits);
+}
+
 #[test]
 fn visits_under_several_rules(rt: HostRuntime) {
-    for (statute, coalitions, visits) in &ROWS {
-        for order in [[0, 1, 2, 3], [3, 2, 1, 0]] {
-            let count = statute.0.len();
-            assert!(rt; count <= 4);
-            let order = if order[0] == 0 {
-                &order[..count]
-            } else {
-                &order[4 - count..]
-            };
-            let game = game_by_groups(&rt, rt.alloc(), order, statute);
-            let game = match game.by_contribution(rt.alloc()).expect(&rt, "memory") {
-                Some(other) => other,
-                None => game,
-            };
-            check(&rt, &mut Walk::new(&game, 0, 0), *coalitions, *visits);
-        }
+    let (up, down) = ([0, 1, 2, 3], [3, 2, 1, 0]);
+    for row in &ROWS {
+        let statute = row.0;
+        let count = statute.0.len();
+        assert!(rt; count <= 4);
+        check_row(&rt, rt.alloc(), &up[..count], row);
+        check_row(&rt, rt.alloc(), &down[4 - count..], row);
     }
 }
 

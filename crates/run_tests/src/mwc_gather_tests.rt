@@ -51,7 +51,7 @@ fn each_slice_passes_once(rt: HostRuntime) {
         let gathered = gather_behind(&rt, rt.alloc(), &game, &watch, 6, workers, 792).expect(
             &rt, "parts",
         );
-        assert_same(&rt, gathered.parts.len(), workers as usize, "parts");
+        assert!(rt; gathered.parts.len() == usize::from(workers));
         for (worker, part) in gathered.parts.iter().enumerate() {
             for slice in &part.slices {
                 assert_same(

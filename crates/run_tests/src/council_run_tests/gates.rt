@@ -1,4 +1,7 @@
 //! The slices and workers of runs and tallies.
+ghost use Rattle.std.specs.Prelude.{◌≤◌};
+ghost use Rattle.council_base.specs.declared.limits.TheConstants.{BITS, WORKERS};
+
 use super::*;
 use crate::helpers::{Watch, game_of_rules};
 use council_run::count_by_threads;
