@@ -16,7 +16,7 @@ mod quotas;
 mod reports;
 mod rings;
 mod slices;
-mod swings;
+mod swing_indices;
 mod tables;
 mod tally;
 #[cfg(test)]

@@ -14,7 +14,7 @@ use crate::power::{have_equal_power, vetoers_in_order, weigh_the_same};
 use crate::reports::report_into_memory;
 use crate::rings::through_a_ring;
 use crate::slices::{Passes, words_of_slice};
-use crate::swings::indices_by_swings;
+use crate::swing_indices::indices_by_swings;
 use crate::tables::{first_wrong_row, most_powerful};
 use crate::tally::tally_index;
 use council_file::parse_game;
