@@ -25,7 +25,7 @@ search() {
     local how=$1
     shift
     rm -f pan
-    spin -a "$@" "$model" >log 2>&1 && cc -O2 -DSAFETY $how -o pan pan.c 2>>log && timeout 300 ./pan -n -m100000 -w23 >>log 2>&1
+    spin -a "$@" "$model" >log 2>&1 && cc $how -DSAFETY -o pan pan.c 2>>log && timeout 300 ./pan -n -m100000 -w23 >>log 2>&1
     grep -o 'errors: .*' log || tail -n 3 log
 }
 
@@ -42,12 +42,12 @@ expect() {
 }
 
 for ring in 1 2; do
-    expect 0 "1 worker, a ring of $ring" -DCOLLAPSE -DWORKERS=1 -DRING=$ring
-    expect 0 "1 worker, a ring of $ring, sleeps that end" -DCOLLAPSE -DWORKERS=1 -DRING=$ring -DTIMED
-    expect 0 "2 workers, a ring of $ring, 1 slice" -DCOLLAPSE -DWORKERS=2 -DRING=$ring -DSLICES=1
+    expect 0 "1 worker, a ring of $ring" "-O0 -DCOLLAPSE" -DWORKERS=1 -DRING=$ring
+    expect 0 "1 worker, a ring of $ring, sleeps that end" "-O0 -DCOLLAPSE" -DWORKERS=1 -DRING=$ring -DTIMED
+    expect 0 "2 workers, a ring of $ring, 1 slice" "-O2 -DCOLLAPSE" -DWORKERS=2 -DRING=$ring -DSLICES=1
 done
-expect 0 "2 workers, a ring of 2, 2 slices" -DCOLLAPSE -DWORKERS=2 -DRING=2
-expect 0 "3 workers, in part" -DBITSTATE -DWORKERS=3 -DRING=1
+expect 0 "2 workers, a ring of 2, 2 slices" "-O2 -DCOLLAPSE" -DWORKERS=2 -DRING=2
+expect 0 "3 workers, in part" "-O2 -DBITSTATE" -DWORKERS=3 -DRING=1
 for slip in WAKES_NOBODY SLEEPS_AT_ONCE SENDS_NO_DONE SENDS_NO_END TASKS=0; do
-    expect 1 "finds $slip" -DCOLLAPSE -DWORKERS=1 -DRING=1 -D$slip
+    expect 1 "finds $slip" "-O0 -DCOLLAPSE" -DWORKERS=1 -DRING=1 -D$slip
 done
