@@ -340,6 +340,7 @@ fn indices_of_published_games_by_swings(rt: HostRuntime) {
         (nations, 14, None, lowest(4, 2145)),
     ] {
         let game = parse_game(alloc, text).expect(&rt, "a game");
+        assert!(rt; member < game.members());
         let found: Option<(Fraction, Fraction)> = indices_by_swings(alloc, &game, member).expect(
             &rt, "memory",
         );
