@@ -238,8 +238,9 @@ if command -v cc >/dev/null; then
     fi
 fi
 
-# ---- out of memory: each allocation refused in turn, until none is met. It is reported, or was
-# not needed. The members of two kinds are never counted by a walk instead: that takes an hour.
+# ---- out of memory: each of the first 300 allocations refused in turn, and then every 17th, until
+# none is met. It is reported, or was not needed. The members of two kinds are never counted by a
+# walk instead: that takes an hour.
 name="from C: want of memory is a status"
 if [ -x "$temp/report_c" ]; then
     compile_preloaded refuse
@@ -249,7 +250,7 @@ if [ -x "$temp/report_c" ]; then
         # shellcheck disable=SC2086
         run $words <"$game"
         why=
-        for ((number = 1; number <= 2000; number++)); do
+        for ((number = 1; number <= 20000; number += number < 300 ? 1 : 17)); do
             : >"$temp/said"
             # shellcheck disable=SC2086
             REFUSE_AT=$number REFUSE_TO=9 LD_PRELOAD=$temp/refuse.so timeout "$limit" "$temp/report_c" $words \
@@ -263,7 +264,7 @@ if [ -x "$temp/report_c" ]; then
                 break
             fi
         done
-        if [ -n "$why" ] || [ "$number" -lt 3 ] || [ "$number" -gt 2000 ]; then
+        if [ -n "$why" ] || [ "$number" -lt 3 ] || [ "$number" -gt 20000 ]; then
             failed "$name, $words" "${why:-$number allocations}"
         else
             ok "$name, $words"

@@ -22,10 +22,11 @@ cd "$room" || exit 1
 # Searches the model with these definitions; `how` is what the search is compiled with. Prints the
 # line that counts errors.
 search() {
-    local how=$1
+    local how
+    read -ra how <<<"$1"
     shift
     rm -f pan
-    spin -a "$@" "$model" >log 2>&1 && cc $how -DSAFETY -o pan pan.c 2>>log && timeout 300 ./pan -n -m100000 -w23 >>log 2>&1
+    spin -a "$@" "$model" >log 2>&1 && cc "${how[@]}" -DSAFETY -o pan pan.c 2>>log && timeout 300 ./pan -n -m100000 -w23 >>log 2>&1
     grep -o 'errors: .*' log || tail -n 3 log
 }
 

@@ -6,7 +6,8 @@
     tests/refused.py [CRATE/NAME..]     tries these, or all
 
 refused/CRATE has edits of the crate CRATE, in the form of its must-fail edits. They are put into a
-copy of the crates, for which `rt ci` proves only what it has not proved on this machine. Each line
+copy of these crates and those below, for which `rt ci` proves only what it has not proved on this
+machine. Each line
 says `ok`, or `FAILED` or `skipped` and why.
 """
 import glob
@@ -56,10 +57,15 @@ def choose(names, count):
 
 def try_edits(names):
     """Lets the prover try these edits; returns what it says of each, and its last lines."""
+    lines = dict(re.findall(r"^(\w+)[^:\n]*:(.*)$", read(f"{TOP}/crates.txt"), re.M))
+    crates = {name.split("/")[0] for name in names}
+    while below := {it for crate in crates for it in lines[crate].split() if it in lines} - crates:
+        crates |= below
     with tempfile.TemporaryDirectory() as room:
-        for it in ("crates.txt", "HANDLES"):
-            shutil.copy(f"{TOP}/{it}", room)
-        for crate in os.listdir(f"{TOP}/crates"):
+        shutil.copy(f"{TOP}/HANDLES", room)
+        with open(f"{room}/crates.txt", "w", encoding="utf-8") as it:
+            it.writelines(line for line in read(f"{TOP}/crates.txt").splitlines(True) if line.split(" ")[0].split(":")[0] in crates)
+        for crate in crates:
             for part in ("src", "specs", "proofs"):
                 if os.path.isdir(f"{TOP}/crates/{crate}/{part}"):
                     shutil.copytree(f"{TOP}/crates/{crate}/{part}", f"{room}/crates/{crate}/{part}")
@@ -67,8 +73,7 @@ def try_edits(names):
             crate, own = name.split("/")
             os.makedirs(f"{room}/crates/{crate}/must-fail", exist_ok=True)
             shutil.copy(f"{EDITS}/{name}.edit", f"{room}/crates/{crate}/must-fail/{own}.edit")
-        crates = sorted({it.split("/")[0] for it in names})
-        run = subprocess.run(["rt", "ci", *crates], cwd=room, stdout=subprocess.PIPE, stderr=subprocess.STDOUT, text=True, check=False)
+        run = subprocess.run(["rt", "ci"], cwd=room, stdout=subprocess.PIPE, stderr=subprocess.STDOUT, text=True, check=False)
         return dict(re.findall(r"must-fail (\S+)\.edit: (.*)", run.stdout)), run.stdout.strip().splitlines()[-3:]
 
 
