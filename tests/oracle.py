@@ -1,7 +1,7 @@
 #!/usr/bin/env python3
 """The report of a game, worked out a second time and apart from the program.
 
-    oracle.py FILE [--list] [--sizes] [--notation] [--polynomials]
+    oracle.py FILE [--list] [--sizes] [--notation] [--polynomials] [--swings | --only-swings]
 
 prints the report that `council` must print for FILE, which is the notation [q; w1, .., wn] or a game
 file of the plain form that examples/ has: a key and its value on a line, each value as JSON writes
@@ -9,7 +9,8 @@ it, and one [[member]] header for each member. It checks nothing else: it is for
 right. Plain Python 3, whole numbers and exact fractions alone.
 
 It enumerates the coalitions. With --polynomials it lists none: it counts those of a game of one rule, or of two
-of which one gives each member the same weight, by the terms of generating functions.
+of which one gives each member the same weight, by the terms of generating functions. Swings are counted over
+all sets of members, those of the same sums in one number.
 
 The reports of examples/ were made by it, and are made again, in some minutes, by
 
@@ -24,6 +25,7 @@ import re
 import sys
 from array import array
 from fractions import Fraction
+from math import factorial
 
 
 class Game:
@@ -160,18 +162,55 @@ def counted(game):
     return by_size(None), [by_size(i) for i in range(len(order))]
 
 
+def sets_of(weighed, quotas):
+    """For all sums of these members' weights, each cut at its quota, how many sets have them: a number with
+    64 binary digits for each size."""
+    sets = {(0,) * len(quotas): 1}
+    for own in weighed:
+        for sums, number in list(sets.items()):
+            more = tuple(min(one + other, quota) for one, other, quota in zip(sums, own, quotas))
+            sets[more] = sets.get(more, 0) + (number << 64)
+    return sets
+
+
+def swings_of(game):
+    """How many coalitions win, and for each member how many of each size win with it, and lose without it."""
+    quotas = tuple(quota for quota, _ in game.rules)
+    members = range(len(game.names))
+    # members of the same weights, as far as they matter, have the same swings
+    weighed = [tuple(min(of[i], quota) for quota, of in game.rules) for i in members]
+    found = {}
+    for own in set(weighed):
+        others = weighed[:]
+        others.remove(own)
+        joined = sum(number for sums, number in sets_of(others, quotas).items()
+                     if sums != quotas and all(one + other >= quota for one, other, quota in zip(sums, own, quotas)))
+        found[own] = [0] + [terms(joined, size, size + 1) for size in members]
+    return terms(sets_of(weighed, quotas)[quotas], 0, len(game.names) + 1), [found[own] for own in weighed]
+
+
+def swing_indices(swings):
+    """Of each member Banzhaf's index, Penrose's measure, and Shapley and Shubik's index."""
+    members = len(swings)
+    everyone = sum(map(sum, swings))
+    for its in swings:
+        orders = sum(number * factorial(size - 1) * factorial(members - size) for size, number in enumerate(its) if size)
+        yield Fraction(sum(its), everyone), Fraction(sum(its), 2 ** (members - 1)), Fraction(orders, factorial(members))
+
+
 def decimals(it):
     """Six decimals, cut off."""
     millionths = it.numerator * 1000000 // it.denominator
     return f"{millionths // 1000000}.{millionths % 1000000:06}"
 
 
-def report(game, with_list=False, with_sizes=False, with_notation=False, by_polynomials=False):
+def report(game, with_list=False, with_sizes=False, with_notation=False, by_polynomials=False, with_swings=False, only_swings=False):
     """The report's lines."""
     members = range(len(game.names))
-    found = [] if by_polynomials else minimal_coalitions(game)
+    found = [] if by_polynomials or only_swings else minimal_coalitions(game)
     sizes, counts = counted(game) if by_polynomials else enumerated(game, found)
     minimal = sum(sizes)
+    winning, swings = swings_of(game) if with_swings or only_swings else (0, [])
 
     def joined(values):
         return "/".join(str(value) for value in values)
@@ -184,7 +223,10 @@ def report(game, with_list=False, with_sizes=False, with_notation=False, by_poly
     if with_notation:
         for quota, of in game.rules:
             yield f"notation\t[{quota}; {', '.join(str(weight) for weight in of)}]"
-    yield f"minimal\t{minimal}"
+    if not only_swings:
+        yield f"minimal\t{minimal}"
+    if swings:
+        yield f"winning\t{winning}"
     if with_list:
         for c in found:
             weight = joined(sum(of[game.ranked[p]] for p in c) for _, of in game.rules)
@@ -198,25 +240,30 @@ def report(game, with_list=False, with_sizes=False, with_notation=False, by_poly
                 yield f"size\t{size}\t{number}\t{fields}"
 
     seats = sum(size * number for size, number in enumerate(sizes))
+    by_swings = list(swing_indices(swings))
     indices = []
     for i in members:
-        number = sum(counts[i])
-        shares = sum((Fraction(counts[i][s], s) for s in range(1, len(sizes))), Fraction(0))
-        deegan_packel = shares / minimal
-        public_good = Fraction(number, seats)
-        indices.append((deegan_packel, public_good))
-        fields = [game.names[i], joined(of[i] for _, of in game.rules), number]
-        for it in deegan_packel, public_good:
-            fields += [f"{it.numerator}/{it.denominator}", decimals(it)]
+        fields = [game.names[i], joined(of[i] for _, of in game.rules)]
+        groups = []
+        if not only_swings:
+            shares = sum((Fraction(counts[i][s], s) for s in range(1, len(sizes))), Fraction(0))
+            groups.append((sum(counts[i]), (shares / minimal, Fraction(sum(counts[i]), seats))))
+        if swings:
+            groups.append((sum(swings[i]), by_swings[i]))
+        for number, its in groups:
+            fields += [number, *(text for it in its for text in (f"{it.numerator}/{it.denominator}", decimals(it)))]
+        indices.append([it for _, its in groups for it in its])
         yield "\t".join(str(field) for field in ["member", *fields])
-    assert sum(it for it, _ in indices) == 1 and sum(it for _, it in indices) == 1
+    # all but Penrose's measure add up to 1
+    sums = [sum(column) for column in zip(*indices)]
+    assert all(it == 1 for at, it in enumerate(sums) if at != len(sums) - 2 or not swings)
 
 
 def main(words):
-    flags = ("--list", "--sizes", "--notation", "--polynomials")
+    flags = ("--list", "--sizes", "--notation", "--polynomials", "--swings", "--only-swings")
     files = [word for word in words if word not in flags]
     if len(files) != 1 or {"--list", "--polynomials"} <= set(words):
-        sys.exit("usage: oracle.py FILE [--list] [--sizes] [--notation] [--polynomials]")
+        sys.exit("usage: oracle.py FILE [--list] [--sizes] [--notation] [--polynomials] [--swings | --only-swings]")
     lines = report(read(files[0]), *(flag in words for flag in flags))
     sys.stdout.buffer.write("".join(f"{line}\n" for line in lines).encode())
 
