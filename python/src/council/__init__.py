@@ -42,8 +42,10 @@ def report(
     game: Union[str, bytes, None] = None,
     coalitions: bool = False,
     most: int = MOST,
+    swings: bool = False,
+    only_swings: bool = False,
 ) -> Report:
-    """Returns both indices of each member of a game.
+    """Returns the indices of each member of a game.
 
     Give the game in one of three ways:
 
@@ -60,6 +62,10 @@ def report(
     with more than `most` of them raises `TooMany`; `most` is at most 4,000,000. Without it, they
     are counted, however many there are.
 
+    The indices are those of Deegan and Packel and of Holler. With `swings=True` each member also has
+    its number of swings and the indices that rest on them: Banzhaf's, Penrose's measure, and that of
+    Shapley and Shubik; and Coleman's powers. With `only_swings=True` it has only these.
+
     A game in which two coalitions without a common member could both win, and a bracket text whose
     commas seem to separate thousands, are warned of.
 
@@ -73,6 +79,8 @@ def report(
         raise TypeError("give a quota and weights, or a file, or a game")
     if not 1 <= most <= MOST:
         raise ValueError(f"most is from 1 to {MOST:,}")
+    if only_swings and (swings or coalitions):
+        raise ValueError("only_swings=True goes without swings=True and coalitions=True")
     if given[0]:
         data = format_game_file(quota, weights, names=names, title=title, by=by).encode()
     else:
@@ -80,7 +88,7 @@ def report(
             raise TypeError("names, a title and by= belong to a quota and weights")
         data = read(file) if file is not None else game if isinstance(game, bytes) else str(game).encode("utf-8", "surrogatepass")
     try:
-        made = Report.from_text(compute(data, listed=coalitions, most=most))
+        made = Report.from_text(compute(data, listed=coalitions, most=most, only=only_swings if swings or only_swings else None))
     except Refused as fault:
         if not given[0]:
             raise

@@ -16,7 +16,7 @@ import re
 import shutil
 import subprocess
 import threading
-from typing import Optional
+from typing import Any, Optional, Sequence
 
 from .reports import MOST
 
@@ -49,7 +49,8 @@ class Refused(ValueError):
 
 
 class TooMany(Refused):
-    """A game with more minimal winning coalitions than can be listed."""
+    """A game with more minimal winning coalitions than can be listed, or with more states than
+    there is room for when its swings are counted."""
 
 
 def find_home() -> str:
@@ -143,31 +144,42 @@ class Library:
 
     def __init__(self, path: str):
         self.path = path
-        self._call = ctypes.CDLL(path).council_report
-        self._call.restype = ctypes.c_uint32
-        self._call.argtypes = [ctypes.c_char_p, ctypes.c_size_t, ctypes.POINTER(Options), ctypes.c_char_p, ctypes.c_size_t, ctypes.POINTER(ctypes.c_uint64)]
+        library: Any = ctypes.CDLL(path)
+        # (an older library has no swings)
+        self._call, self._swings_call = library.council_report, getattr(library, "council_swings_report", None)
+        game: list[Any] = [ctypes.c_char_p, ctypes.c_size_t, ctypes.POINTER(Options)]
+        text = [ctypes.c_char_p, ctypes.c_size_t, ctypes.POINTER(ctypes.c_uint64)]
+        for call, only in [(self._call, 0), (self._swings_call, 1)]:
+            if call:
+                call.restype, call.argtypes = ctypes.c_uint32, [*game, *[ctypes.c_bool] * only, *text]
 
-    def ask(self, game: bytes, options: Options) -> tuple[int, str]:
-        """Returns the status and the text of a call."""
+    def has(self, only: Optional[bool]) -> bool:
+        """Returns whether it has the call for swings, if these are wanted."""
+        return only is None or bool(self._swings_call)
+
+    def ask(self, game: bytes, options: Options, only: Optional[bool] = None) -> tuple[int, str]:
+        """Returns the status and the text of a call. `only` says whether nothing but swings is
+        wanted, and is None if there are to be none."""
         length, room = ctypes.c_uint64(), ROOM_OF_LIST if options.list else ROOM
         while True:
             text, room = reserve(room)
             place = (ctypes.c_char * room).from_buffer(text)
-            status = self._call(game, len(game), ctypes.byref(options), place, room, ctypes.byref(length))
+            call, more = (self._call, []) if only is None else (self._swings_call, [only])
+            status = call(game, len(game), ctypes.byref(options), *more, place, room, ctypes.byref(length))
             del place
             if length.value <= room:
                 with memoryview(text)[: length.value] as its:
                     return status, str(its, "utf-8")
             room = length.value
 
-    def ask_aside(self, game: bytes, options: Options) -> tuple[int, str]:
+    def ask_aside(self, game: bytes, options: Options, only: Optional[bool] = None) -> tuple[int, str]:
         """Asks in a thread of its own, so that an interrupt ends the wait for a long call."""
         answers: list[tuple[int, str]] = []
         faults: list[BaseException] = []
 
         def work() -> None:
             try:
-                answers.append(self.ask(game, options))
+                answers.append(self.ask(game, options, only))
             except BaseException as it:  # whoever waits raises it again
                 faults.append(it)
 
@@ -199,28 +211,30 @@ def find_library() -> Optional[Library]:
     return None
 
 
-def compute(game: bytes, *, listed: bool = False, most: int = MOST, program: Optional[str] = None) -> str:
+def compute(game: bytes, *, listed: bool = False, most: int = MOST, program: Optional[str] = None, only: Optional[bool] = None) -> str:
     """Returns the report of a game from the bytes of its file, as text.
 
-    It counts the coalitions, any number of them; if `listed`, it lists them, at most `most`. A
-    program that is named is used instead of the library.
+    It counts the coalitions, any number of them; if `listed`, it lists them, at most `most`. If
+    `only` is not None, it has the swings, and nothing else if `only` is true. A program that is
+    named is used instead of the library.
     """
+    words = ["--only-swings"] if only else (["--list", "--most", str(most)] if listed else ["--tally"]) + ["--swings"] * (only is not None)
     library = None if program else find_library()
-    if library is None:
-        status, text, told = run_program(find_program(program), game, listed, most)
+    if library is None or not library.has(only):
+        status, text, told = run_program(find_program(program), game, words)
     else:
-        status, text = library.ask_aside(game, Options(most=most if listed else 0, tally=not listed, list=listed))
-        told = explain(game, listed, most) if status in (3, 4) else ""
+        options = Options() if only else Options(most=most if listed else 0, tally=not listed, list=listed)
+        status, text = library.ask_aside(game, options, only)
+        told = explain(game, words) if status in (3, 4) else ""
     if status == 0:
         return text
-    if status not in (1, 3, 4):
+    if status not in (1, 3, 4, 6):
         raise MemoryError(text) if text == "out of memory" else RuntimeError(text)
-    raise (TooMany if status == 4 else Refused)(status, text, told, game.decode("utf-8", "replace"))
+    raise (TooMany if status in (4, 6) else Refused)(status, text, told, game.decode("utf-8", "replace"))
 
 
-def run_program(program: str, game: bytes, listed: bool, most: int) -> tuple[int, str, str]:
+def run_program(program: str, game: bytes, words: Sequence[str]) -> tuple[int, str, str]:
     """Runs the program: its status, its report or its fault, and its explanation of the fault."""
-    words = ["--list", "--most", str(most)] if listed else ["--tally"]
     done = subprocess.run([program, "--explain", *words], input=game, stdout=subprocess.PIPE, stderr=subprocess.PIPE, check=False)
     if done.returncode == 0:
         return 0, done.stdout.decode("utf-8"), ""
@@ -229,10 +243,10 @@ def run_program(program: str, game: bytes, listed: bool, most: int) -> tuple[int
     return done.returncode, told or f"{program} ended with status {done.returncode}", "\n".join(it.strip() for it in others)
 
 
-def explain(game: bytes, listed: bool, most: int) -> str:
+def explain(game: bytes, words: Sequence[str]) -> str:
     """Returns what the program says of a game that the library has refused; nothing if there is no
     program."""
     try:
-        return run_program(find_program(), game, listed, most)[2]
+        return run_program(find_program(), game, words)[2]
     except (NotFound, OSError):
         return ""

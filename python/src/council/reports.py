@@ -1,4 +1,4 @@
-"""Reads a report of the program council: the title, the quotas, the members with both indices, and
+"""Reads a report of the program council: the title, the quotas, the members with their indices, and
 the coalitions if it lists them."""
 from __future__ import annotations
 
@@ -7,8 +7,9 @@ import io
 import itertools
 import math
 from fractions import Fraction
-from typing import Any, Callable, Iterable, Iterator, NamedTuple, Optional
+from typing import TYPE_CHECKING, Any, Callable, Iterable, Iterator, NamedTuple, NoReturn, Optional, Tuple
 
+from .columns import FORMS, MINIMAL, SWINGS, Group, Index
 
 # the most coalitions that a report lists, and the letters that one of its lines may have
 MOST, LINE = 4_000_000, 1 << 16
@@ -22,12 +23,12 @@ class Fault(Exception):
         self.status = status
 
 
-class Member(NamedTuple):
-    """A member of a game, with both indices.
+class Member(Tuple[Any, ...]):
+    """A member of a game, as a named tuple of the columns that its report has.
 
-    `weights` has a number for each rule, and `coalitions` is the number of minimal winning
-    coalitions with this member. `deegan_packel` and `public_good` are the doubles nearest to the
-    exact indices.
+    `weights` has a number for each rule, `coalitions` is the number of minimal winning coalitions
+    with this member, and `swings` the number of winning coalitions that lose without it. An index
+    is the double nearest to the exact one, whose name ends with `_exact`.
     """
 
     name: str
@@ -37,6 +38,57 @@ class Member(NamedTuple):
     public_good: float
     deegan_packel_exact: Fraction
     public_good_exact: Fraction
+    swings: int
+    banzhaf: float
+    penrose: float
+    shapley_shubik: float
+    banzhaf_exact: Fraction
+    penrose_exact: Fraction
+    shapley_shubik_exact: Fraction
+    _fields: tuple[str, ...] = ("name", "weights", *MINIMAL.columns())
+    # how many coalitions of the game win, and how many lose
+    _winning: int
+    _losing: int
+
+    def __new__(cls, columns: dict[str, Any]) -> Member:
+        it = super().__new__(cls, columns.values())
+        it._fields = tuple(columns)
+        return it
+
+    @property
+    def power_to_prevent(self) -> Fraction:
+        """Coleman's power to prevent action: the share of the winning coalitions that lose without
+        the member."""
+        return Fraction(self.swings, self._winning)
+
+    @property
+    def power_to_initiate(self) -> Fraction:
+        """Coleman's power to initiate action: the share of the losing coalitions that win with the
+        member."""
+        return Fraction(self.swings, self._losing)
+
+    def _asdict(self) -> dict[str, Any]:
+        """Returns the columns by their names."""
+        return dict(zip(self._fields, self))
+
+    def __reduce__(self) -> tuple[Any, ...]:
+        return type(self), (self._asdict(),), self.__dict__
+
+    def __repr__(self) -> str:
+        return f"Member({', '.join(f'{key}={value!r}' for key, value in self._asdict().items())})"
+
+    if not TYPE_CHECKING:
+
+        def __getattr__(self, name: str) -> Any:
+            if name in self._fields:
+                return self[self._fields.index(name)]
+            explain_missing(name)
+
+
+def explain_missing(name: str) -> NoReturn:
+    """Raises what an attribute raises that the report does not have."""
+    is_of_swings = name in SWINGS.columns() or name.startswith("power_to_")
+    raise AttributeError(f"the report has no {name}" + (": ask for swings=True" if is_of_swings else ""))
 
 
 class Coalition(NamedTuple):
@@ -83,10 +135,15 @@ def read_index(fraction: str, decimals: str) -> Fraction:
     return value
 
 
-def read_member(name: str, weights: str, coalitions: str, dp: str, dp_decimals: str, pg: str, pg_decimals: str) -> Member:
-    """Reads the fields of a line `member`."""
-    one, other = read_index(dp, dp_decimals), read_index(pg, pg_decimals)
-    return Member(name, read_numbers(weights), read_number(coalitions), float(one), float(other), one, other)
+def read_member(name: str, weights: str, *fields: str) -> Member:
+    """Reads the fields of a line `member`, whose number says which columns it has."""
+    columns: dict[str, Any] = {"name": name, "weights": read_numbers(weights)}
+    left = iter(fields)
+    for group in FORMS[len(fields)]:
+        number = read_number(next(left))
+        exact = [read_index(next(left), next(left)) for _ in group.indices]
+        columns.update(zip(group.columns(), [number, *map(float, exact), *exact]))
+    return Member(columns)
 
 
 def read_coalition(size: str, weights: str, *names: str) -> Coalition:
@@ -118,8 +175,8 @@ class Report:
     """A report, from its lines.
 
     `title` is a text, `quotas` and `totals` have a number for each rule, `minimal` is the number of
-    minimal winning coalitions, and `members` are in the order of the game. `coalitions` has the
-    list if it was asked for, and is else None.
+    minimal winning coalitions, `winning` that of all winning coalitions, and `members` are in the
+    order of the game. `coalitions` has the list of the minimal ones. What was not asked for is None.
 
     Lines have different numbers of fields, and a name may hold quotes: so the fields are split at
     TABs and nothing else. What is no report is a Fault. A report can list millions of coalitions:
@@ -142,8 +199,8 @@ class Report:
         try:
             self.title = one.get("title", "")
             self.quotas, self.totals = read_numbers(one["quota"]), read_numbers(one["total"])
-            self.minimal = read_number(one["minimal"])
-            whole = read_number(one["members"]) == len(self.members) and self.listed <= self.minimal
+            self.minimal, self.winning = [read_number(one[it.line]) if it.line in one else None for it in (MINIMAL, SWINGS)]
+            whole = read_number(one["members"]) == len(self.members) and self.listed <= (self.minimal or 0)
         except (KeyError, ValueError):
             whole = False
         if not (whole and self._is_sound()):
@@ -160,11 +217,11 @@ class Report:
                 elif kind == "coalition" and self.listed < MOST:
                     take(read_coalition(*fields))
                     self.listed += 1
-                elif kind in ("title", "members", "quota", "total", "minimal"):
+                elif kind in ("title", "members", "quota", "total", MINIMAL.line, SWINGS.line):
                     (one[kind],) = fields
                 elif kind not in ("notation", "size"):
                     raise ValueError(kind)
-            except (TypeError, ValueError, ZeroDivisionError):
+            except (LookupError, TypeError, ValueError, ZeroDivisionError):
                 raise Fault(f"line {at} is no line of a report of council") from None
         return one
 
@@ -224,6 +281,28 @@ class Report:
             table.append({"name": row.pop("name"), **named, **row})
         return table
 
+    @property
+    def groups(self) -> list[Group]:
+        """The groups of columns that the report has."""
+        return [it for it, number in ((MINIMAL, self.minimal), (SWINGS, self.winning)) if number is not None]
+
+    @property
+    def indices(self) -> list[Index]:
+        """The indices that the report has."""
+        return [index for it in self.groups for index in it.indices]
+
+    @property
+    def power_to_act(self) -> Fraction:
+        """Coleman's power of the body to act: the share of all coalitions that win."""
+        if self.winning is None:
+            explain_missing("power_to_act")
+        return Fraction(self.winning, 2 ** len(self.members))
+
+    def count_coalitions(self) -> list[tuple[str, int]]:
+        """Returns of which coalitions the report has the number, and these numbers."""
+        numbers = [(MINIMAL.what, self.minimal), (SWINGS.what, self.winning)]
+        return [(what, number) for what, number in numbers if number is not None]
+
     def heading(self) -> str:
         """Returns the heading of a table or a picture: the title, if it has a letter."""
         return self.title if self.title.strip() else "A game"
@@ -233,13 +312,27 @@ class Report:
         return Fraction(member.weights[rule], self.totals[rule])
 
     def _is_sound(self) -> bool:
-        """Returns whether the weights of each rule add up to its total, and each index to 1."""
-        rules = len(self.quotas)
-        if any(len(it.weights) != rules for it in self.members):
+        """Returns whether the weights of each rule add up to its total, all members have the columns
+        of the report, and these agree."""
+        rules, fields = len(self.quotas), ("name", "weights", *(name for it in self.groups for name in it.columns()))
+        if not self.groups or any(len(it.weights) != rules or it._fields != fields for it in self.members):
             return False
         sums = tuple(sum(it.weights[rule] for it in self.members) for rule in range(rules))
-        ones = [sum(it.deegan_packel_exact for it in self.members), sum(it.public_good_exact for it in self.members)]
-        return sums == self.totals and min(sums) > 0 and ones == [1, 1]
+        ones = [sum(map(index.find, self.members)) for index in self.indices if index.adds_up]
+        return sums == self.totals and min(sums) > 0 and all(it == 1 for it in ones) and self._has_sound_swings()
+
+    def _has_sound_swings(self) -> bool:
+        """Returns whether the indices are those of the swings, if the report has any."""
+        if self.winning is None:
+            return True
+        half = 1 << len(self.members) - 1
+        every = sum(it.swings for it in self.members)
+        for it in self.members:
+            it._winning, it._losing = self.winning, 2 * half - self.winning
+            if it.banzhaf_exact != Fraction(it.swings, every) or it.penrose_exact != Fraction(it.swings, half) or it.swings > self.winning:
+                return False
+        return 0 < self.winning < 2 * half
 
     def __repr__(self) -> str:
-        return f"<council.Report {self.heading()!r}: {len(self.members)} members, {self.minimal:,} minimal winning coalitions>"
+        numbers = ", ".join(f"{number:,} {what}" for what, number in self.count_coalitions())
+        return f"<council.Report {self.heading()!r}: {len(self.members)} members, {numbers}>"

@@ -3,11 +3,11 @@
     council-tools TOOL [OPTIONS] ..
 
     from-table   makes a game file from a table, as a spreadsheet exports it
-    table        prints a table of both indices
+    table        prints a table of the indices
     export       writes a report as CSV, JSON, LaTeX or Markdown
     page         makes a page of HTML
-    bars         draws both indices beside the shares of the votes
-    sweep        computes both indices for each quota of a range
+    bars         draws the indices beside the shares of the votes
+    sweep        computes the indices for each quota of a range
     compare      shows games side by side
 
 Each reads files or standard input. council-tools TOOL --help says more.

@@ -5,8 +5,9 @@ import argparse
 import io
 import os
 import sys
-from typing import Callable, NoReturn, Optional, Sequence, TextIO, TypeVar, cast
+from typing import Any, Callable, NoReturn, Optional, Sequence, TextIO, TypeVar, cast
 
+from ..columns import INDICES, SWINGS, Index
 from ..engine import NotFound, Refused
 from ..game import GAME_FILE, Unit, check_same, describe_low_quotas, find_comments, read_units
 from ..reports import Coalition, Fault, Report, ignore
@@ -39,6 +40,32 @@ class Words(argparse.ArgumentParser):
 def add_report(reader: argparse.ArgumentParser) -> None:
     """Adds the report that a tool reads."""
     reader.add_argument("report", metavar="REPORT", nargs="?", default="-", help="a report of council; without one, or as -, standard input")
+
+
+# the words of --index for tools that show several at once
+MANY = {"action": "append", "help": "an index to show, and more if it is given again; else all that the report has"}
+
+
+def add_index(reader: argparse.ArgumentParser, **more: Any) -> None:
+    """Adds the index that a tool shows."""
+    reader.add_argument("--index", choices=[it.word() for it in INDICES], type=lambda it: it.replace("_", "-"), **more)
+
+
+def find_index(word: str) -> Index:
+    """Returns the index of a word that `add_index` has read."""
+    return next(it for it in INDICES if it.word() == word)
+
+
+def choose_indices(reports: Sequence[Report], words: Optional[Sequence[str]]) -> list[Index]:
+    """Returns the indices that --index names; without it, those that all reports have."""
+    for it in words or ():
+        if any(find_index(it) not in report.indices for report in reports):
+            how = "with --swings" if find_index(it) in SWINGS.indices else "without --only-swings"
+            raise Fault(f"--index {it}: a report has none, and council makes it {how}", 2)
+    found = list(dict.fromkeys(map(find_index, words))) if words else [it for it in INDICES if all(it in report.indices for report in reports)]
+    if not found:
+        raise Fault("the reports have no index in common: make all of them with --swings")
+    return found
 
 
 def run(main: Callable[[list[str]], None], words: list[str]) -> int:

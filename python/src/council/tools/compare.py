@@ -2,8 +2,10 @@
 
     council-tools compare [OPTIONS] REPORT REPORT..
 
-Each game has its weights and both indices, cut off after six decimals, and each but the first also
-the differences of these to the first. A dash means that a game does not have the member. Members are matched by their exact
+Each game has its weights and its indices, cut off after six decimals, and each but the first also
+the differences of these to the first. The indices are those that all reports have: DP and PG are
+the Deegan-Packel and the public good index, Bz Banzhaf's, Pm Penrose's measure, SS that of Shapley
+and Shubik. A dash means that a game does not have the member. Members are matched by their exact
 names. You are warned of two names that look alike if only one game has each of them: --same makes
 them one. With --game FILE, once for each report, weights are in the unit of their game file.
 """
@@ -15,9 +17,10 @@ import unicodedata
 from fractions import Fraction
 from typing import Dict, Iterable, Iterator, List, Sequence
 
+from ..columns import Index
 from ..game import Unit, quote, quote_for_shell
 from ..reports import Fault, Member, Report, cut_off
-from .command import Words, make_printable, note, read_comments, read_report
+from .command import MANY, Words, add_index, choose_indices, make_printable, note, read_comments, read_report
 
 # the members of each game, by name
 Games = List[Dict[str, Member]]
@@ -88,29 +91,30 @@ def write_weights(weights: Iterable[int], units: Sequence[Unit]) -> str:
     return "/".join(unit.write(it) for it, unit in zip(weights, units))
 
 
-def make_cells(games: Games, units: Sequence[Sequence[Unit]], name: str) -> Iterator[list[str]]:
+def make_cells(games: Games, units: Sequence[Sequence[Unit]], indices: Sequence[Index], name: str) -> Iterator[list[str]]:
     """Yields the cells of a row: a group for each game, and for each difference to the first."""
-    shown = [[cut_off(it.deegan_packel_exact), cut_off(it.public_good_exact)] if it else [] for it in (members.get(name) for members in games)]
+    shown = [[cut_off(index.find(it)) for index in indices] if it else [] for it in (members.get(name) for members in games)]
     for at, members in enumerate(games):
-        yield [write_weights(members[name].weights, units[at]), *shown[at]] if shown[at] else ["-", "-", "-"]
+        yield [write_weights(members[name].weights, units[at]), *shown[at]] if shown[at] else ["-"] * (len(indices) + 1)
         if at and shown[at] and shown[0]:
             yield [write_signed(Fraction(it) - Fraction(first)) for it, first in zip(shown[at], shown[0])]
         elif at:
-            yield ["-", "-"]
+            yield ["-"] * len(indices)
 
 
 def measure(text: str) -> int:
     return sum(0 if unicodedata.combining(it) else 2 if unicodedata.east_asian_width(it) in "WF" else 1 for it in text)
 
 
-def write_table(games: Games, units: Sequence[Sequence[Unit]]) -> Iterator[str]:
+def write_table(games: Games, units: Sequence[Sequence[Unit]], indices: Sequence[Index]) -> Iterator[str]:
     """Yields the lines of the table, with a heading over each group."""
     names = dict.fromkeys(name for members in games for name in members)
     over = ["1"]
     for at in range(2, len(games) + 1):
         over += [str(at), f"{at} - 1"]
-    groups = [["weight", "DP", "PG"] if "-" not in it else ["DP", "PG"] for it in over]
-    rows: Sequence[tuple[str, Sequence[Sequence[str]]]] = [("", groups)] + [(make_printable(name), list(make_cells(games, units, name))) for name in names]
+    briefs = [it.brief for it in indices]
+    groups = [["weight", *briefs] if "-" not in it else briefs for it in over]
+    rows: Sequence[tuple[str, Sequence[Sequence[str]]]] = [("", groups)] + [(make_printable(name), list(make_cells(games, units, indices, name))) for name in names]
     # each group is as wide as its cells, whose columns are as wide as their longest text
     widths = [[max(measure(row[1][at][column]) for row in rows) for column in range(len(group))] for at, group in enumerate(groups)]
     first = max(measure(row[0]) for row in rows)
@@ -131,6 +135,7 @@ def main(args: list[str]) -> None:
     reader.add_argument("reports", metavar="REPORT", nargs="+", help="a report of council; - is standard input")
     reader.add_argument("--same", metavar=("NAME", "OTHER"), nargs=2, action="append", default=[], help="two names that are one member")
     reader.add_argument("--game", metavar="FILE", action="append", help="the game file of a report, once for each in their order")
+    add_index(reader, **{**MANY, "help": "an index to show, and more if it is given again; else all that the reports have"})
     words = reader.parse_words(args)
     if len(words.reports) < 2 or words.reports.count("-") > 1:
         raise Fault("name two reports or more", 2)
@@ -139,12 +144,13 @@ def main(args: list[str]) -> None:
         raise Fault(f"give --game once for each report: there are {len(reports)} reports, and {len(words.game)} game files", 2)
     units = [read_comments(path, it)[1] for path, it in zip(words.game or [None] * len(reports), reports)]
     games = [find_members(it, words.same) for it in reports]
+    indices = choose_indices(reports, words.index)
     for first, other in words.same:
         if not any(it.name in (first, other) for report in reports for it in report.members):
             raise Fault(f"--same {quote_for_shell(first)} {quote_for_shell(other)}: no report has one of them", 2)
     for at, it in enumerate(reports, 1):
-        print(f"{at}  {make_printable(it.heading())}: {write_weights(it.quotas, units[at - 1])} of {write_weights(it.totals, units[at - 1])}, minimal winning coalitions: {it.minimal:,}")
+        print(f"{at}  {make_printable(it.heading())}: {write_weights(it.quotas, units[at - 1])} of {write_weights(it.totals, units[at - 1])}, {', '.join(f'{what}: {number:,}' for what, number in it.count_coalitions())}")
     print()
-    for line in write_table(games, units):
+    for line in write_table(games, units, indices):
         print(line)
     warn(games)

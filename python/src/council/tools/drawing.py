@@ -16,9 +16,8 @@ from ..reports import Report, round_half_up
 REFUSED = re.compile("[^\t\n\r -\ud7ff\ue000-\ufffd\U00010000-\U0010ffff]|[\x7f-\x9f\u061c\u200b-\u200f\u2028-\u202e\u2060-\u2069\ufeff]|[\ufdd0-\ufdef]")
 COLORS = ["#33557f", "#c06a2b", "#3c8a4e", "#a03a5b", "#6b5ca5", "#8a7a1f", "#2a8a9a", "#7a4a2a", "#d0589a", "#5a5a5a"]
 DASHES = ["", "7 3", "2 3", "9 3 2 3"]
-# the share under each rule, and both indices: on white, and on the dark ground of a page
+# the share under each rule: on white, and on the dark ground of a page
 SHARES = [("#858585", "#92979e"), ("#3f8f5b", "#62b37e"), ("#8a66b5", "#b094dc"), ("#9a8219", "#d0b84a")]
-INDICES = [("Deegan-Packel index", "#33557f", "#6f9fe0"), ("public good index", "#c06a2b", "#ee9a57")]
 
 
 def escape_xml(text: str) -> str:

@@ -10,13 +10,15 @@
     markdown  A table, in which no letter of a name has a meaning of its own.
 
 The columns of a table are name, weight, share (of the votes), coalitions, deegan_packel and
-public_good (both indices as decimals), deegan_packel_exact and public_good_exact (the same as
-fractions). With several rules there is a weight and a share for each. For a spreadsheet with a
+public_good (decimals), deegan_packel_exact and public_good_exact (fractions), and of a report with
+swings also swings, banzhaf, penrose, shapley_shubik, and these three with _exact. With several rules
+there is a weight and a share for each. For a spreadsheet with a
 decimal comma, write CSV with --decimal , (in which semicolons separate the columns). With the game
 file, --game FILE, weights of a table are in their unit, and have its name.
 """
 from __future__ import annotations
 
+import argparse
 import itertools
 import json
 import re
@@ -27,19 +29,16 @@ import unicodedata
 from fractions import Fraction
 from typing import Iterable, Iterator, Optional, Sequence
 
+from ..columns import INDICES, MINIMAL, SWINGS, Index
 from ..game import Unit, quote
 from ..reports import Coalition, Fault, Member, Report, cut_off, round_half_up, write_fraction
-from .command import Words, add_report, make_printable, read_comments, read_lines, read_report, warn_of_low_quotas
+from .command import MANY, Words, add_index, add_report, choose_indices, make_printable, read_comments, read_lines, read_report, warn_of_low_quotas
 
 FORMATS = ["csv", "json", "latex", "markdown"]
-HEADINGS = {
-    "name": "Member", "weight": "Weight", "share": "Share", "coalitions": "Coalitions", "deegan_packel": "Deegan-Packel",
-    "public_good": "Public good", "deegan_packel_exact": "Deegan-Packel, exact", "public_good_exact": "Public good, exact",
-}
-IN_CSV = ["name", "weight", "coalitions", "deegan_packel", "public_good", "deegan_packel_exact", "public_good_exact"]
-IN_PRINT = ["name", "weight", "deegan_packel", "public_good"]
-DECIMALS = ["share", "deegan_packel", "public_good"]
-TEXTS = ["name", "deegan_packel_exact", "public_good_exact"]
+COUNTS = {it.column: it.title for it in (MINIMAL, SWINGS)}
+DECIMALS = {"share": "Share", **{it.name: it.title for it in INDICES}}
+EXACT = {f"{it.name}_exact": f"{it.title}, exact" for it in INDICES}
+HEADINGS = {"name": "Member", "weight": "Weight", **COUNTS, **DECIMALS, **EXACT}
 
 
 class Column:
@@ -62,7 +61,7 @@ class Column:
         if self.kind == "weight":
             return self.unit.write(member.weights[self.rule or 0])
         text = self.write(report, member, places)
-        return f"{int(text):,}" if self.kind == "coalitions" else text
+        return f"{int(text):,}" if self.kind in COUNTS else text
 
     def write(self, report: Report, member: Member, places: Optional[int]) -> str:
         """Returns the cell of a member. Without a number of places, decimals are as the report has
@@ -72,11 +71,26 @@ class Column:
             return self.unit.write_plain(member.weights[rule])
         if kind == "share":
             return round_half_up(report.share(member, rule), 6 if places is None else places)
-        if kind in ("deegan_packel", "public_good"):
+        if kind in DECIMALS:
             exact = getattr(member, kind + "_exact")
             return cut_off(exact) if places is None else round_half_up(exact, places)
         it = getattr(member, kind)
-        return str(it) if kind in ("name", "coalitions") else write_fraction(it)
+        return write_fraction(it) if kind in EXACT else str(it)
+
+
+def choose_kinds(report: Report, indices: Sequence[Index], words: argparse.Namespace) -> list[str]:
+    """Returns the columns that --columns names; else the usual ones of these indices."""
+    if words.columns is None:
+        usual = [kind for it in report.groups for kind in it.columns(indices)] if words.format == "csv" else [it.name for it in indices]
+        return ["name", "weight", *usual]
+    kinds: list[str] = words.columns.split(",")
+    has = ["name", "weight", "share", *(kind for it in report.groups for kind in it.columns())]
+    for it in kinds:
+        if it not in HEADINGS:
+            raise Fault(f"{quote(it)} is no column: {', '.join(HEADINGS)}", 2)
+        if it not in has:
+            raise Fault(f"the report has no column {it}, but {', '.join(has)}", 2)
+    return kinds
 
 
 def choose_columns(report: Report, kinds: Iterable[str], units: Sequence[Unit]) -> Iterator[Column]:
@@ -100,7 +114,7 @@ def write_csv(report: Report, columns: Sequence[Column], places: Optional[int], 
                 text = "'" + text
             if it.kind in ("weight", *DECIMALS):
                 text = text.replace(".", decimal)
-            cells.append('"' + text.replace('"', '""') + '"' if it.kind in TEXTS else text)
+            cells.append('"' + text.replace('"', '""') + '"' if it.kind == "name" or it.kind in EXACT else text)
         yield between.join(cells)
 
 
@@ -148,7 +162,7 @@ def write_latex(report: Report, columns: Sequence[Column], places: Optional[int]
         cells = []
         for it in columns:
             text = it.write_for_people(report, member, places)
-            cells.append(escape_latex(text) if it.kind in ("name", "weight") else f"${text}$" if it.kind in TEXTS else text)
+            cells.append(escape_latex(text) if it.kind in ("name", "weight") else f"${text}$" if it.kind in EXACT else text)
         yield " & ".join(cells) + " \\\\"
     yield "\\bottomrule"
     yield "\\end{tabular}" + ("}" if is_wide else "")
@@ -173,33 +187,22 @@ def make_pair(value: Fraction) -> list[object]:
     return [it if it < 2**53 else str(it) for it in (value.numerator, value.denominator)]
 
 
-def describe(report: Report, places: Optional[int]) -> dict[str, object]:
+def describe(report: Report, indices: Sequence[Index], places: Optional[int]) -> dict[str, object]:
     """Returns the whole report, except its coalitions, as one value."""
 
-    def write_index(value: Fraction) -> float:
-        return float(cut_off(value) if places is None else round_half_up(value, places))
+    def find_value(member: Member, kind: str) -> object:
+        exact = getattr(member, kind + "_exact" if kind in DECIMALS else kind)
+        if kind in DECIMALS:
+            return float(cut_off(exact) if places is None else round_half_up(exact, places))
+        return make_pair(exact) if kind in EXACT else exact
 
-    return {
-        "title": report.title or None,
-        "quotas": report.quotas,
-        "totals": report.totals,
-        "minimal": report.minimal,
-        "members": [
-            {
-                "name": it.name,
-                "weights": it.weights,
-                "coalitions": it.coalitions,
-                "deegan_packel": write_index(it.deegan_packel_exact),
-                "public_good": write_index(it.public_good_exact),
-                "deegan_packel_exact": make_pair(it.deegan_packel_exact),
-                "public_good_exact": make_pair(it.public_good_exact),
-            }
-            for it in report.members
-        ],
-    }
+    kinds = ["name", "weights", *(kind for it in report.groups for kind in it.columns(indices))]
+    members = [{kind: find_value(it, kind) for kind in kinds} for it in report.members]
+    numbers = {it.line: getattr(report, it.line) for it in report.groups}
+    return {"title": report.title or None, "quotas": report.quotas, "totals": report.totals, **numbers, "members": members}
 
 
-def write_json(lines: Iterable[str], places: Optional[int]) -> None:
+def write_json(lines: Iterable[str], words: argparse.Namespace) -> None:
     """Writes a report as JSON. Its coalitions, which may be millions and come before the members,
     wait in a temporary file."""
 
@@ -214,7 +217,7 @@ def write_json(lines: Iterable[str], places: Optional[int]) -> None:
 
         report = Report(lines, take)
         warn_of_low_quotas(report.quotas, report.totals)
-        head = text(describe(report, places))
+        head = text(describe(report, choose_indices([report], words.index), words.decimals))
         if report.listed:
             sys.stdout.write(head[: -len("\n}")] + ',\n "coalitions": [')
             coalitions.seek(0)
@@ -227,6 +230,7 @@ def main(args: list[str]) -> None:
     reader = Words("export", __doc__)
     reader.add_argument("format", metavar="FORMAT", nargs="?", help="csv, json, latex or markdown")
     add_report(reader)
+    add_index(reader, **MANY)
     reader.add_argument("--columns", metavar="NAME,..", help="the columns of a table, in this order")
     reader.add_argument("--decimals", metavar="N", type=int, choices=range(1, 31),
                         help="decimals, 1 to 30, rounded from the fractions, a half upwards; else in csv and json six, cut off, and in tables four")
@@ -237,14 +241,11 @@ def main(args: list[str]) -> None:
     if words.format not in FORMATS:
         said = f"{quote(words.format)} is no format" if words.format else "say a format"
         raise Fault(f"{said}: csv, json, latex or markdown", 2)
-    kinds = words.columns.split(",") if words.columns is not None else IN_CSV if words.format == "csv" else IN_PRINT
-    for it in kinds:
-        if it not in HEADINGS:
-            raise Fault(f"{quote(it)} is no column: {', '.join(HEADINGS)}", 2)
     if words.format == "json":
-        read_lines(words.report, lambda lines: write_json(lines, words.decimals))
+        read_lines(words.report, lambda lines: write_json(lines, words))
         return
     report = read_report(words.report)
+    kinds = choose_kinds(report, choose_indices([report], words.index), words)
     columns = list(choose_columns(report, kinds, read_comments(words.game, report)[1]))
     if words.format == "csv":
         lines = write_csv(report, columns, words.decimals, words.decimal)

@@ -3,13 +3,14 @@
     council-tools page [OPTIONS] [REPORT..] >page.html
 
 REPORT is a file; without one, or as -, it is standard input. The page has the title, the quotas, a table that a
-click sorts, bars, the coalitions if the report lists them (--list), what the indices are, and how
+click sorts, bars, the coalitions if the report lists them (--list), what its indices are, and how
 to compute them again. With the game file, --game FILE, it also has the names of the rules,
 weights in the unit of the table, and the comments of the file, such as the source of the data. It
 loads nothing from elsewhere.
 """
 from __future__ import annotations
 
+import argparse
 import base64
 import hashlib
 import re
@@ -17,17 +18,18 @@ import subprocess
 from fractions import Fraction
 from typing import Any, Iterable, Iterator, Optional, Sequence
 
+from ..columns import INDICES, Group, Index
 from ..engine import NotFound, find_program
 from ..game import Unit, write_game
 from ..reports import Coalition, Fault, Report, cut_off, round_half_up
-from .command import Words, read_comments, read_lines, warn_of_low_quotas
-from .drawing import INDICES, SHARES, escape_xml, name_share, write_quota
+from .command import MANY, Words, add_index, choose_indices, read_comments, read_lines, warn_of_low_quotas
+from .drawing import SHARES, escape_xml, name_share, write_quota
 
 MOST = 1000
 # comments that from_table.py writes, a line each; others are a text that may be wrapped
 ITEM = re.compile(r"(From a table(?: of|,)|Rule [1-4]:|Left out:|Not read:|Taken as members:|Added:|Source:) ?.*", re.I)
-LIGHT = "".join(f" --s{rule}: {light};" for rule, (light, _) in enumerate(SHARES)) + f" --dp: {INDICES[0][1]}; --pg: {INDICES[1][1]};"
-DARK = "".join(f" --s{rule}: {dark};" for rule, (_, dark) in enumerate(SHARES)) + f" --dp: {INDICES[0][2]}; --pg: {INDICES[1][2]};"
+LIGHT = "".join([f" --s{rule}: {light};" for rule, (light, _) in enumerate(SHARES)] + [f" --{it.word()}: {it.light};" for it in INDICES])
+DARK = "".join([f" --s{rule}: {dark};" for rule, (_, dark) in enumerate(SHARES)] + [f" --{it.word()}: {it.dark};" for it in INDICES])
 STYLE = """
 :root { color-scheme: light dark; --ground: #fff; --ink: #1c1c1c; --soft: #5f6368; --line: #d8d8d8;LIGHT }
 @media (prefers-color-scheme: dark) { :root { --ground: #16181b; --ink: #e6e6e6; --soft: #a2a7ad; --line: #3a3e44;DARK } }
@@ -49,7 +51,7 @@ th:first-child { z-index: 2; }
 th bdi, td bdi { display: inline-block; max-width: 18rem; overflow-wrap: break-word; }
 th bdi { max-width: 10rem; }
 th button { all: unset; cursor: pointer; font-weight: bold; }
-th button:focus-visible, .wide:focus-visible { outline: 2px solid var(--dp); }
+th button:focus-visible, .wide:focus-visible { outline: 2px solid var(--deegan-packel); }
 th button::after { content: "\\a0\\2195"; color: var(--soft); font-weight: normal; }
 th[aria-sort=ascending] button::after { content: "\\a0\\2191"; }
 th[aria-sort=descending] button::after { content: "\\a0\\2193"; }
@@ -92,21 +94,39 @@ for (const table of document.querySelectorAll("table.members")) {
   });
 }
 """
-SOURCES = [
-    "J. Deegan and E. W. Packel (1978): A New Index of Power for Simple n-Person Games. <i>International Journal of Game Theory</i> 7(2), 113-123.",
-    "M. J. Holler (1982): Forming Coalitions and Measuring Voting Power. <i>Political Studies</i> 30(2), 262-271.",
-    "M. J. Holler and E. W. Packel (1983): Power, Luck and the Right Index. <i>Zeitschrift für Nationalökonomie</i> 43(1), 21-29.",
-]
+# what each index is, and its sources
+ABOUT = {
+    "deegan_packel": ("The <b>Deegan-Packel index</b> of a member is the share that it gets if each minimal winning coalition is as likely as another and "
+                      "divides one unit equally among its members (Deegan and Packel 1978).", [
+        "J. Deegan and E. W. Packel (1978): A New Index of Power for Simple n-Person Games. <i>International Journal of Game Theory</i> 7(2), 113-123."]),
+    "public_good": ("The <b>public good index</b> is the member's share of all memberships in minimal winning coalitions (Holler 1982; Holler and Packel 1983).", [
+        "M. J. Holler (1982): Forming Coalitions and Measuring Voting Power. <i>Political Studies</i> 30(2), 262-271.",
+        "M. J. Holler and E. W. Packel (1983): Power, Luck and the Right Index. <i>Zeitschrift für Nationalökonomie</i> 43(1), 21-29."]),
+    "banzhaf": ("The <b>Banzhaf index</b> is the member's share of the swings of all members (Banzhaf 1965).", [
+        "J. F. Banzhaf (1965): Weighted Voting Doesn't Work: A Mathematical Analysis. <i>Rutgers Law Review</i> 19(2), 317-343."]),
+    "penrose": ("<b>Penrose's measure</b> is the probability of a swing of the member if each other member votes yes or no with equal chances (Penrose 1946). "
+                "It is no share: those of all members do not add up to 1.", [
+        "L. S. Penrose (1946): The Elementary Statistics of Majority Voting. <i>Journal of the Royal Statistical Society</i> 109(1), 53-57."]),
+    "shapley_shubik": ("The <b>Shapley-Shubik index</b> is the probability that the member is the one who makes a coalition win, if members join it one after "
+                       "the other and each order is as likely as another (Shapley and Shubik 1954).", [
+        "L. S. Shapley and M. Shubik (1954): A Method for Evaluating the Distribution of Power in a Committee System. <i>American Political Science Review</i> 48(3), 787-792."]),
+}
+KINDS = {"coalitions": "A minimal winning coalition wins, and loses without any one of its members.",
+         "swings": "A swing of a member is a winning coalition that loses without it."}
 
 
 class Section(Report):
-    """A report, with what the page shows beside it: its first coalitions, the source, and the
-    comments and units of the game file."""
+    """A report, with what the page shows beside it: its first coalitions, the source, the comments
+    and units of the game file, and the indices that are chosen."""
 
     first: list[Coalition]
     source: Optional[str]
     comments: list[str]
     units: list[Unit]
+    chosen: list[Index]
+
+    def shown_groups(self) -> list[Group]:
+        return [it for it in self.groups if it.columns(self.chosen)]
 
 
 def write_name(text: str) -> str:
@@ -124,27 +144,28 @@ def rank(values: Iterable[Any]) -> list[int]:
     return [places[it] for it in values]
 
 
-def make_columns(report: Report, units: Sequence[Unit]) -> Iterator[tuple[str, list[Any], list[str]]]:
+def make_columns(report: Section, units: Sequence[Unit]) -> Iterator[tuple[str, list[Any], list[str]]]:
     """Yields the columns of the table: the heading, the values to sort by, and the cells.
     Fractions, which may be long, come last."""
     members, several = report.members, len(report.quotas) > 1
-    dp, pg = [it.deegan_packel_exact for it in members], [it.public_good_exact for it in members]
+    its = [(it.title, list(map(it.find, members))) for it in report.chosen]
     yield "Member", [it.name.casefold() for it in members], [write_name(it.name) for it in members]
-    yield "Deegan-Packel", dp, [cut_off(it) for it in dp]
-    yield "Public good", pg, [cut_off(it) for it in pg]
+    for title, values in its:
+        yield title, values, list(map(cut_off, values))
     for rule, unit in enumerate(units):
         weights = [it.weights[rule] for it in members]
         of = f", rule&nbsp;{rule + 1}" if several else ""
         yield (write_name(unit.name) if unit.name else f"Weight{of}"), weights, [unit.write(it) for it in weights]
         if not unit.is_share_of(report.totals[rule]):
             yield (f"{write_name(unit.name)}, of all" if unit.name else f"Share{of}"), weights, [round_half_up(report.share(it, rule), 4) for it in members]
-    counts = [it.coalitions for it in members]
-    yield "Coalitions", counts, [f"{it:,}" for it in counts]
-    yield "Deegan-Packel, exactly", dp, [write_fraction(it) for it in dp]
-    yield "Public good, exactly", pg, [write_fraction(it) for it in pg]
+    for group in report.shown_groups():
+        counts = [getattr(it, group.column) for it in members]
+        yield group.title, counts, [f"{it:,}" for it in counts]
+    for title, values in its:
+        yield f"{title}, exactly", values, list(map(write_fraction, values))
 
 
-def write_table(report: Report, units: Sequence[Unit]) -> Iterator[str]:
+def write_table(report: Section, units: Sequence[Unit]) -> Iterator[str]:
     its = list(make_columns(report, units))
     yield '<div class="wide" tabindex="0" role="region" aria-label="Members"><table class="members"><thead><tr>'
     yield "".join(f'<th scope="col"><button type="button">{title}</button></th>' for title, _, _ in its)
@@ -154,10 +175,10 @@ def write_table(report: Report, units: Sequence[Unit]) -> Iterator[str]:
     yield "</tbody></table></div>"
 
 
-def write_bars(report: Report, units: Sequence[Unit]) -> Iterator[str]:
+def write_bars(report: Section, units: Sequence[Unit]) -> Iterator[str]:
     kinds = [(f"s{rule}", name_share(report, units, rule)) for rule in range(len(units))]
-    kinds += [("dp", INDICES[0][0]), ("pg", INDICES[1][0])]
-    rows = [(it.name, [*(report.share(it, rule) for rule in range(len(units))), it.deegan_packel_exact, it.public_good_exact]) for it in report.members]
+    kinds += [(it.word(), it.legend) for it in report.chosen]
+    rows = [(it.name, [*(report.share(it, rule) for rule in range(len(units))), *(index.find(it) for index in report.chosen)]) for it in report.members]
     longest = max(max(values) for _, values in rows)
     yield '<ul class="keys">' + "".join(f'<li><span class="key" style="background: var(--{it})"></span>{escape_xml(what)}</li>' for it, what in kinds) + "</ul>"
     yield '<div class="bars">'
@@ -173,12 +194,13 @@ def write_bars(report: Report, units: Sequence[Unit]) -> Iterator[str]:
 
 def write_quotas(report: Report, units: Sequence[Unit]) -> Iterator[str]:
     """Says when a coalition wins, in the units of the rules and in percent of the total."""
+    numbers = " ".join(f"{what.capitalize()}: {number:,}." for what, number in report.count_coalitions())
     its = []
     for rule, unit in enumerate(units):
         of = f" under rule {rule + 1}" if len(units) > 1 else ""
         of += f" ({write_name(unit.name)})" if unit.name else ""
         its.append(write_quota(report, units, rule) + of)
-    yield f"<p>A coalition wins with a weight of at least {' and '.join(its)}. Members: {len(report.members)}. Minimal winning coalitions: {report.minimal:,}.</p>"
+    yield f"<p>A coalition wins with a weight of at least {' and '.join(its)}. Members: {len(report.members)}. {numbers}</p>"
     if all(2 * quota <= total for quota, total in zip(report.quotas, report.totals)):
         yield "<p><b>At most half of the total wins, so two coalitions without a common member could both win.</b></p>"
 
@@ -224,11 +246,12 @@ def write_section(report: Section, at: int, level: int) -> Iterator[str]:
     yield from write_quotas(report, units)
     yield from write_source(report)
     yield from write_table(report, units)
-    yield "<h2>Both indices beside the shares of the votes</h2>"
+    yield "<h2>The indices beside the shares of the votes</h2>"
     yield from write_bars(report, units)
     yield from write_coalitions(report)
     yield from write_comments(report.comments)
-    yield "<h2>The game</h2><p>This file, put in as <code>council --tally FILE</code>, gives the numbers above again:</p>"
+    option = "--only-swings" if report.minimal is None else "--tally" if report.winning is None else "--tally --swings"
+    yield f"<h2>The game</h2><p>This file, put in as <code>council {option} FILE</code>, gives the numbers above again:</p>"
     text = write_game([it.name for it in report.members], report.quotas, [it.weights for it in report.members], report.title, report.comments)
     yield f"<details><summary>the game file</summary><pre>{escape_xml(text)}</pre></details></section>"
 
@@ -266,24 +289,24 @@ def write_page(reports: Sequence[Section], version: Optional[str]) -> Iterator[s
         yield "".join(f'<li><a href="#game{at}">{escape_xml(it)}</a></li>' for at, it in enumerate(titles, 1)) + "</ul>"
     for at, it in enumerate(reports, 1):
         yield from write_section(it, at, 1 if len(reports) == 1 else 2)
-    yield "<footer><h2>What the indices are</h2>"
-    yield ("<p>A minimal winning coalition wins, and loses without any one of its members. The <b>Deegan-Packel index</b> of a member is the share that it "
-           "gets where each minimal winning coalition is as likely as another and divides one unit equally among its members (Deegan and Packel 1978). "
-           "The <b>public good index</b> is the member's share of all memberships in minimal winning coalitions (Holler 1982; Holler and Packel 1983).</p>")
-    yield "<h2>How they were computed</h2>"
+    shown = [it for it in INDICES if any(it in report.chosen for report in reports)]
+    kinds = dict.fromkeys(group.column for report in reports for group in report.shown_groups())
+    yield f"<footer><h2>What the indices are</h2><p>{' '.join([*(KINDS[it] for it in kinds), *(ABOUT[it.name][0] for it in shown)])}</p>"
     at_hand = f"The program at hand when this page was made: {escape_xml(version)}." if version else "Which version of it made the report this page cannot tell."
-    yield (f"<p>By the program <code>council</code>, which finds the minimal winning coalitions and gives both indices as exact fractions. {at_hand} "
-           "Both indices are cut off after six decimals, as in the report, so a column may add up to less than 1; shares, and the numbers at bars, are rounded to four.</p><h2>Sources</h2><ul>")
-    yield "".join(f"<li>{it}</li>" for it in SOURCES)
+    yield (f"<h2>How they were computed</h2><p>By the program <code>council</code>, which counts the coalitions and gives the indices as exact fractions. {at_hand} "
+           "In the table they are cut off after six decimals, as in the report, so a column of shares may add up to less than 1; shares of the votes, and the numbers "
+           "at bars, are rounded to four.</p><h2>Sources</h2><ul>")
+    yield "".join(f"<li>{source}</li>" for it in shown for source in ABOUT[it.name][1])
     yield f"</ul></footer></main><script>{SCRIPT}</script></body></html>"
 
 
-def read(path: str, game: Optional[str], source: Optional[str]) -> Section:
+def read(path: str, game: Optional[str], words: argparse.Namespace) -> Section:
     """Reads the report in a file, with as many of its coalitions as the page shows, and the
     comments of its game file."""
     first: list[Coalition] = []
     report = read_lines(path, lambda lines: Section(lines, lambda it: first.append(it) if len(first) < MOST else None))
-    report.first, report.source = first, source
+    report.first, report.source = first, words.source
+    report.chosen = choose_indices([report], words.index)
     report.comments, report.units = read_comments(game, report)
     return report
 
@@ -292,6 +315,7 @@ def main(args: list[str]) -> None:
     reader = Words("page", __doc__)
     reader.add_argument("reports", metavar="REPORT", nargs="*", help="a report of council; without one, or as -, standard input")
     reader.add_argument("--game", metavar="FILE", action="append", help="the game file of a report, once for each in their order")
+    add_index(reader, **MANY)
     reader.add_argument("--source", metavar="TEXT", help="where the data come from")
     reader.add_argument("--program", help="the program whose version the page names; else the one of this clone or archive, or the one on the PATH")
     words = reader.parse_words(args)
@@ -299,7 +323,7 @@ def main(args: list[str]) -> None:
     if words.game and len(words.game) != len(words.reports):
         raise Fault(f"give --game once for each report: there are {len(words.reports)} reports, and {len(words.game)} game files", 2)
     games = words.game or [None] * len(words.reports)
-    reports = [read(path, game, words.source) for path, game in zip(words.reports, games)]
+    reports = [read(path, game, words) for path, game in zip(words.reports, games)]
     for line in write_page(reports, find_version(words.program)):
         print(line)
     for it in reports:

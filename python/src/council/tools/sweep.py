@@ -1,11 +1,11 @@
-"""Computes both indices of a game for each quota of a range, in one long table:
+"""Computes the indices of a game for each quota of a range, in one long table:
 
     council-tools sweep [OPTIONS] [GAME] >TABLE
 
 GAME is a game file; without one, or as -, it is standard input. The table has a line for each
 quota and member, with the columns quota, name, deegan_packel and public_good (decimals, cut off
-after six), deegan_packel_exact and public_good_exact (fractions), separated by TABs. Without --from
-and --to it goes from 1 to the total of the rule. A QUOTA is in the unit of the game file, as 50.5, or
+after six), deegan_packel_exact and public_good_exact (fractions), separated by TABs. If --index
+names one that rests on swings, it has the columns of these indices instead. Without --from and --to it goes from 1 to the total of the rule. A QUOTA is in the unit of the game file, as 50.5, or
 a share of the total, as 50% or 2/3; so is --step. Lines are written as they are computed. --picture
 draws a line for each member; members whose lines are the same share one.
 """
@@ -19,21 +19,21 @@ import time
 from fractions import Fraction
 from typing import Any, Callable, Iterable, Iterator, Optional, Sequence
 
+from ..columns import MINIMAL, SWINGS, Group, Index
 from ..engine import Refused, compute, find_program
 from ..game import GAME_FILE, Unit, find_comments, find_slips, quote, read_units, write_game
-from ..reports import Fault, Member, Report, cut_off, ignore, round_half_up, write_fraction
+from ..reports import Fault, Report, cut_off, ignore, round_half_up, write_fraction
 from .cells import count_decimals
-from .command import Words, make_printable, note
+from .command import Words, add_index, find_index, make_printable, note
 from .drawing import COLORS, DASHES, find_round_step, find_ticks, measure, wrap, write_picture, write_text
 from .quotas import Quota
 
 MOST = 20000
 LEFT, WIDE, SMALL = 60, 560, 10
-KINDS: dict[str, tuple[str, Callable[[Member], Fraction]]] = {"deegan_packel": ("Deegan-Packel index", lambda it: it.deegan_packel_exact), "public_good": ("public good index", lambda it: it.public_good_exact)}
 
 
-def sweep(program: Optional[str], start: Report, rule: int, quotas: range) -> Iterator[tuple[int, Report]]:
-    """Yields each of these quotas of a rule, with the report of the game. It tries the last quota
+def sweep(program: Optional[str], start: Report, rule: int, quotas: range, only: Optional[bool]) -> Iterator[tuple[int, Report]]:
+    """Yields each of these quotas of a rule, with the report of the game, or of its swings. It tries the last quota
     before the others, so you hear at once of one that is out of range."""
     names = [it.name for it in start.members]
     weights = [it.weights for it in start.members]
@@ -41,7 +41,7 @@ def sweep(program: Optional[str], start: Report, rule: int, quotas: range) -> It
     def find_report(quota: int) -> Report:
         its = [*start.quotas[:rule], quota, *start.quotas[rule + 1 :]]
         try:
-            return Report.from_text(compute(write_game(names, its, weights).encode("utf-8"), program=program))
+            return Report.from_text(compute(write_game(names, its, weights).encode("utf-8"), program=program, only=only))
         except Refused as it:
             raise Fault(f"quota {quota}: council: {it.fault}", it.status) from None
 
@@ -73,17 +73,17 @@ class Progress:
             print("\r\x1b[K", end="", file=sys.stderr, flush=True)
 
 
-def write_rows(reports: Iterable[tuple[int, Report]], unit: Unit, progress: Progress, take: Callable[[Any], None]) -> None:
+def write_rows(reports: Iterable[tuple[int, Report]], group: Group, unit: Unit, progress: Progress, take: Callable[[Any], None]) -> None:
     """Writes the table row by row, as the reports come, with quotas in their unit. `take` gets each
     report."""
-    print("quota", "name", "deegan_packel", "public_good", "deegan_packel_exact", "public_good_exact", sep="\t")
+    print("quota", "name", *group.columns()[1:], sep="\t")
     # a file gets each name unchanged, and a terminal none that moves it
     is_terminal = sys.stdout.isatty()
     try:
         for quota, report in reports:
             for it in report.members:
-                dp, pg = it.deegan_packel_exact, it.public_good_exact
-                print(unit.write_plain(quota), make_printable(it.name) if is_terminal else it.name, cut_off(dp), cut_off(pg), write_fraction(dp), write_fraction(pg), sep="\t")
+                its = [index.find(it) for index in group.indices]
+                print(unit.write_plain(quota), make_printable(it.name) if is_terminal else it.name, *map(cut_off, its), *map(write_fraction, its), sep="\t")
             sys.stdout.flush()
             take((quota, report))
             progress.step()
@@ -160,20 +160,19 @@ class Axes:
             yield write_text(x, self.up + self.high + 17, self.unit.write(it), SMALL, "middle", ' class="quota"')
 
 
-def draw(start: Report, rule: int, reports: Sequence[tuple[int, Report]], kind: str, unit: Unit) -> Iterator[str]:
+def draw(start: Report, rule: int, reports: Sequence[tuple[int, Report]], index: Index, unit: Unit) -> Iterator[str]:
     """Draws the picture: a line for each index over the quotas, with the names of its members at
     its end."""
-    title, value = KINDS[kind]
     lines: dict[tuple[Fraction, ...], list[str]] = {}
     for at, it in enumerate(start.members):
-        lines.setdefault(tuple(value(report.members[at]) for _, report in reports), []).append(it.name)
+        lines.setdefault(tuple(index.find(report.members[at]) for _, report in reports), []).append(it.name)
     labels = [wrap(names, 260, 12, ", ") for names in lines.values()]
     heights = [15 * len(it) + 3 for it in labels]
     axes = Axes(reports[0][0], reports[-1][0], max(max(values) for values in lines), unit, max(360, sum(heights)))
     head = wrap(start.heading().split(), LEFT + WIDE + 200, 14)
     of = f" of rule {rule + 1}" if len(start.quotas) > 1 else ""
     of += f", {quote(unit.name)}" if unit.name else ""
-    what = f"{title}, by the quota{of} (total {unit.write(start.totals[rule])})"
+    what = f"{index.legend}, by the quota{of} (total {unit.write(start.totals[rule])})"
     parts = [write_text(8, 22 + 18 * at, it, 14, more=' font-weight="bold"') for at, it in enumerate(head)]
     parts.append(write_text(8, 24 + 18 * len(head), what))
     axes.up = 46 + 18 * len(head)
@@ -204,7 +203,7 @@ def main(args: list[str]) -> None:
     reader.add_argument("--to", metavar="QUOTA", dest="last", help="the last quota; else the total")
     reader.add_argument("--step", metavar="QUOTA", help="from one quota to the next; else the least step")
     reader.add_argument("--picture", metavar="FILE", help="also draw the sweep, as an SVG file")
-    reader.add_argument("--index", choices=sorted(KINDS), default="public_good", help="the index that is drawn; else the public good index")
+    add_index(reader, default="public-good", help="the index that is drawn; else the public good index")
     reader.add_argument("--program", help="the program council; else the one of this clone or archive, or the one on the PATH")
     words = reader.parse_words(args)
     if words.game == "-":
@@ -213,7 +212,9 @@ def main(args: list[str]) -> None:
         with open(words.game, "rb") as it:
             game = it.read(GAME_FILE + 1)
     program = find_program(words.program) if words.program else None
-    start = Report.from_text(compute(game, program=program))
+    index = find_index(words.index)
+    group, only = (SWINGS, True) if index in SWINGS.indices else (MINIMAL, None)
+    start = Report.from_text(compute(game, program=program, only=only))
     for remark in find_slips(game.decode()):
         note(remark)
     if not 1 <= words.rule <= len(start.quotas):
@@ -221,15 +222,15 @@ def main(args: list[str]) -> None:
     rule = words.rule - 1
     unit = read_units(find_comments(game.decode("utf-8-sig")), len(start.quotas))[rule]
     quotas = find_quotas(words, start.totals[rule], unit)
-    reports = sweep(program, start, rule, quotas)
+    reports = sweep(program, start, rule, quotas, only)
     # the first report shows that no quota is out of range
     first = next(reports)
     warn_of_half(start, rule, quotas, unit)
     rows, progress = itertools.chain([first], reports), Progress(len(quotas))
     if not words.picture:
-        write_rows(rows, unit, progress, ignore)
+        write_rows(rows, group, unit, progress, ignore)
         return
     with open(words.picture, "w", encoding="utf-8", newline="\n") as it:
         kept: list[tuple[int, Report]] = []
-        write_rows(rows, unit, progress, kept.append)
-        it.writelines(line + "\n" for line in draw(start, rule, kept, words.index, unit))
+        write_rows(rows, group, unit, progress, kept.append)
+        it.writelines(line + "\n" for line in draw(start, rule, kept, index, unit))

@@ -1,22 +1,25 @@
-"""Prints a table of both indices, as fractions, from a report of council:
+"""Prints a table of the indices, as fractions, from a report of council:
 
-    council-tools table [REPORT]
+    council-tools table [OPTIONS] [REPORT]
 """
 from __future__ import annotations
 
 from ..reports import write_fraction
-from .command import Words, add_report, make_printable, read_report
+from .command import MANY, Words, add_index, add_report, choose_indices, make_printable, read_report
 
 
 def main(args: list[str]) -> None:
     reader = Words("table", __doc__)
     add_report(reader)
-    report = read_report(reader.parse_words(args).report)
-    heading = ["", "weight", "Deegan-Packel", "public good"]
+    add_index(reader, **MANY)
+    words = reader.parse_words(args)
+    report = read_report(words.report)
+    indices = choose_indices([report], words.index)
+    heading = ["", "Weight", *(it.title for it in indices)]
     rows = []
     for it in report.members:
         weights = "/".join(map(str, it.weights))
-        rows.append([make_printable(it.name), weights, write_fraction(it.deegan_packel_exact), write_fraction(it.public_good_exact)])
+        rows.append([make_printable(it.name), weights, *(write_fraction(index.find(it)) for index in indices)])
     # Each column is as wide as its longest text: fractions may be long.
     widths = [max(map(len, column)) for column in zip(heading, *rows)]
     for row in [heading, *rows]:

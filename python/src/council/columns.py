@@ -1,0 +1,61 @@
+"""The columns that a report has for each member. The reader of reports and all tools share them."""
+from __future__ import annotations
+
+from fractions import Fraction
+from typing import TYPE_CHECKING, NamedTuple, Optional, Sequence
+
+if TYPE_CHECKING:
+    from .reports import Member
+
+
+class Index(NamedTuple):
+    """An index: its name in files, in headings, in a legend and in brief, and its colors on white
+    and on dark ground."""
+
+    name: str
+    title: str
+    legend: str
+    brief: str
+    light: str
+    dark: str
+    # whether those of all members add up to 1; Penrose's measure is no share of anything
+    adds_up: bool = True
+
+    def find(self, member: Member) -> Fraction:
+        """Returns the exact index of a member."""
+        value: Fraction = getattr(member, self.name + "_exact")
+        return value
+
+    def word(self) -> str:
+        """Returns its name on a command line."""
+        return self.name.replace("_", "-")
+
+
+class Group(NamedTuple):
+    """Indices that rest on the same coalitions: the line that has the number of these, what they
+    are, the column that has the number of a member's, the heading of that, and the indices."""
+
+    line: str
+    what: str
+    column: str
+    title: str
+    indices: tuple[Index, ...]
+
+    def columns(self, indices: Optional[Sequence[Index]] = None) -> list[str]:
+        """Returns the names of the columns, or of those for these indices, with exact values last."""
+        names = [it.name for it in self.indices if indices is None or it in indices]
+        return [self.column, *names, *(f"{it}_exact" for it in names)] if names else []
+
+
+MINIMAL = Group("minimal", "minimal winning coalitions", "coalitions", "Coalitions", (
+    Index("deegan_packel", "Deegan-Packel", "Deegan-Packel index", "DP", "#33557f", "#6f9fe0"),
+    Index("public_good", "Public good", "public good index", "PG", "#c06a2b", "#ee9a57"),
+))
+SWINGS = Group("winning", "winning coalitions", "swings", "Swings", (
+    Index("banzhaf", "Banzhaf", "Banzhaf index", "Bz", "#a8264d", "#f0577f"),
+    Index("penrose", "Penrose", "Penrose's measure (does not add up to 1)", "Pm", "#3b3bc0", "#7a7aff", adds_up=False),
+    Index("shapley_shubik", "Shapley-Shubik", "Shapley-Shubik index", "SS", "#1a7f94", "#45c4d8"),
+))
+INDICES = [*MINIMAL.indices, *SWINGS.indices]
+# the groups of a line `member`, by how many fields it has after the name and the weights
+FORMS = {sum(1 + 2 * len(it.indices) for it in its): its for its in ([MINIMAL], [SWINGS], [MINIMAL, SWINGS])}
