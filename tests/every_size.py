@@ -5,7 +5,7 @@
 
 runs PROGRAM on games of 1 to 40 members and 1 to 4 rules that have few minimal winning coalitions, and
 goes through 1 to 16 workers, 0 to 10 bits and all choices of the options that show lines meanwhile. It
-compares each report, with and without --tally, with that of tests/oracle.py. So a body that goes wrong
+compares each report, with and without --tally, and that of the swings, with that of tests/oracle.py. So a body that goes wrong
 at one number or one choice only is noticed. Prints `ok NAME` or `FAILED NAME: why`.
 """
 import itertools
@@ -37,8 +37,9 @@ def main(words):
     if len(words) != 1:
         sys.exit("usage: every_size.py PROGRAM")
     program = os.path.abspath(words[0])
-    runs = itertools.cycle(flags_of("--list", "--sizes", "--notation", "--explain"))
-    tallies = itertools.cycle(["--tally", *flags] for flags in flags_of("--sizes", "--notation", "--explain"))
+    runs = itertools.cycle(flags_of("--list", "--sizes", "--notation", "--explain", "--swings"))
+    tallies = itertools.cycle(["--tally", *flags] for flags in flags_of("--sizes", "--notation", "--explain", "--swings"))
+    swings = itertools.cycle(["--only-swings", *flags] for flags in flags_of("--notation", "--explain"))
     numbers = itertools.cycle((workers, bits) for workers in range(1, 17) for bits in range(11))
     done, failed = 0, []
     with tempfile.TemporaryDirectory() as room:
@@ -47,7 +48,7 @@ def main(words):
                 game = game_of(members, rules)
                 with open(f"{room}/game", "wb") as file:
                     file.write(random_games.file_of(game))
-                for flags in next(runs), next(tallies):
+                for flags in next(runs), next(tallies), next(swings):
                     workers, bits = next(numbers)
                     options = [*flags, "--workers", str(workers), "--bits", str(bits)]
                     found = random_games.printed(program, f"{room}/game", options)

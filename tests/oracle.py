@@ -27,6 +27,8 @@ from array import array
 from fractions import Fraction
 from math import factorial
 
+# the options that `report` takes, in the order of its words
+FLAGS = ("--list", "--sizes", "--notation", "--polynomials", "--swings", "--only-swings")
 
 class Game:
     def __init__(self, title, names, rules):
@@ -260,11 +262,10 @@ def report(game, with_list=False, with_sizes=False, with_notation=False, by_poly
 
 
 def main(words):
-    flags = ("--list", "--sizes", "--notation", "--polynomials", "--swings", "--only-swings")
-    files = [word for word in words if word not in flags]
+    files = [word for word in words if word not in FLAGS]
     if len(files) != 1 or {"--list", "--polynomials"} <= set(words):
         sys.exit("usage: oracle.py FILE [--list] [--sizes] [--notation] [--polynomials] [--swings | --only-swings]")
-    lines = report(read(files[0]), *(flag in words for flag in flags))
+    lines = report(read(files[0]), *(flag in words for flag in FLAGS))
     sys.stdout.buffer.write("".join(f"{line}\n" for line in lines).encode())
 
 

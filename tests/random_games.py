@@ -5,7 +5,8 @@
 
 makes COUNT games of up to 12 members and COUNT of up to 20, with 1 to 4 rules, from SEED, and as many statutes: of chambers,
 heads and members that can veto, as sums count them, wholly or in part. Of the first it
-tries every subset, and compares the walk of tests/oracle.py with that; of all it compares what
+tries every subset, and compares the walk and the swings of tests/oracle.py with that, and what PROGRAM
+prints with --swings and --only-swings with its report; of all it compares what
 PROGRAM prints, with any options, workers and bits, with the report of tests/oracle.py, and likewise what it
 prints with --tally. Of COUNT more games of up to 24 members, and of 300 games with few kinds of
 members, it compares what is printed with --tally and without. Of COUNT / 2 games it compares the
@@ -24,8 +25,9 @@ import tempfile
 sys.path.insert(0, os.path.dirname(os.path.abspath(__file__)))
 import oracle  # noqa: E402
 
-# the coalitions of a game are worked out once
+# the coalitions and the swings of a game are worked out once
 oracle.minimal_coalitions = functools.lru_cache(maxsize=1)(oracle.minimal_coalitions)
+oracle.swings_of = functools.lru_cache(maxsize=1)(oracle.swings_of)
 
 NAMES = ["A", "B'", 'the "C"', "Åland", "日本", "d/e", "a name of several words", "x=1", "#", "[q]"]
 
@@ -146,7 +148,8 @@ def file_of(game):
 
 
 def by_every_subset(game):
-    """The minimal winning coalitions as sorted lists of ranks, told from all subsets."""
+    """The minimal winning coalitions as sorted lists of ranks, how many coalitions win, and each member's swings by
+    size, told from all subsets."""
     members = len(game.names)
     weights = [[of[i] for i in game.ranked] for _, of in game.rules]
 
@@ -155,12 +158,15 @@ def by_every_subset(game):
                    for (quota, _), of in zip(game.rules, weights))
 
     winning = [wins(mask) for mask in range(2 ** members)]
-    found = []
+    found, swings = [], [[0] * (members + 1) for _ in range(members)]
     for mask in reversed(range(2 ** members)):
         inside = [p for p in range(members) if mask >> (members - 1 - p) & 1]
-        if winning[mask] and not any(winning[mask - (1 << (members - 1 - p))] for p in inside):
+        critical = [p for p in inside if winning[mask] and not winning[mask - (1 << (members - 1 - p))]]
+        for p in critical:
+            swings[game.ranked[p]][len(inside)] += 1
+        if winning[mask] and critical == inside:
             found.append(tuple(inside))
-    return found
+    return found, (sum(winning), swings)
 
 
 def printed(program, file, words):
@@ -172,7 +178,7 @@ def printed(program, file, words):
 
 def report(game, flags):
     """What oracle.py prints of a game under these options."""
-    return "".join(f"{line}\n" for line in oracle.report(game, *(flag in flags for flag in ("--list", "--sizes", "--notation")))).encode()
+    return "".join(f"{line}\n" for line in oracle.report(game, *(flag in flags for flag in oracle.FLAGS))).encode()
 
 
 def threads(rng):
@@ -183,7 +189,7 @@ def main(words):
     if len(words) != 3:
         sys.exit("usage: random_games.py PROGRAM COUNT SEED")
     program, count, rng = os.path.abspath(words[0]), int(words[1]), random.Random(int(words[2]))
-    faults = {"the walk of oracle.py, by every subset": [], "reports": [], "reports of more than 64 KiB": [], "--tally": [], "--tally of statutes": [], "--tally of weights with little in common, and a run": [],
+    faults = {"oracle.py, by every subset": [], "reports": [], "--only-swings": [], "reports of more than 64 KiB": [], "--tally": [], "--tally of statutes": [], "--tally of weights with little in common, and a run": [],
               "--tally of members of few kinds, and a run": [], "every order of the rules": []}
     done = dict.fromkeys(faults, 0)
 
@@ -202,8 +208,10 @@ def main(words):
                 it.write(file_of(game))
             found = oracle.minimal_coalitions(game)
             if number < 2 * count:
-                compare("the walk of oracle.py, by every subset", name, found, by_every_subset(game))
-            flags = [flag for flag in ("--list", "--sizes", "--notation") if rng.randrange(2)]
+                compare("oracle.py, by every subset", name, (found, oracle.swings_of(game)), by_every_subset(game))
+                flags = ["--only-swings", "--notation"][: rng.randint(1, 2)]
+                compare("--only-swings", name, printed(program, file, flags + threads(rng)), report(game, flags))
+            flags = [flag for flag in ("--list", "--sizes", "--notation", "--swings") if rng.randrange(2) and (flag != "--swings" or number < 2 * count)]
             wanted = report(game, flags)
             if not is_statute:
                 compare("reports", name, printed(program, file, flags + threads(rng)), wanted)
