@@ -20,28 +20,33 @@ _council_tools() {
     from-table:--decimal) words=". ," ;;
     from-table:--round) words="0 1 2 3 4 5 6 7 8 9 10 11 12" ;;
     from-table:--encoding) return ;;
+    table:--index) words="deegan-packel public-good banzhaf penrose shapley-shubik" ;;
+    export:--index) words="deegan-packel public-good banzhaf penrose shapley-shubik" ;;
     export:--columns) return ;;
     export:--decimals) words="1 2 3 4 5 6 7 8 9 10 11 12 13 14 15 16 17 18 19 20 21 22 23 24 25 26 27 28 29 30" ;;
     export:--decimal) words=". ," ;;
     export:export) words="csv json latex markdown" ;;
+    page:--index) words="deegan-packel public-good banzhaf penrose shapley-shubik" ;;
     page:--source) return ;;
+    bars:--index) words="deegan-packel public-good banzhaf penrose shapley-shubik" ;;
     bars:--decimals) words="1 2 3 4 5 6 7 8 9 10 11 12" ;;
     sweep:--rule) return ;;
     sweep:--from) return ;;
     sweep:--to) return ;;
     sweep:--step) return ;;
-    sweep:--index) words="deegan_packel public_good" ;;
+    sweep:--index) words="deegan-packel public-good banzhaf penrose shapley-shubik" ;;
     compare:--same) return ;;
+    compare:--index) words="deegan-packel public-good banzhaf penrose shapley-shubik" ;;
     esac
     if [[ -z $words && $word == -* ]]; then
         case ${COMP_WORDS[1]} in
         from-table) words="--help --title --source --name --weight --heading --no-heading --rows --drop --only --all-rows --sum --of --decimal --round --encoding --quiet" ;;
-        table) words="--help" ;;
-        export) words="--help --columns --decimals --decimal --game --mark" ;;
-        page) words="--help --game --source --program" ;;
-        bars) words="--help --decimals --game" ;;
+        table) words="--help --index" ;;
+        export) words="--help --index --columns --decimals --decimal --game --mark" ;;
+        page) words="--help --game --index --source --program" ;;
+        bars) words="--help --index --decimals --game" ;;
         sweep) words="--help --rule --from --to --step --picture --index --program" ;;
-        compare) words="--help --same --game" ;;
+        compare) words="--help --same --game --index" ;;
         esac
     fi
     if [[ -n $words ]]; then

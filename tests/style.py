@@ -27,7 +27,7 @@ LIMITS = {
     "README.md": 900,
     "CONTRIBUTING.md": 1200,
     "CHANGELOG.md": 1200,
-    "docs/GUIDE.md": 3000,
+    "docs/GUIDE.md": 3200,
     "docs/FORMATS.md": 1400,
     "docs/DEFINITIONS.md": 1800,
     "docs/TOUR.md": 1200,

@@ -7,13 +7,16 @@ MOST <- 4000000
 GAME_FILE <- 65536L
 
 council <- function(quota, weights, names = NULL, title = "", file = NULL, game = NULL,
-                    coalitions = FALSE, program = NULL, by = NULL) {
+                    coalitions = FALSE, program = NULL, by = NULL, swings = FALSE, only_swings = FALSE) {
   given <- c(!missing(quota) || !missing(weights), !is.null(file), !is.null(game))
   if (sum(given) != 1) {
     stop("give a quota and weights, or a file, or a game")
   }
   if (!given[1] && (!is.null(names) || !identical(title, "") || !is.null(by))) {
     stop("names, a title and by = belong to a quota and weights")
+  }
+  if (only_swings && (swings || coalitions)) {
+    stop("only_swings = TRUE goes without swings = TRUE and coalitions = TRUE")
   }
   bytes <- if (given[1]) {
     if (missing(quota) || missing(weights)) stop("give a quota and weights")
@@ -23,7 +26,10 @@ council <- function(quota, weights, names = NULL, title = "", file = NULL, game 
   } else {
     charToRaw(paste(enc2utf8(as.character(game)), collapse = "\n"))
   }
-  done <- run_program(find_program(program), bytes, coalitions)
+  words <- if (only_swings) "--only-swings" else {
+    c(if (coalitions) c("--list", "--most", format(MOST, scientific = FALSE)) else "--tally", if (swings) "--swings")
+  }
+  done <- run_program(find_program(program), bytes, words)
   if (done$status != 0) {
     stop(refuse(done$status, done$err, bytes, sys.call(), given[1]))
   }
@@ -76,12 +82,11 @@ find_program <- function(program = NULL) {
 
 # Runs the program on the bytes of a game file: its status, and the lines of its output and of its
 # standard error.
-run_program <- function(program, bytes, coalitions) {
+run_program <- function(program, bytes, words) {
   files <- tempfile(c("game", "out", "err"))
   on.exit(unlink(files))
   writeBin(bytes, files[1])
-  words <- c("--explain", if (coalitions) c("--list", "--most", format(MOST, scientific = FALSE)) else "--tally")
-  status <- system2(program, c(words, shQuote(files[1])), stdout = files[2], stderr = files[3])
+  status <- system2(program, c("--explain", words, shQuote(files[1])), stdout = files[2], stderr = files[3])
   read <- function(path) readLines(path, encoding = "UTF-8", warn = FALSE)
   list(status = status, out = read(files[2]), err = read(files[3]))
 }
@@ -200,6 +205,12 @@ quote_text <- function(text) {
   c(mark, unlist(QUOTED[as.integer(charToRaw(enc2utf8(text))) + 1L]), mark)
 }
 
+# The columns of a line "member" after the name and the weights, in groups that begin with a number, by
+# how many fields the line has.
+MINIMAL <- c("coalitions", "deegan_packel", "public_good")
+SWINGS <- c("swings", "banzhaf", "penrose", "shapley_shubik")
+FORMS <- list("8" = list(MINIMAL), "10" = list(SWINGS), "15" = list(MINIMAL, SWINGS))
+
 # Makes the data frame of the lines of a report. Fields are separated by TABs, and quotes in names
 # mean nothing.
 read_report <- function(lines, coalitions) {
@@ -216,15 +227,19 @@ read_report <- function(lines, coalitions) {
   for (rule in seq_len(rules)) {
     table[[if (rules > 1) paste0("weight_", rule) else "weight"]] <- vapply(weights, `[`, 0, rule)
   }
-  table$coalitions <- as.numeric(column(4L))
-  table$deegan_packel <- divide(column(5L))
-  table$public_good <- divide(column(7L))
-  table$deegan_packel_exact <- column(5L)
-  table$public_good_exact <- column(7L)
+  at <- 4L
+  for (group in FORMS[[as.character(length(members[[1]]))]]) {
+    table[[group[1]]] <- as.numeric(column(at))
+    its <- group[-1]
+    exact <- lapply(at - 1L + 2L * seq_along(its), column)
+    table[its] <- lapply(exact, divide)
+    table[paste0(its, "_exact")] <- exact
+    at <- at + 1L + 2L * length(its)
+  }
   attr(table, "title") <- field("title")
   attr(table, "quota") <- read_numbers(field("quota"))
   attr(table, "total") <- read_numbers(field("total"))
-  attr(table, "minimal") <- as.numeric(field("minimal"))
+  for (kind in intersect(c("minimal", "winning"), kinds)) attr(table, kind) <- as.numeric(field(kind))
   if (coalitions) {
     attr(table, "coalitions") <- lapply(find("coalition"), `[`, -(1:3))
   }

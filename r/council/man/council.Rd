@@ -3,11 +3,12 @@
 \title{Power indices of a weighted voting game}
 \description{
 Computes the Deegan-Packel index and the public good index of each member of a weighted voting game,
-by the program \command{council}, whose functions are proved to meet their contracts.
+and if you ask for swings the Banzhaf index, Penrose's measure and the Shapley-Shubik index, by the
+program \command{council}, whose functions are proved to meet their contracts.
 }
 \usage{
 council(quota, weights, names = NULL, title = "", file = NULL, game = NULL,
-        coalitions = FALSE, program = NULL, by = NULL)
+        coalitions = FALSE, program = NULL, by = NULL, swings = FALSE, only_swings = FALSE)
 }
 \arguments{
 \item{quota}{the quota: a coalition wins if its weight is at least that. For several rules, up to four, a
@@ -25,6 +26,8 @@ council(quota, weights, names = NULL, title = "", file = NULL, game = NULL,
   variable \env{COUNCIL_PROGRAM} names, or the one on the PATH.}
 \item{by}{of a square table of weights without names: \code{"rule"} if each column is a rule,
   \code{"member"} if each is a member.}
+\item{swings}{whether to count the swings too, and compute the indices that rest on them.}
+\item{only_swings}{whether to compute only these; not with \code{coalitions} or \code{swings}.}
 }
 \value{
 A data frame with a row for each member, in the order of the game:
@@ -34,8 +37,15 @@ A data frame with a row for each member, in the order of the game:
 \item{deegan_packel, public_good}{both indices, as numbers: the exact ones up to two units in the last place}
 \item{deegan_packel_exact, public_good_exact}{both indices as fractions in lowest terms, such as
   \code{"5/24"}; each column adds up to one exactly}
+\item{swings}{how many winning coalitions lose without the member}
+\item{banzhaf, penrose, shapley_shubik}{the Banzhaf index, Penrose's measure and the Shapley-Shubik index;
+  Penrose's measures do not add up to one}
+\item{banzhaf_exact, penrose_exact, shapley_shubik_exact}{these as fractions}
 It has the attributes \code{title}, \code{quota}, \code{total}, \code{minimal} (the number of minimal
-winning coalitions) and, if you asked for them, \code{coalitions}: a list of vectors of names.
+winning coalitions), \code{winning} (that of all winning coalitions, with swings) and, if you asked for
+them, \code{coalitions}: a list of vectors of names. With n members, Coleman's power of the body to act is
+\code{winning} / 2^n; of a member to prevent action, its swings / \code{winning}; to initiate action, its
+swings / (2^n - \code{winning}).
 }
 \section{Refused games}{
 A game that council refuses raises a condition of class \code{council_refused}. Its message says what
@@ -44,6 +54,12 @@ is wrong, where, and what is allowed. Its fields are \code{fault} (such as \code
 status of the program) and \code{game} (the bytes of the game file).
 }
 \references{
+J. F. Banzhaf (1965): Weighted Voting Doesn't Work: A Mathematical Analysis. \emph{Rutgers Law Review}
+19(2), 317-343.
+
+J. S. Coleman (1971): Control of Collectivities and the Power of a Collectivity to Act. In B. Lieberman
+(ed.), \emph{Social Choice}. New York: Gordon and Breach.
+
 J. Deegan and E. W. Packel (1978): A New Index of Power for Simple n-Person Games.
 \emph{International Journal of Game Theory} 7(2), 113-123.
 
@@ -52,6 +68,12 @@ M. J. Holler (1982): Forming Coalitions and Measuring Voting Power. \emph{Politi
 
 M. J. Holler and E. W. Packel (1983): Power, Luck and the Right Index. \emph{Zeitschrift fuer
 Nationaloekonomie} 43(1), 21-29.
+
+L. S. Penrose (1946): The Elementary Statistics of Majority Voting. \emph{Journal of the Royal
+Statistical Society} 109(1).
+
+L. S. Shapley and M. Shubik (1954): A Method for Evaluating the Distribution of Power in a Committee
+System. \emph{American Political Science Review} 48(3).
 }
 \examples{
 if (nzchar(Sys.which("council"))) {
