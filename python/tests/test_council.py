@@ -59,9 +59,9 @@ LONG.append([10**6 - it for it in LONG[0]])
 BIG = [sum(sorted(it)[-10:]) for it in LONG]
 
 
-def ask_oracle(title, names, rules):
+def ask_oracle(title, names, rules, **more):
     """Returns the report of a game, worked out apart from the program."""
-    return Report(oracle.report(oracle.Game(title or None, names, rules)))
+    return Report(oracle.report(oracle.Game(title or None, names, rules), **more))
 
 
 def find_refusal(*words, **more):
@@ -75,7 +75,7 @@ def find_refusal(*words, **more):
 
 class Reports(unittest.TestCase):
     def check_same(self, found, wanted):
-        for it in ("title", "quotas", "totals", "minimal", "members"):
+        for it in ("title", "quotas", "totals", "minimal", "winning", "members"):
             self.assertEqual(getattr(found, it), getattr(wanted, it))
 
     def test_a_board(self):
@@ -86,6 +86,25 @@ class Reports(unittest.TestCase):
         self.assertEqual([type(it) for it in a[3:]], [float, float, Fraction, Fraction])
         self.assertEqual(b, ("B", (49,), 1, 0.25, 0.25, Fraction(1, 4), Fraction(1, 4)))
         self.assertIsNone(report.coalitions)
+
+    def test_swings(self):
+        both, only, neither = [council.report(12, [4, 4, 4, 2, 2, 1], **more) for more in ({"swings": True}, {"only_swings": True}, {})]
+        a, b = both.members[0], only.members[0]
+        self.assertEqual((a[:7], b[:2], a[7:]), (neither.members[0], a[:2], b[2:]))
+        self.assertEqual(b, ("1", (4,), 10, 5 / 21, 5 / 16, 7 / 30, Fraction(5, 21), Fraction(5, 16), Fraction(7, 30)))
+        self.assertEqual((b.penrose, b.shapley_shubik_exact, b.power_to_prevent, b.power_to_initiate), (5 / 16, Fraction(7, 30), Fraction(10, 14), Fraction(10, 50)))
+        self.assertEqual([(it.minimal, it.winning) for it in (both, only, neither)], [(4, 14), (None, 14), (4, None)])
+        self.assertEqual((only.power_to_act, list(only.rows()[0])), (Fraction(14, 64), ["name", "weight", *b._fields[2:]]))
+        self.assertEqual(repr(only), "<council.Report 'A game': 6 members, 14 winning coalitions>")
+        again = pickle.loads(pickle.dumps(a))
+        self.assertEqual((again, again.power_to_prevent, repr(again)), (a, a.power_to_prevent, repr(a)))
+        self.assertTrue(repr(b).startswith("Member(name='1', weights=(4,), swings=10, banzhaf=0.238"))
+        for it, name, text in [(b, "public_good", "the report has no public_good"), (neither.members[0], "banzhaf", "no banzhaf: ask for swings=True"), (neither.members[0], "power_to_prevent", "no power_to_prevent: ask for"), (neither, "power_to_act", "ask for swings=True"), (a, "x", "has no x")]:
+            with self.assertRaisesRegex(AttributeError, text):
+                getattr(it, name)
+        for more in {"swings": True}, {"coalitions": True}:
+            with self.assertRaisesRegex(ValueError, "only_swings=True goes without"):
+                council.report(1, [1], only_swings=True, **more)
 
     def test_every_example(self):
         for path in sorted((TOP / "examples").iterdir()):
@@ -115,6 +134,10 @@ class Reports(unittest.TestCase):
                 self.assertEqual([it.members for it in listed.coalitions], found)
                 sums = [tuple(sum(of[names.index(it)] for it in members) for _, of in rules) for members in found]
                 self.assertEqual([it.weights for it in listed.coalitions], sums)
+                both = council.report(quotas, columns, names=names, title="T", coalitions=True, by="rule", swings=True)
+                self.check_same(both, ask_oracle("T", names, rules, with_swings=True))
+                self.assertEqual(both.coalitions, listed.coalitions)
+                self.check_same(council.report(quotas, columns, names=names, title="T", by="rule", only_swings=True), ask_oracle("T", names, rules, only_swings=True))
 
     def test_hostile_names(self):
         report = council.report(len(HOSTILE) - 1, [1] * len(HOSTILE), names=HOSTILE, title='A "title" \\ = $x$')
@@ -395,14 +418,15 @@ def make_library(status, data):
     """Returns a library whose call answers so, and a list of what it was asked."""
     asked = []
 
-    def call(text, size, options, place, room, length):
-        asked.append((text[:size], [getattr(options._obj, it) for it, _ in engine.Options._fields_], room, threading.current_thread().daemon))
+    def call(text, size, options, *only_and_place):
+        *only, place, room, length = only_and_place
+        asked.append((text[:size], [getattr(options._obj, it) for it, _ in engine.Options._fields_], room, threading.current_thread().daemon, *only))
         ctypes.memmove(place, data, min(len(data), room))
         length._obj.value = len(data)
         return status
 
     library = engine.Library.__new__(engine.Library)
-    library._call = call
+    library._call = library._swings_call = call
     return library, asked
 
 
@@ -423,6 +447,14 @@ class Engines(unittest.TestCase):
             self.assertEqual(asked, [(b"[1; 1]", options, it, True) for it in rooms])
             with self.assertRaises(council.NotFound):
                 self.compute(library, b"[1; 1]", program="no-such-program")
+        library, asked = make_library(0, b"x")
+        for more in {"only": False}, {"only": True}, {"only": False, "listed": True, "most": 7}:
+            self.compute(library, b"[1; 1]", **more)
+        self.assertEqual([it[1:] for it in asked], [([0, True, False, False, False], 65536, True, False), ([0, False, False, False, False], 65536, True, True), ([7, False, True, False, False], 2**30, True, False)])
+        # an older library has no swings: the program answers
+        library._swings_call = None
+        with mock.patch.dict(os.environ, COUNCIL_PROGRAM="no-such-program"), self.assertRaises(council.NotFound):
+            self.compute(library, b"[1; 1]", only=True)
         library._call = mock.Mock(side_effect=SystemExit("a fault"))
         with self.assertRaisesRegex(SystemExit, "a fault"):
             self.compute(library, b"[1; 1]")
@@ -439,7 +471,7 @@ class Engines(unittest.TestCase):
         os.chmod(broken, 0o755)
         for status, data, kind, line in [
             (3, b"bad bracket text", council.Refused, 1), (4, b"too many minimal winning coalitions", council.TooMany, None), (1, b"no file", council.Refused, None),
-            (5, b"out of memory", MemoryError, 0), (5, b"no thread", RuntimeError, 0), (2, b"a word", RuntimeError, 0),
+            (6, b"too many states for the swings", council.TooMany, 0), (5, b"out of memory", MemoryError, 0), (5, b"no thread", RuntimeError, 0), (2, b"a word", RuntimeError, 0),
         ]:
             # the program says where and why, if there is one, and it runs
             for program in (real, "", broken):
@@ -464,7 +496,10 @@ class Engines(unittest.TestCase):
                 return engine.compute(b"game\n", program=path, **more)
 
             self.assertEqual(compute('echo "$@"; echo note >&2'), "game\n--explain --tally\n")
+            for more, words in [({}, "--tally --swings"), ({"listed": True, "most": 7}, "--list --most 7 --swings")]:
+                self.assertEqual(compute('echo "$@"', only=False, **more), f"game\n--explain {words}\n")
             self.assertEqual(compute('echo "$@"', listed=True, most=7), "game\n--explain --list --most 7\n")
+            self.assertEqual(compute('echo "$@"', only=True), "game\n--explain --only-swings\n")
             for script, kind, text in [
                 ("exit 7", RuntimeError, f"{path} ended with status 7"), ("kill -9 $$", RuntimeError, f"{path} ended with status -9"), ("echo council: no thread >&2; exit 5", RuntimeError, "no thread"),
                 ("echo council: out of memory >&2; exit 5", MemoryError, "out of memory"), ("echo a fault >&2; exit 1", council.Refused, "a fault"), ("exit 4", council.TooMany, f"{path} ended with status 4"),
@@ -535,9 +570,10 @@ class Engines(unittest.TestCase):
         with mock.patch("ctypes.CDLL") as load:
             library = engine.Library("its path")
         load.assert_called_once_with("its path")
-        self.assertEqual((library.path, library._call), ("its path", load.return_value.council_report))
+        self.assertEqual((library.path, library._call, library._swings_call), ("its path", load.return_value.council_report, load.return_value.council_swings_report))
         words = [ctypes.c_char_p, ctypes.c_size_t, ctypes.POINTER(engine.Options), ctypes.c_char_p, ctypes.c_size_t, ctypes.POINTER(ctypes.c_uint64)]
         self.assertEqual((library._call.restype, library._call.argtypes, ctypes.sizeof(engine.Options)), (ctypes.c_uint32, words, 8))
+        self.assertEqual((library._swings_call.restype, library._swings_call.argtypes), (ctypes.c_uint32, [*words[:3], ctypes.c_bool, *words[3:]]))
         if Path(engine.__file__).resolve().parent == TOP / "python/src/council" and (TOP / "tools/built.sh").is_file():
             self.assertEqual((engine.HOME, engine.CLONE), (str(TOP / "python/src/council"), str(TOP)))
         with tempfile.TemporaryDirectory() as folder, mock.patch.object(engine, "__file__", f"{folder}/a.pyz/council/engine.py"):

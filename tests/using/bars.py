@@ -5,7 +5,7 @@ import re
 from fractions import Fraction
 from xml.etree import ElementTree
 
-from cases import HOSTILE, LOW, Run, Tests, hostile_game, main, put, report, stored
+from cases import FORMS, HOSTILE, LOW, Run, Tests, hostile_game, main, put, report, stored
 from council.game import write_game
 from council.reports import Report, round_half_up
 from council.tools.drawing import escape_xml, find_round_step, find_ticks, measure, wrap, write_percent
@@ -25,8 +25,8 @@ class Pictures(Tests):
         """Each member has a bar for each share and index, as long as its value, with its number."""
         made = Report(data.split("\n")[:-1])
         root, bars, texts = draw(data, "--decimals", str(places))
-        values = [value for it in made.members for value in [*(made.share(it, rule) for rule in range(len(made.quotas))), it.deegan_packel_exact, it.public_good_exact]]
-        kinds = len(made.quotas) + 2
+        values = [value for it in made.members for value in [*(made.share(it, rule) for rule in range(len(made.quotas))), *(index.find(it) for index in made.indices)]]
+        kinds = len(made.quotas) + len(made.indices)
         self.assertEqual([it.get("width") for it in bars], [f"{float(value / max(values)) * 460:.2f}" for value in values])
         shown = [it.text for it in texts]
         first = len(shown) - len(values) - len(made.members)
@@ -51,7 +51,7 @@ class Pictures(Tests):
             names = rng.sample(HOSTILE, rng.randint(1, 9))
             rules = [[rng.randint(0, 10 ** rng.randint(1, 9)) + 1 for _ in names] for _ in range(rng.randint(1, 4))]
             game = write_game(names, [rng.randint(1, sum(it)) for it in rules], list(zip(*rules)), rng.choice(["", "T" * 60 + " u", "\u00e9 <&>"]))
-            self.check_picture(report(game), rng.randint(1, 12))
+            self.check_picture(report(game, *rng.choice(FORMS)), rng.randint(1, 12))
 
     def test_examples_and_hostile_names(self):
         for data in stored("eec-1958"), stored("eu-27-nice"), stored("de-bundesrat"), report(hostile_game(4)):
@@ -63,8 +63,9 @@ class Pictures(Tests):
         shown = [it for it in self.check_picture(stored("eu-27-nice"), 4) if it.startswith("share")]
         self.assertEqual(shown, [f"share of the votes, rule {it}" for it in ("1; quota 255 of 345 (73.91%)", "2; quota 620 of 1,000 (62%)", "3; quota 14 of 27 (51.85%)")])
         game = Run("from-table", "85%", "heads:2", input="Holder,Share held\nA,16.50%\nB,40.25%\nC,43.25%\n").out
-        _, _, texts = draw(report(game), "--game", put("game.toml", game))
-        self.assertEqual([it.text for it in texts if it.text.startswith("share")], ['share of "Share held", rule 1; quota 85.00% of 100.00%', 'share of "heads", rule 2; quota 2 of 3 (66.67%)'])
+        _, bars, texts = draw(report(game, "--swings"), "--game", put("game.toml", game), "--index", "penrose")
+        self.assertEqual([it.text for it in texts][1:4], ['share of "Share held", rule 1; quota 85.00% of 100.00%', 'share of "heads", rule 2; quota 2 of 3 (66.67%)', "Penrose's measure (does not add up to 1)"])
+        self.assertEqual(len(bars), 9)
 
     def test_titles(self):
         for title, rows in [("a  b", ["a  b"]), (" ", ["A game"]), ("T" * 60 + " " + "U" * 60 + " v", ["T" * 60, "U" * 60, "v"]), ("", ["A game"])]:

@@ -26,6 +26,8 @@ HOSTILE = [
     "e\u0301", "\U0001f600", "x" * 64, "W" * 64, "m, n; o", "CON", " ", "\\u0041",
 ]
 LOW = "at most half of the total"
+# the options of a report without swings, with them, and of them only
+FORMS = [[], ["--swings"], ["--only-swings"]]
 
 
 class Run:
@@ -80,7 +82,7 @@ class Tests(unittest.TestCase):
 def report(game, *words):
     """Returns the report of a game, as text."""
     data = game.encode() if isinstance(game, str) else game
-    done = subprocess.run([PROGRAM, *([] if "--list" in words else ["--tally"]), *words], input=data, capture_output=True)
+    done = subprocess.run([PROGRAM, *([] if {"--list", "--only-swings"} & {*words} else ["--tally"]), *words], input=data, capture_output=True)
     if done.returncode:
         raise SystemExit(f"the program refused a game: {done.stderr.decode()}")
     return done.stdout.decode()

@@ -5,7 +5,7 @@ import subprocess
 import unicodedata
 from fractions import Fraction
 
-from cases import HOSTILE, TEMP, TOP, Run, Tests, hostile_game, main, put, report, stored
+from cases import FORMS, HOSTILE, TEMP, TOP, Run, Tests, hostile_game, main, put, report, stored
 from council.game import write_game
 from council.reports import Report, cut_off
 from council.tools.compare import is_near
@@ -26,21 +26,32 @@ def measure_width(text):
 class Compare(Tests):
     def test_each_cell(self):
         """Weights and indices are those of the reports, and each difference is that of the decimals."""
-        paths = [example(it) for it in ("eec-1958", "ec-1973", "eu-27-nice")]
-        run = Run("compare", *paths)
+        for words in FORMS:
+            paths = [put(f"{it}.tsv", report(open(f"{TOP}/examples/{it}.toml", encoding="utf-8").read(), *words)) for it in ("eec-1958", "ec-1973", "de-bundesrat")]
+            lines = self.check_cells(paths, [], 5 if words == ["--swings"] else 2 if not words else 3)
+            counts = ["minimal winning coalitions: 4"] * ("--only-swings" not in words) + ["winning coalitions: 14"] * bool(words)
+            self.assertEqual(lines[0], f"1  Council of the European Economic Community, 1958: 12 of 17, {', '.join(counts)}")
+        # of reports of two forms, what both have
+        self.check_cells([paths[0], *(put(f"{at}.tsv", report("[5; 4, 3, 2]", "--swings")) for at in range(2))], ["--index", "penrose"], 1)
+        self.check_refused(Run("compare", paths[0], example("board")), "no index in common", status=1)
+        self.check_refused(Run("compare", paths[0], paths[1], "--index", "public-good"), "council makes it without --only-swings", status=2)
+
+    def check_cells(self, paths, words, number):
+        lines = Run("compare", *paths, *words).out.split("\n")[:-1]
         made = [Report(open(it, encoding="utf-8")) for it in paths]
-        lines = run.out.split("\n")[:-1]
-        self.assertEqual(lines[0], "1  Council of the European Economic Community, 1958: 12 of 17, minimal winning coalitions: 4")
+        indices = [it for it in made[0].indices if not words or it.word() in words]
+        self.assertEqual(len(indices), number)
         names = list(dict.fromkeys(it.name for one in made for it in one.members))
         for name, line in zip(names, lines[6:]):
             cells, members = [], [next((it for it in one.members if it.name == name), None) for one in made]
             for at, it in enumerate(members):
-                cells += ["/".join(f"{weight:,}" for weight in it.weights), cut_off(it.deegan_packel_exact), cut_off(it.public_good_exact)] if it else ["-"] * 3
+                cells += ["/".join(f"{weight:,}" for weight in it.weights), *(cut_off(index.find(it)) for index in indices)] if it else ["-"] * (number + 1)
                 if at:
-                    pairs = [(cut_off(one), cut_off(other)) for one, other in zip(it[5:], members[0][5:])] if it and members[0] else []
-                    cells += [f"{float(Fraction(one) - Fraction(other)):+.6f}".replace("+0.000000", "0.000000") for one, other in pairs] or ["-"] * 2
+                    pairs = [(cut_off(index.find(it)), cut_off(index.find(members[0]))) for index in indices] if it and members[0] else []
+                    cells += [f"{float(Fraction(one) - Fraction(other)):+.6f}".replace("+0.000000", "0.000000") for one, other in pairs] or ["-"] * number
             self.assertEqual(line.split(), [*name.split(), *cells])
-        self.assertEqual((len(lines), len({len(it) for it in lines[4:]})), (6 + len(names), 1))
+        self.assertEqual((len(lines), len({measure_width(it) for it in lines[4:]})), (6 + len(names), 1))
+        return lines
 
     def test_units(self):
         game = '# Rule 1: "Share", percent, 1 decimal\n' + write_game("AB", [501], [[823], [177]])

@@ -11,14 +11,13 @@ import subprocess
 import unicodedata
 from fractions import Fraction
 
-from cases import HOSTILE, TEMP, Run, Tests, hostile_game, main, put, report, stored
+from cases import FORMS, HOSTILE, TEMP, Run, Tests, hostile_game, main, put, report, stored
 from council.game import write_game
-from council.reports import Report, cut_off, round_half_up
-from council.tools.export import FORMATS, HEADINGS, make_pair
+from council.reports import Report, cut_off, round_half_up, write_fraction
+from council.tools.export import FORMATS, make_pair
 
 HARD, SEVERAL = report(hostile_game()), report(hostile_game(3))
-TWO = report(write_game("ABCD", [5000, 2], [[3000, 1], [2000, 1], [1000, 1], [1000, 1]], "A & É"), "--list")
-ALL = ",".join(HEADINGS)
+TWO = report(write_game("ABCD", [5000, 2], [[3000, 1], [2000, 1], [1000, 1], [1000, 1]], "A & É"), "--list", "--swings")
 # letters that print letter by letter, as LaTeX reads them
 LATEX = {"\\textbackslash{}": "\\", "\\textasciitilde{}": "~", "\\textasciicircum{}": "^", "\\textless{}": "<", "\\textgreater{}": ">", "\\textbar{}": "|", "{\\char34}": '"'}
 
@@ -40,17 +39,18 @@ def read_latex(text):
 
 
 class Export(Tests):
-    def find_cells(self, data, places, form):
+    def find_cells(self, made, places, form):
         """Returns what each cell of a table of all columns has to be, as texts."""
-        made = Report(data.split("\n")[:-1])
         write = cut_off if places is None else lambda it: round_half_up(it, places)
         rows = []
         for it in made.members:
             shares = [round_half_up(made.share(it, rule), 6 if places is None else places) for rule in range(len(made.quotas))]
             numbers = [f"{weight:,}" if form != "csv" else str(weight) for weight in it.weights]
-            coalitions = f"{it.coalitions:,}" if form != "csv" else str(it.coalitions)
-            exact = [f"{value.numerator}/{value.denominator}" for value in (it.deegan_packel_exact, it.public_good_exact)]
-            rows.append([it.name, *numbers, *shares, coalitions, write(it.deegan_packel_exact), write(it.public_good_exact), *exact])
+            groups = []
+            for group in made.groups:
+                exact, number = [index.find(it) for index in group.indices], getattr(it, group.column)
+                groups += [str(number) if form == "csv" else f"{number:,}", *map(write, exact), *map(write_fraction, exact)]
+            rows.append([it.name, *numbers, *shares, *groups])
         return rows
 
     def test_each_cell(self):
@@ -58,16 +58,16 @@ class Export(Tests):
         for _ in range(25):
             names = [f"m{at}" for at in range(rng.randint(1, 9))]
             rules = [[rng.randint(1, 10 ** rng.randint(1, 9)) for _ in names] for _ in range(rng.randint(1, 3))]
-            data = report(write_game(names, [rng.randint(1, sum(it)) for it in rules], list(zip(*rules))))
-            places = rng.choice([None, 1, 2, 7, 30])
-            words = ["--columns", ALL, *([] if places is None else ["--decimals", str(places)])]
+            data = report(write_game(names, [rng.randint(1, sum(it)) for it in rules], list(zip(*rules))), *rng.choice(FORMS))
+            made, places = Report(data.split("\n")[:-1]), rng.choice([None, 1, 2, 7, 30])
+            words = ["--columns", ",".join(["name", "weight", "share", *(it for group in made.groups for it in group.columns())]), *([] if places is None else ["--decimals", str(places)])]
             found = list(csv.reader(io.StringIO(Run("export", "csv", *words, input=data).out)))
-            self.assertEqual(found[1:], self.find_cells(data, places, "csv"))
+            self.assertEqual(found[1:], self.find_cells(made, places, "csv"))
             self.assertEqual(len(set(found[0])), len(found[0]))
             found = list(csv.reader(io.StringIO(Run("export", "csv", *words, "--decimal", ",", input=data).out), delimiter=";"))
-            self.assertEqual([[it.replace(",", ".") for it in row] for row in found[1:]], self.find_cells(data, places, "csv"))
+            self.assertEqual([[it.replace(",", ".") for it in row] for row in found[1:]], self.find_cells(made, places, "csv"))
             # for people, four decimals if nobody says how many
-            wanted = self.find_cells(data, places or 4, "markdown")
+            wanted = self.find_cells(made, places or 4, "markdown")
             found = [line.strip("| ").split(" | ") for line in Run("export", "markdown", *words, input=data).out.split("\n")[2:-1]]
             self.assertEqual(found, wanted)
             lines = Run("export", "latex", *words, input=data).out.split("\n")
@@ -75,13 +75,14 @@ class Export(Tests):
             self.assertEqual(found, wanted)
 
     def test_json(self):
-        for data in TWO, HARD, SEVERAL, stored("eu-27-nice"):
+        for data in TWO, HARD, SEVERAL, stored("eu-27-nice"), report("[5; 4, 3, 2]", "--only-swings"):
             made, found = Report(data.split("\n")[:-1]), json.loads(Run("export", "json", input=data).out)
-            self.assertEqual((found["title"], found["quotas"], found["totals"], found["minimal"]), (made.title or None, list(made.quotas), list(made.totals), made.minimal))
+            self.assertEqual((found["title"], found["quotas"], found["totals"], found.get("minimal"), found.get("winning")), (made.title or None, list(made.quotas), list(made.totals), made.minimal, made.winning))
             for it, member in zip(found["members"], made.members):
-                self.assertEqual((it["name"], it["weights"], it["coalitions"]), (member.name, list(member.weights), member.coalitions))
-                self.assertEqual([Fraction(*map(int, it[key])) for key in ("deegan_packel_exact", "public_good_exact")], list(member[5:]))
-                self.assertEqual([f"{it[key]:.6f}" for key in ("deegan_packel", "public_good")], [cut_off(value) for value in member[5:]])
+                self.assertEqual(list(it), list(member._fields))
+                self.assertEqual((it["name"], it["weights"], [it[group.column] for group in made.groups]), (member.name, list(member.weights), [getattr(member, group.column) for group in made.groups]))
+                self.assertEqual([Fraction(*map(int, it[f"{index.name}_exact"])) for index in made.indices], [index.find(member) for index in made.indices])
+                self.assertEqual([f"{it[index.name]:.6f}" for index in made.indices], [cut_off(index.find(member)) for index in made.indices])
             self.assertEqual([(tuple(it["members"]), tuple(it["weights"])) for it in found.get("coalitions", [])], made.coalitions or [])
         self.assertEqual(make_pair(Fraction(2**53 - 1, 2**53)), [2**53 - 1, str(2**53)])
         self.assertEqual({it["deegan_packel"] for it in json.loads(Run("export", "json", "--decimals", "2", input=of(*"ABCDEFGH")).out)["members"]}, {0.13})
@@ -134,7 +135,7 @@ class Export(Tests):
             self.assertEqual((ran.returncode, told), (0, []))
 
     def test_what_is_refused(self):
-        for words, text in [(["xml"], '"xml" is no format'), ([], "say a format"), (["csv", "--columns", "name,power"], '"power" is no column: name, weight'), (["csv", "--columns", ""], '"" is no column'), (['a"\u202e'], '"a\\"\\u202E"'),
+        for words, text in [(["xml"], '"xml" is no format'), ([], "say a format"), (["csv", "--columns", "name,power"], '"power" is no column: name, weight'), (["csv", "--columns", ""], '"" is no column'), (["csv", "--columns", "banzhaf"], "the report has no column banzhaf, but name,"), (["csv", "--index", "banzhaf"], "council makes it with --swings"), (['a"\u202e'], '"a\\"\\u202E"'),
                             (["csv", "--decimals", "0"], "--decimals"), (["csv", "--decimals", "31"], "--decimals"), (["csv", "--decimal", ";"], "--decimal"), (["csv", "--col=name"], "unrecognized")]:
             self.check_refused(Run("export", *words, input=HARD), text, status=2)
         for data in "", "quota = 1\n", b"title\t\xff\n", "title\tA\n", "notation\t[1; 1]\n", TWO[TWO.index("member\t"):], TWO[: TWO.index("member\t")]:
@@ -152,7 +153,7 @@ class Export(Tests):
                     lines[number] = "\t".join([*fields[:at], new, *fields[at + 1 :]])
                     with self.subTest(line=lines[number]):
                         self.check_refused(Run("export", "json", input="\n".join(lines)), status=1)
-        for kind in "members", "quota", "total", "minimal":
+        for kind in "members", "quota", "total", "minimal", "winning":
             self.check_refused(Run("export", "csv", input=re.sub(rf"{kind}\t.*\n", "", TWO)), "the report is not whole")
         self.check_refused(Run("export", "csv", input=TWO.replace("minimal\t2", "minimal\t1")), "the report is not whole")
         for value in "5000", "5000/", "5_000/2", "5000/2/1":

@@ -12,11 +12,11 @@ import sys
 from fractions import Fraction
 from unittest import mock
 
-from cases import LOW, PROGRAM, TEMP, TOOLS, TOP, Run, Tests, hostile_game, main, put, report, stored
+from cases import FORMS, LOW, PROGRAM, TEMP, TOOLS, TOP, Run, Tests, hostile_game, main, put, report, stored
 from council import tools
 from council.engine import NotFound, Refused
 from council.game import write_game
-from council.reports import Fault, Report, cut_off, round_half_up
+from council.reports import Fault, Report, cut_off, round_half_up, write_fraction
 from council.tools import table
 
 WHOLE = "the report is not whole, or its numbers are not those of council"
@@ -81,12 +81,13 @@ class Reports(Tests):
             self.assertRegex(down, rf"\A\d+{'' if places == 0 else f'[.][0-9]{{{places}}}'}\Z")
 
     def test_table(self):
-        for data in stored("eec-1958"), TWO, report(hostile_game(2)):
+        for data in stored("eec-1958"), TWO, report(hostile_game(2)), *(report("[5; 4, 3, 2]", *words) for words in FORMS):
             made, lines = Report(data.split("\n")[:-1]), Run("table", input=data).out.split("\n")[:-1]
             self.assertEqual(len({len(it) for it in lines}), 1)
             self.assertTrue(all(it.isprintable() for it in lines))
             for it, line in zip(made.members, lines[1:]):
-                self.assertEqual(line.split()[-3:], ["/".join(map(str, it.weights)), *(f"{value.numerator}/{value.denominator}" for value in it[5:])])
+                its = ["/".join(map(str, it.weights)), *(write_fraction(index.find(it)) for index in made.indices)]
+                self.assertEqual(line.split()[-len(its):], its)
                 self.assertTrue(line.startswith("".join(letter if letter.isprintable() else " " for letter in it.name)))
         self.check_refused(Run("table", "--decimals=2"), "unrecognized arguments: --decimals=2", status=2)
 

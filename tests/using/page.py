@@ -10,9 +10,10 @@ import subprocess
 from html.parser import HTMLParser
 from unittest import mock
 
-from cases import HOSTILE, LOW, PROGRAM, TEMP, TOP, Run, Tests, hostile_game, main, put, report, stored
+from cases import FORMS, HOSTILE, LOW, PROGRAM, TEMP, TOP, Run, Tests, hostile_game, main, put, report, stored
 from council.game import write_game
-from council.reports import Report, cut_off, round_half_up
+from council.columns import INDICES
+from council.reports import Report, cut_off, round_half_up, write_fraction
 
 # a page shows U+FFFD instead of letters that it must not have
 REFUSED = re.compile("[\ufffe\uffff\u2028\u202e\x80-\x9f]")
@@ -48,28 +49,33 @@ def make(*words, **more):
 
 
 class Pages(Tests):
-    def check_page(self, game):
+    def check_page(self, game, *options):
         """Each cell and bar is that of the report, and the game file of the page makes it again."""
-        data = report(game, "--list")
+        data = report(game, *options)
         made, run = Report(data.split("\n")[:-1]), make(input=data)
         page = Page(run.out)
         self.assertTrue(page.is_good and page.links == [] and page.all.count("script") == 1 and not REFUSED.search(run.out))
         names = [REFUSED.sub("\ufffd", it.name) for it in made.members]
         rows, rules = [it for it in page.rows if it], range(len(made.quotas))
-        self.assertEqual([it[:3] for it in rows], [[name, *map(cut_off, it[5:])] for name, it in zip(names, made.members)])
-        self.assertEqual([it[3:] for it in rows], [[
-            *(text for rule in rules for text in (f"{it.weights[rule]:,}", round_half_up(made.share(it, rule), 4))), f"{it.coalitions:,}", *(f"{value.numerator}/{value.denominator}" for value in it[5:]),
-        ] for it in made.members])
-        values = [value for it in made.members for value in [*(made.share(it, rule) for rule in rules), *it[5:]]]
+        found = [[index.find(it) for index in made.indices] for it in made.members]
+        self.assertEqual(rows, [[
+            name, *map(cut_off, its), *(text for rule in rules for text in (f"{it.weights[rule]:,}", round_half_up(made.share(it, rule), 4))),
+            *(f"{getattr(it, group.column):,}" for group in made.groups), *map(write_fraction, its),
+        ] for name, it, its in zip(names, made.members, found)])
+        values = [value for it, its in zip(made.members, found) for value in [*(made.share(it, rule) for rule in rules), *its]]
         self.assertEqual(re.findall(r'"value">(.*?)<', run.out), [round_half_up(it, 4) for it in values])
         self.assertEqual(re.findall(r"\* (\d\.\d{4})\)", run.out), [f"{float(it / max(values)):.4f}" for it in values])
         # by its keys a column is sorted
-        for column in 1, 2, 3:
+        for column in range(1, 2 + len(made.indices)):
             keys = [int(it) for it in re.findall(r'data-key="(\d+)"', run.out)][column :: len(rows[0])]
-            sorted_by = [(it.deegan_packel_exact, it.public_good_exact, it.weights[0])[column - 1] for it in made.members]
+            sorted_by = [[*its, it.weights[0]][column - 1] for it, its in zip(made.members, found)]
             self.assertEqual([one < other for one in keys for other in keys], [one < other for one in sorted_by for other in sorted_by])
-        self.assertEqual(run.out.count("<small>("), len(made.coalitions))
-        self.assertEqual(report(page.texts["pre"][0]), re.sub("coalition\t.*\n", "", data))
+        self.assertEqual(run.out.count("<small>("), made.listed)
+        again = [it for it in re.search("council (--[a-z -]*) FILE", run.out)[1].split() if it != "--tally"]
+        self.assertEqual(report(page.texts["pre"][0], *again), re.sub("coalition\t.*\n", "", data))
+        # what each index is comes with its name
+        footer = page.texts["footer"][0].lower()
+        self.assertEqual([it for it in INDICES if it.title.lower() in footer], made.indices)
         return page
 
     def test_random_games(self):
@@ -77,10 +83,10 @@ class Pages(Tests):
         for _ in range(20):
             names = rng.sample([it for it in HOSTILE if not REFUSED.search(it)], rng.randint(1, 8))
             rules = [[rng.randint(1, 10**4) for _ in names] for _ in range(rng.randint(1, 4))]
-            self.check_page(write_game(names, [rng.randint(1, sum(it)) for it in rules], list(zip(*rules)), "A <title> & more"))
+            self.check_page(write_game(names, [rng.randint(1, sum(it)) for it in rules], list(zip(*rules)), "A <title> & more"), *rng.choice([["--list"], ["--list", "--swings"], *FORMS]))
 
     def test_texts(self):
-        page = self.check_page(open(f"{TOP}/examples/eec-1958.toml", encoding="utf-8").read())
+        page = self.check_page(open(f"{TOP}/examples/eec-1958.toml", encoding="utf-8").read(), "--list")
         self.assertEqual((page.texts["title"], page.texts["h1"]), (["Council of the European Economic Community, 1958: power indices"], ["Council of the European Economic Community, 1958"]))
         self.assertIn("Germany, France, Italy (12)", page.texts["li"])
         text = page.texts["main"][0]
@@ -92,7 +98,8 @@ class Pages(Tests):
         self.assertTrue("At most half of the total wins" in run_of_low.out and f"the quota 5 is {LOW}, 10: two" in run_of_low.err)
         readme = " ".join(open(f"{TOP}/README.md", encoding="utf-8").read().split())
         sources = re.findall("<li>(.*?)</li>", run.out[run.out.index("<footer>"):])
-        self.assertEqual((len(sources), [it for it in sources if re.sub("</?i>", "*", it) not in readme]), (3, []))
+        sources += re.findall("<li>(.*?)</li>", make(input=report("[5; 4, 4, 2]", "--only-swings")).out.split("<footer>")[1])
+        self.assertEqual((len(sources), [it for it in sources if re.sub("</?i>", "*", it) not in readme]), (6, []))
         script = re.search(r"<script>(.*)</script>", run.out, re.S)[1]
         hashed = base64.b64encode(hashlib.sha256(script.encode()).digest()).decode()
         self.assertIn(f"content=\"default-src 'none'; style-src 'unsafe-inline'; script-src 'sha256-{hashed}'\">", run.out)

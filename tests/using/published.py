@@ -31,6 +31,17 @@ class Published(Tests):
         for members, number, index in (council.members[:5], comb(10, 4), Fraction(1, 9)), (council.members[5:], comb(9, 3), Fraction(2, 45)):
             self.assertEqual({(it.coalitions, it.deegan_packel_exact, it.public_good_exact) for it in members}, {(number, index, index)})
 
+    def test_swings(self):
+        """The Security Council (Shapley and Shubik 1954), the Six of 1958, and a vote given away (Felsenthal and
+        Machover 1998)."""
+        council = read(report(open(f"{TOP}/examples/un-security-council.toml", encoding="utf-8").read(), "--only-swings"))
+        self.assertEqual({it.shapley_shubik_exact for it in council.members[:5]} | {it.shapley_shubik_exact for it in council.members[5:]}, {Fraction(421, 2145), Fraction(4, 2145)})
+        six = read(report("[12; 4, 4, 4, 2, 2, 1]", "--swings"))
+        for at, banzhaf, shapley_shubik in (0, Fraction(5, 21), Fraction(14, 60)), (3, Fraction(3, 21), Fraction(9, 60)), (5, 0, 0):
+            self.assertEqual((six.members[at].banzhaf_exact, six.members[at].shapley_shubik_exact), (banzhaf, shapley_shubik))
+        self.assertEqual((six.power_to_act, six.members[0].power_to_prevent, six.members[0].power_to_initiate), (Fraction(14, 64), Fraction(10, 14), Fraction(10, 50)))
+        self.assertEqual([read(report(it, "--swings")).members[0].banzhaf_exact for it in ("[8; 5, 3, 1, 1, 1]", "[8; 4, 4, 1, 1, 1]")], [Fraction(9, 19), Fraction(1, 2)])
+
     def test_luxembourg_in_1958_and_1973(self):
         """It was a dummy, and with a smaller share it was not (Brams and Affuso 1976)."""
         old, new = [next(it for it in read(stored(name)).members if it.name == "Luxembourg") for name in ("eec-1958", "ec-1973")]

@@ -6,6 +6,7 @@ import re
 import shutil
 import subprocess
 import unittest
+from fractions import Fraction
 
 from cases import HOSTILE, PROGRAM, TEMP, TOP, Tests, main, put
 import oracle
@@ -16,12 +17,12 @@ from council.reports import Report, write_fraction
 SCRIPT = """
 library(council, lib.loc = "council.Rcheck")
 show <- function(it) {
-  weights <- grep("^weight", names(it))
-  cells <- c(list(it$name), lapply(it[weights], format, scientific = FALSE, trim = TRUE), list(sprintf("%.0f", it$coalitions)),
-             list(sprintf("%.17g", it$deegan_packel), sprintf("%.17g", it$public_good), it$deegan_packel_exact, it$public_good_exact))
-  c(paste("game", attr(it, "title"), sprintf("%.0f", attr(it, "minimal")), sep = "\\t"), do.call(paste, c(unname(cells), sep = "\\t")))
+  cells <- lapply(names(it), function(name) {
+    if (is.character(it[[name]])) it[[name]] else sprintf(if (grepl("^weight|^coalitions|^swings", name)) "%.0f" else "%.17g", it[[name]])
+  })
+  c(paste("game", attr(it, "title"), sprintf("%.0f", attr(it, "minimal")), sep = "\\t"), do.call(paste, c(cells, sep = "\\t")))
 }
-its <- lapply(commandArgs(TRUE), function(path) show(council(file = path)))
+its <- lapply(commandArgs(TRUE), function(path) show(council(file = path, swings = grepl("^game", basename(path)))))
 called <- readLines("names.txt", encoding = "UTF-8")
 hard <- council(c(length(called) - 1, 1), cbind(rep(1, length(called)), 1), names = called, title = "a \\"title\\" \\\\", coalitions = TRUE)
 latin <- "name = \\"\\xe9\\""
@@ -53,7 +54,7 @@ def make_games():
         rules = [[rng.choice([1, 2, 3, rng.randint(1, 10**12)]) for _ in names] for _ in range(rng.randint(1, 4))]
         quotas = [rng.randint(1, sum(it)) for it in rules]
         path = put(f"game{at}.toml", write_game(names, quotas, list(zip(*rules)), "T"))
-        made.append((path, Report(oracle.report(oracle.Game("T", names, list(zip(quotas, rules)))))))
+        made.append((path, Report(oracle.report(oracle.Game("T", names, list(zip(quotas, rules))), with_swings=True))))
     for name in ("eu-27-nice", "share-register", "us-federal"):
         with open(f"{TOP}/examples/{name}.tsv", encoding="utf-8") as it:
             made.append((f"{TOP}/examples/{name}.toml", Report(it)))
@@ -89,11 +90,11 @@ class Package(Tests):
             for _, report in games:
                 self.assertEqual(seen.pop(0), ["game", report.title, str(report.minimal)])
                 for it in report.members:
-                    *cells, dp, pg, dp_exact, pg_exact = seen.pop(0)
-                    exact = it.deegan_packel_exact, it.public_good_exact
-                    self.assertEqual([*cells, dp_exact, pg_exact], [it.name, *map(str, it.weights), str(it.coalitions), *map(write_fraction, exact)])
-                    # up to two units in the last place
-                    self.assertTrue(all(abs(float(text) - float(value)) <= 2**-51 * float(value) for text, value in zip((dp, pg), exact)))
+                    cells, first = seen.pop(0), 1 + len(it.weights)
+                    self.assertEqual((cells[:first], len(cells)), ([it.name, *map(str, it.weights)], first + len(it) - 2))
+                    for text, value in zip(cells[first:], it[2:]):
+                        exact = write_fraction(value) if isinstance(value, Fraction) else str(value)
+                        self.assertTrue(is_close(text, value) if isinstance(value, float) else text == exact, (text, value))
             head, *hard, first, _, spelled, are_same = seen
             self.assertEqual((head, [it[0] for it in hard]), (["game", 'a "title" \\', str(len(HOSTILE))], HOSTILE))
             self.assertEqual((first, spelled[0], are_same), (["coalition", *HOSTILE[:-1]], "\xe9", ["TRUE TRUE"]))

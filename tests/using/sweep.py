@@ -10,8 +10,10 @@ import time
 from xml.etree import ElementTree
 
 from cases import HOSTILE, LOW, PROGRAM, TEMP, TOOLS, TOP, Run, Tests, hostile_game, main, put, report
+from council.columns import INDICES, MINIMAL, SWINGS
 from council.game import write_game
-from council.reports import Report, cut_off
+from council.reports import Report, cut_off, write_fraction
+from council.tools.command import find_index
 from council.tools.drawing import measure
 from council.tools.sweep import spread
 
@@ -36,14 +38,15 @@ class Sweeps(Tests):
         """Each row is that of the report of its game, and the picture has a point for each."""
         words = ["--rule", str(rule + 1), "--from", str(quotas[0]), "--to", str(quotas[-1]), "--step", str(quotas.step), "--index", kind, "--picture", f"{TEMP}/a.svg"]
         run = sweep("-", *words, input=write_game(names, [quota for quota, _ in rules], list(zip(*(it for _, it in rules))), "T"))
-        self.assertEqual((run.status, run.out.split("\n")[0]), (0, "quota\tname\tdeegan_packel\tpublic_good\tdeegan_packel_exact\tpublic_good_exact"), run.err)
-        made = [report(write_game(names, [quota if at == rule else it for at, (it, _) in enumerate(rules)], list(zip(*(it for _, it in rules))))) for quota in quotas]
+        group = SWINGS if kind in [it.word() for it in SWINGS.indices] else MINIMAL
+        self.assertEqual((run.status, run.out.split("\n")[0]), (0, "\t".join(["quota", "name", *group.columns()[1:]])), run.err)
+        made = [report(write_game(names, [quota if at == rule else it for at, (it, _) in enumerate(rules)], list(zip(*(it for _, it in rules)))), "--swings") for quota in quotas]
         wanted, lines = [], {}
         for quota, it in zip(quotas, made):
             for at, member in enumerate(Report(it.split("\n")[:-1]).members):
-                dp, pg = member[5:]
-                wanted.append([str(quota), member.name, cut_off(dp), cut_off(pg), f"{dp.numerator}/{dp.denominator}", f"{pg.numerator}/{pg.denominator}"])
-                lines.setdefault(at, []).append(dp if kind == "deegan_packel" else pg)
+                its = [index.find(member) for index in group.indices]
+                wanted.append([str(quota), member.name, *map(cut_off, its), *map(write_fraction, its)])
+                lines.setdefault(at, []).append(find_index(kind).find(member))
         self.assertEqual(rows(run), wanted)
         root = ElementTree.parse(f"{TEMP}/a.svg").getroot()
         drawn = [[tuple(map(float, point.split(","))) for point in it.get("points").split()] for it in root.findall("{*}polyline")]
@@ -66,10 +69,10 @@ class Sweeps(Tests):
             rule = rng.randrange(len(rules))
             first, step = rng.randint(1, sum(rules[rule][1])), rng.randint(1, 4)
             last = first + step * ((sum(rules[rule][1]) - first) // step)
-            self.check_sweep(names, rules, rule, range(first, last + 1, step), rng.choice(["deegan_packel", "public_good"]))
+            self.check_sweep(names, rules, rule, range(first, last + 1, step), rng.choice([it.word() for it in INDICES]))
 
     def test_labels(self):
-        root = self.check_sweep(["Germany", "France", "Italy", "Belgium", "Netherlands", "Luxembourg"], [(12, [4, 4, 4, 2, 2, 1])], 0, range(1, 18), "public_good")
+        root = self.check_sweep(["Germany", "France", "Italy", "Belgium", "Netherlands", "Luxembourg"], [(12, [4, 4, 4, 2, 2, 1])], 0, range(1, 18), "public-good")
         self.assertEqual((texts(root, "member"), texts(root, "quota"), texts(root, "index")), (["Germany, France, Italy", "Belgium, Netherlands", "Luxembourg"], ["5", "10", "15"], ["0.00", "0.05", "0.10", "0.15", "0.20", "0.25"]))
         self.assertIn("public good index, by the quota (total 17)", [it.text for it in root.findall("{*}text")])
         leaders = [it for it in root.findall("{*}path") if it.get("class") == "leader"]
@@ -78,7 +81,7 @@ class Sweeps(Tests):
         self.assertEqual([it[1] for it in ends], [it.get("points").split()[-1].replace(",", " ") for it in root.findall("{*}polyline")])
         self.assertEqual([f"{float(it.get('y')) - 4:.2f}" for it in root.findall("{*}text") if it.get("class") == "member"], [it[2] for it in ends])
         # thirty lines can be told apart, and their labels do not touch
-        root = self.check_sweep([str(it) for it in range(1, 31)], [(40, list(range(1, 31)))], 0, range(440, 447), "public_good")
+        root = self.check_sweep([str(it) for it in range(1, 31)], [(40, list(range(1, 31)))], 0, range(440, 447), "public-good")
         styles = [(it.get("stroke"), it.get("stroke-dasharray")) for it in root.findall("{*}polyline")]
         self.assertTrue(len(set(styles)) == len(styles) > 20)
         places = sorted(float(it.get("y")) for it in root.findall("{*}text") if it.get("class") == "member")

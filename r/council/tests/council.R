@@ -26,6 +26,18 @@ stopifnot(
   identical(attr(parties, "title"), "T")
 )
 
+# swings, with the minimal winning coalitions and without
+six <- council(12, c(4, 4, 4, 2, 2, 1), swings = TRUE)
+only <- council(12, c(4, 4, 4, 2, 2, 1), only_swings = TRUE)
+stopifnot(
+  identical(names(only), c("name", "weight", "swings", "banzhaf", "penrose", "shapley_shubik", "banzhaf_exact", "penrose_exact", "shapley_shubik_exact")),
+  identical(names(six), c(names(board), names(only)[-(1:2)])), identical(as.list(six)[8:14], as.list(only)[3:9]),
+  identical(as.list(six)[3:7], as.list(council(12, c(4, 4, 4, 2, 2, 1)))[3:7]),
+  identical(only$swings, c(10, 10, 10, 6, 6, 0)), identical(only$banzhaf_exact, c(rep("5/21", 3), "1/7", "1/7", "0/1")),
+  identical(only$penrose, c(rep(5 / 16, 3), 3 / 16, 3 / 16, 0)), identical(only$shapley_shubik_exact, c(rep("7/30", 3), "3/20", "3/20", "0/1")),
+  identical(attr(six, "minimal"), 4), identical(attr(six, "winning"), 14), is.null(attr(only, "minimal")), identical(attr(only, "winning"), 14)
+)
+
 # what an error says
 said <- function(expr) tryCatch({ expr; "nothing" }, council_refused = function(it) "refused", error = conditionMessage)
 
@@ -165,7 +177,9 @@ silent <- script(file.path(here, "silent"), "exit 1")
 kept <- Sys.getenv(c("PATH", "COUNCIL_PROGRAM"))
 stopifnot(
   grepl("^--explain --tally /", refused(1, 1, program = words)$fault),
-  grepl("^--explain --list --most 4000000 /", refused(1, 1, coalitions = TRUE, program = words)$fault),
+  grepl("^--explain --list --most 4000000 --swings /", refused(1, 1, coalitions = TRUE, swings = TRUE, program = words)$fault),
+  grepl("^--explain --only-swings /", refused(1, 1, only_swings = TRUE, program = words)$fault),
+  said(council(1, 1, only_swings = TRUE, swings = TRUE)) == "only_swings = TRUE goes without swings = TRUE and coalitions = TRUE",
   identical(refused(1, 1, program = silent)$fault, "council ended with status 1"), identical(refused(1, 1, program = silent)$line, NA_integer_)
 )
 Sys.setenv(COUNCIL_PROGRAM = silent)

@@ -114,7 +114,8 @@ def write_table(games: Games, units: Sequence[Sequence[Unit]], indices: Sequence
         over += [str(at), f"{at} - 1"]
     briefs = [it.brief for it in indices]
     groups = [["weight", *briefs] if "-" not in it else briefs for it in over]
-    rows: Sequence[tuple[str, Sequence[Sequence[str]]]] = [("", groups)] + [(make_printable(name), list(make_cells(games, units, indices, name))) for name in names]
+    top = [[""] * (len(group) - 1) + [it] for it, group in zip(over, groups)]
+    rows: Sequence[tuple[str, Sequence[Sequence[str]]]] = [("", top), ("", groups)] + [(make_printable(name), list(make_cells(games, units, indices, name))) for name in names]
     # each group is as wide as its cells, whose columns are as wide as their longest text
     widths = [[max(measure(row[1][at][column]) for row in rows) for column in range(len(group))] for at, group in enumerate(groups)]
     first = max(measure(row[0]) for row in rows)
@@ -125,7 +126,6 @@ def write_table(games: Games, units: Sequence[Sequence[Unit]], indices: Sequence
             parts.append("  ".join(" " * (most - measure(it)) + it for it, most in zip(group, wide)))
         return "   ".join(parts).rstrip()
 
-    yield write_line("", [[""] * (len(group) - 1) + [it] for it, group in zip(over, groups)])
     for name, its in rows:
         yield write_line(name, its)
 
