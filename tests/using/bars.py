@@ -78,7 +78,6 @@ class Pictures(Tests):
         self.check_refused(Run("bars", "--game", game, input=stored("eec-1958")), f"{game}: this is not the game of the report", status=1)
         self.check_refused(Run("bars", "--game", put("no.toml", "x"), input=stored("eec-1958")), "this is no game file")
         self.check_refused(Run("bars", "--game", put("long.toml", "#" * 65537), input=stored("eec-1958")), "longer than 65536 bytes")
-        self.check_refused(Run("bars", "--game", put("brackets.txt", "[5; 4, 4]"), input=stored("eec-1958")), "this is not the game of the report")
         for places in "0", "13":
             self.check_refused(Run("bars", "--decimals", places, input=stored("eec-1958")), "--decimals", status=2)
         for data in "", "quota = 1\n", b"title\t\xff\n":

@@ -59,7 +59,6 @@ class Compare(Tests):
         run = Run("compare", "--game", path, "--game", path, data, data)
         self.assertTrue(run.out.startswith("1  A game: 50.1% of 100.0%, minimal") and run.out.count("82.3%") == 2, run.out)
         self.check_refused(Run("compare", "--game", path, data, data), "there are 2 reports, and 1 game files")
-        self.check_refused(Run("compare", "--game", path, "--game", path, data, example("board")), "not the game of the report")
 
     def test_widths(self):
         run = Run("compare", put("wide.tsv", report(write_game(["A", "e\u0301", "中Ｘ", "D"], [3], [[1]] * 4))), game("one", "A"))
@@ -77,7 +76,6 @@ class Compare(Tests):
         run = Run("compare", old, "--same", "Czechia", "Czech Republic", new)
         self.assertEqual((run.err, run.out.count("Czech")), ("", 1))
         self.assertEqual(Run("compare", game("both", "Iceland", "Iceland (1)"), old).err, "")
-        self.assertEqual(Run("compare", example("eu-27-nice"), example("eu-36-lisbon")).err, "")
 
     def test_options_can_be_pasted_into_a_shell(self):
         one = "members\t1\nquota\t1\ntotal\t1\nminimal\t1\nmember\tNAME\t1\t1\t1/1\t1.000000\t1/1\t1.000000\n"
@@ -92,8 +90,8 @@ class Compare(Tests):
     def test_what_is_refused(self):
         old, new = game("old", "Iceland", "Türkiye"), game("new", "Norway")
         for words, text in [
-            ([old], "name two reports or more"), (["-", "-"], "name two reports or more"), ([old, new, "--same", "Iceland", "Türkiye"], "one report has both"), ([old, new, "--same", "a", "b"], "no report has one of them"), (["--sam", old, new], "unrecognized"), ([], "REPORT"),
-            ([old, f"{TEMP}/none.tsv"], "No such file"), ([old, put("bad.tsv", "quota = 1\n")], "line 1 is no line"), ([old, put("half.tsv", stored("board")[:-20])], "half.tsv"),
+            ([old], "name two reports or more"), (["-", "-"], "name two reports or more"), ([old, new, "--same", "Iceland", "Türkiye"], "one report has both"), ([old, new, "--same", "a", "b"], "no report has one of them"),
+            ([old, put("half.tsv", stored("board")[:-20])], "half.tsv"),
         ]:
             self.check_refused(Run("compare", *words), text)
 

@@ -63,7 +63,6 @@ class Export(Tests):
             words = ["--columns", ",".join(["name", "weight", "share", *(it for group in made.groups for it in group.columns())]), *([] if places is None else ["--decimals", str(places)])]
             found = list(csv.reader(io.StringIO(Run("export", "csv", *words, input=data).out)))
             self.assertEqual(found[1:], self.find_cells(made, places, "csv"))
-            self.assertEqual(len(set(found[0])), len(found[0]))
             found = list(csv.reader(io.StringIO(Run("export", "csv", *words, "--decimal", ",", input=data).out), delimiter=";"))
             self.assertEqual([[it.replace(",", ".") for it in row] for row in found[1:]], self.find_cells(made, places, "csv"))
             # for people, four decimals if nobody says how many
@@ -106,7 +105,6 @@ class Export(Tests):
         for form, heading, row in [("csv", "name,weight,share", '"A",82.3,0.823000'), ("markdown", "| Member | Share \\& more | Share \\& more\\, share |", "| A | 82.3% | 0.8230 |"), ("latex", "Member & Share \\& more & Share \\& more, share \\\\", "A & 82.3\\% & 0.8230 \\\\")]:
             lines = Run("export", form, *words, input=report(game)).out.split("\n")
             self.assertTrue(heading in lines and row in lines, lines)
-        self.check_refused(Run("export", "csv", *words, input=stored("board")), "not the game of the report")
 
     def test_in_each_format(self):
         path = put("report.tsv", "\ufeff" + HARD)

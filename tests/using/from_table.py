@@ -48,13 +48,8 @@ class Cases(Tests):
 
 class Summary(Cases):
     def test_what_was_read(self):
-        run = self.check_game(["12"], EEC, [12], [4, 4, 4, 2, 2, 1])
-        self.assertEqual(run.err.split("\n"), [
-            "council-tools from-table: From a table, lines 2-7; 6 members: Germany 4, France 4, .., Luxembourg 1",
-            'council-tools from-table: Rule 1: "Votes"; column 2; total 17; the quota "12" is at least 12, 70.59% of the total',
-            "council-tools from-table: Not read: the heading, line 1", ""])
-        self.assertEqual(read("12", "--quiet", table=EEC).err, "")
-        self.assertEqual(read("12", "--quiet", table=EEC).out, run.out)
+        run, quiet = self.check_game(["12"], EEC, [12], [4, 4, 4, 2, 2, 1]), read("12", "--quiet", table=EEC)
+        self.assertEqual((quiet.out, quiet.err), (run.out, ""))
 
     def test_what_was_not_read(self):
         run = self.check_game(["7", "--name", "holder", "--weight", "votes", "--rows", "5-7", "--heading", "3", "--source", "a\n book", "--title", "T"],
@@ -190,9 +185,7 @@ class Refused(Cases):
     def test_names(self):
         for one, other in [("a", "A"), ("\xe9", "e\u0301"), ("A B", "A\u00a0B"), ("AB", "A\u200bB"), ("STRASSE", "straße"), ("A", "Ａ"), ("A", "A")]:
             self.check_refused(read("6", table=f"who,votes\n{one},5\n{other},4\nC,2\n"), "line 3: the name", "line 2", status=1)
-        self.check_refused(read("6", "--sum", table="who,votes\na,5\nA,4\nC,2\n"), "in other letters")
         self.check_refused(read("8", "--weight", "votes", table=PANEL), 'line 4: the name "A" is in line 2 too: say --only year=2014')
-        self.check_refused(read("8", table="who,votes\nA,5\nB,4\nA,2\n"), "--sum adds")
         for it in "é" * 33, "A\x07", "\u200b":
             self.check_refused(read("6", table=f"who,votes\n{it},5\nB,4\nC,2\n"), "line 2")
         cells = ['"' + it.replace('"', '""') + '"' for it in HOSTILE if it.strip() and not any(unicodedata.normalize("NFKC", it) == unicodedata.normalize("NFKC", other) != it for other in HOSTILE)]

@@ -75,9 +75,7 @@ class Sweeps(Tests):
         root = self.check_sweep(["Germany", "France", "Italy", "Belgium", "Netherlands", "Luxembourg"], [(12, [4, 4, 4, 2, 2, 1])], 0, range(1, 18), "public-good")
         self.assertEqual((texts(root, "member"), texts(root, "quota"), texts(root, "index")), (["Germany, France, Italy", "Belgium, Netherlands", "Luxembourg"], ["5", "10", "15"], ["0.00", "0.05", "0.10", "0.15", "0.20", "0.25"]))
         self.assertIn("public good index, by the quota (total 17)", [it.text for it in root.findall("{*}text")])
-        leaders = [it for it in root.findall("{*}path") if it.get("class") == "leader"]
-        self.assertEqual({(it.get("stroke"), it.get("stroke-width")) for it in leaders}, {("#999999", None)})
-        ends = [re.fullmatch(r"M(\S+ \S+)L\S+ (\S+)h12", it.get("d")) for it in leaders]
+        ends = [re.fullmatch(r"M(\S+ \S+)L\S+ (\S+)h12", it.get("d")) for it in root.findall("{*}path") if it.get("class") == "leader"]
         self.assertEqual([it[1] for it in ends], [it.get("points").split()[-1].replace(",", " ") for it in root.findall("{*}polyline")])
         self.assertEqual([f"{float(it.get('y')) - 4:.2f}" for it in root.findall("{*}text") if it.get("class") == "member"], [it[2] for it in ends])
         # thirty lines can be told apart, and their labels do not touch
@@ -99,8 +97,6 @@ class Sweeps(Tests):
         self.assertFalse(re.search("[\ufffe\uffff\u200b\u202e]", text) or "<script" in text)
         root = ElementTree.fromstring(text)
         self.assertTrue(all(float(it.get("x")) + measure(it.text, float(it.get("font-size"))) <= float(root.get("width")) + 1 for it in root.findall("{*}text") if it.get("text-anchor") == "start"))
-        self.assertEqual(sweep("-", "--picture", f"{TEMP}/a.svg", input='title = "  "\nquota = 1\nmember = [{name = "A", weight = 1}]\n').status, 0)
-        self.assertEqual(ElementTree.parse(f"{TEMP}/a.svg").getroot().find("{*}title").text, "A game")
 
     def test_units(self):
         """Quotas are in the unit of the game file, in the words, in the table and at the axis."""
@@ -117,21 +113,17 @@ class Sweeps(Tests):
         self.assertEqual(sweep(COUNCIL, "--from", "9").err, "")
         self.assertIn(f"quotas up to 8 are {LOW}, 17: two coalitions", sweep(COUNCIL).err)
         self.assertIn(f"quotas up to 2,000 of rule 2 are {LOW}, 4,000", sweep("--rule", "2", "--from", "1000", "--step", "1000", "-", input=write_game("AB", [1, 1, 1], [[1, 2000, 1]] * 2)).err)
-        self.assertEqual(sweep("-", "--to", "1", input=write_game("AB", [1, 1, 2], [[1, 1, 1]] * 2)).err, "")
         self.assertIn("a comma ends a weight", sweep("-", "--from", "51", input="[51; 1,000, 49, 1]").err)
 
     def test_what_is_refused(self):
         kept = put("kept.svg", "kept")
         for words, text in [
-            (["--to", "18"], "comes to 18, and must be from 1 to 17"), (["--from", "0"], "from 1 to 17"), (["--rule", "2"], "there is no rule 2: the game has 1"), (["--rule", "0"], "no rule 0"), (["--from", "5", "--to", "4"], "no quota from 5 to 4"), (["--step", "0"], "from 1 to 17"),
-            (["--from", "x"], '"x" is no number'), (["--index", "power"], "--index"), (["--to", "9" * 20], "from 1 to 17"),
+            (["--to", "18"], "comes to 18, and must be from 1 to 17"), (["--rule", "2"], "there is no rule 2: the game has 1"), (["--rule", "0"], "no rule 0"), (["--from", "5", "--to", "4"], "no quota from 5 to 4"), (["--step", "0"], "from 1 to 17"), (["--index", "power"], "--index"),
         ]:
             self.check_refused(sweep(COUNCIL, *words, "--picture", kept), text, status=2)
             self.assertEqual(open(kept, encoding="utf-8").read(), "kept")
         self.check_refused(sweep("-", input="[50000; 50000]"), "50,000 quotas, and 20,000 are the most", status=2)
-        self.check_refused(sweep(f"{TEMP}/none.toml"), "No such file", status=1)
         self.check_refused(sweep("-", input="quota = 9\nmember = [{name = 'A', weight = 1}]\n"), "council: quota out of range; line 1", status=3)
-        self.check_refused(Run("sweep", "--program", "no-such", COUNCIL), "no program of that name", status=1)
         self.check_refused(sweep(COUNCIL, "--from", "9", "--picture", f"{TEMP}/none/a.svg"), "No such file", status=1)
 
 
