@@ -42,7 +42,7 @@ class Compare(Tests):
         indices = [it for it in made[0].indices if not words or it.word() in words]
         self.assertEqual(len(indices), number)
         names = list(dict.fromkeys(it.name for one in made for it in one.members))
-        for name, line in zip(names, lines[6:]):
+        for name, line in zip(names, lines[7:]):
             cells, members = [], [next((it for it in one.members if it.name == name), None) for one in made]
             for at, it in enumerate(members):
                 cells += ["/".join(f"{weight:,}" for weight in it.weights), *(cut_off(index.find(it)) for index in indices)] if it else ["-"] * (number + 1)
@@ -50,7 +50,7 @@ class Compare(Tests):
                     pairs = [(cut_off(index.find(it)), cut_off(index.find(members[0]))) for index in indices] if it and members[0] else []
                     cells += [f"{float(Fraction(one) - Fraction(other)):+.6f}".replace("+0.000000", "0.000000") for one, other in pairs] or ["-"] * number
             self.assertEqual(line.split(), [*name.split(), *cells])
-        self.assertEqual((len(lines), len({measure_width(it) for it in lines[4:]})), (6 + len(names), 1))
+        self.assertEqual((len(lines), len({measure_width(it) for it in lines[5:]})), (7 + len(names), 1))
         return lines
 
     def test_units(self):
@@ -62,7 +62,7 @@ class Compare(Tests):
 
     def test_widths(self):
         run = Run("compare", put("wide.tsv", report(write_game(["A", "e\u0301", "中Ｘ", "D"], [3], [[1]] * 4))), game("one", "A"))
-        self.assertEqual(len({measure_width(it) for it in run.out.split("\n")[4:-1]}), 1)
+        self.assertEqual(len({measure_width(it) for it in run.out.split("\n")[5:-1]}), 1)
         run = Run("compare", put("hard.tsv", report(hostile_game())), put("several.tsv", report(hostile_game(3))))
         self.assertTrue(all(it in run.out for it in HOSTILE if it.isprintable()) and all(it.isprintable() or it == "\n" for it in run.out))
 

@@ -150,7 +150,7 @@ def main(args: list[str]) -> None:
             raise Fault(f"--same {quote_for_shell(first)} {quote_for_shell(other)}: no report has one of them", 2)
     for at, it in enumerate(reports, 1):
         print(f"{at}  {make_printable(it.heading())}: {write_weights(it.quotas, units[at - 1])} of {write_weights(it.totals, units[at - 1])}, {', '.join(f'{what}: {number:,}' for what, number in it.count_coalitions())}")
-    print()
+    print("indices and differences: six decimals, cut off\n")
     for line in write_table(games, units, indices):
         print(line)
     warn(games)

@@ -246,6 +246,7 @@ def write_section(report: Section, at: int, level: int) -> Iterator[str]:
     yield from write_quotas(report, units)
     yield from write_source(report)
     yield from write_table(report, units)
+    yield '<p class="soft">Indices are cut off after six decimals, as in the report; shares, and the numbers at bars, are rounded to four.</p>'
     yield "<h2>The indices beside the shares of the votes</h2>"
     yield from write_bars(report, units)
     yield from write_coalitions(report)
@@ -293,9 +294,8 @@ def write_page(reports: Sequence[Section], version: Optional[str]) -> Iterator[s
     kinds = dict.fromkeys(group.column for report in reports for group in report.shown_groups())
     yield f"<footer><h2>What the indices are</h2><p>{' '.join([*(KINDS[it] for it in kinds), *(ABOUT[it.name][0] for it in shown)])}</p>"
     at_hand = f"The program at hand when this page was made: {escape_xml(version)}." if version else "Which version of it made the report this page cannot tell."
-    yield (f"<h2>How they were computed</h2><p>By the program <code>council</code>, which counts the coalitions and gives the indices as exact fractions. {at_hand} "
-           "In the table they are cut off after six decimals, as in the report, so a column of shares may add up to less than 1; shares of the votes, and the numbers "
-           "at bars, are rounded to four.</p><h2>Sources</h2><ul>")
+    yield f"<h2>How they were computed</h2><p>By the program <code>council</code>, which counts the coalitions and gives the indices as exact fractions. {at_hand}</p>"
+    yield "<h2>Sources</h2><ul>"
     yield "".join(f"<li>{source}</li>" for it in shown for source in ABOUT[it.name][1])
     yield f"</ul></footer></main><script>{SCRIPT}</script></body></html>"
 
