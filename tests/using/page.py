@@ -128,7 +128,7 @@ class Pages(Tests):
 
     def test_the_version_of_the_program(self):
         data, cannot = f"{TOP}/examples/eec-1958.tsv", "this page cannot tell."
-        for text, wanted in [("printf 'council 9 <\\377\\n\\nx'", "was made: council 9 &lt;\ufffd, x. "), ("echo council 9\nexit 1", cannot), ("echo counsel 9", cannot), ("echo noise >&2\ncat\necho council 9", "was made: council 9. ")]:
+        for text, wanted in [("printf 'council 9 <\\377\\n\\nx'", "was made: council 9 &lt;\ufffd, x."), ("echo council 9\nexit 1", cannot), ("echo counsel 9", cannot), ("echo noise >&2\ncat\necho council 9", "was made: council 9.")]:
             path = put("version", f"#!/bin/sh\n{text}\n")
             os.chmod(path, 0o755)
             self.assertIn(wanted, Run("page", "--program", path, data).out)
