@@ -7,7 +7,7 @@ import io
 import itertools
 import math
 from fractions import Fraction
-from typing import TYPE_CHECKING, Any, Callable, Iterable, Iterator, NamedTuple, NoReturn, Optional, Tuple
+from typing import TYPE_CHECKING, Any, Callable, Iterable, Iterator, NamedTuple, NoReturn, Optional
 
 from .columns import FORMS, MINIMAL, SWINGS, Group, Index
 
@@ -23,7 +23,7 @@ class Fault(Exception):
         self.status = status
 
 
-class Member(Tuple[Any, ...]):
+class Member(tuple[Any, ...]):
     """A member of a game, as a named tuple of the columns that its report has.
 
     `weights` has a number for each rule, `coalitions` is the number of minimal winning coalitions
