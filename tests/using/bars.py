@@ -64,7 +64,7 @@ class Pictures(Tests):
         self.assertEqual(shown, [f"share of the votes, rule {it}" for it in ("1; quota 255 of 345 (73.91%)", "2; quota 620 of 1,000 (62%)", "3; quota 14 of 27 (51.85%)")])
         game = Run("from-table", "85%", "heads:2", input="Holder,Share held\nA,16.50%\nB,40.25%\nC,43.25%\n").out
         _, bars, texts = draw(report(game, "--swings"), "--game", put("game.toml", game), "--index", "penrose")
-        self.assertEqual([it.text for it in texts][1:4], ['share of "Share held", rule 1; quota 85.00% of 100.00%', 'share of "heads", rule 2; quota 2 of 3 (66.67%)', "Penrose's measure (does not add up to 1)"])
+        self.assertEqual([it.text for it in texts][1:4], ['share of "Share held", rule 1; quota 85.00% of 100.00%', 'share of "heads", rule 2; quota 2 of 3 (66.67%)', "Penrose's measure (not a share)"])
         self.assertEqual(len(bars), 9)
 
     def test_titles(self):

@@ -105,11 +105,11 @@ class Browser(Tests):
     @classmethod
     def setUpClass(cls):
         fund = Run("from-table", "85%", "heads:3", "--source", "a report & more", "--title", "A fund", input=FUND).out
-        games = {**{name: open(f"{TOP}/examples/{file}.toml", encoding="utf-8").read() for name, file in [("one rule", "eec-1958"), ("two rules", "eu-27-lisbon")]}, "four rules": hostile_game(4), "names and units": fund}
+        games = {**{name: open(f"{TOP}/examples/{file}.toml", encoding="utf-8").read() for name, file in [("one rule", "eec-1958"), ("two rules", "eu-27-lisbon"), ("swings", "un-security-council")]}, "four rules": hostile_game(4), "names and units": fund}
         cls.pages, cls.pictures = {}, {}
-        sweeps = {"one rule": [], "two rules": ["--rule", "2", "--from", "14"], "four rules": ["--from", "60", "--to", "66"], "names and units": ["--from", ">50%", "--step", "1"]}
+        sweeps = {"one rule": [], "two rules": ["--rule", "2", "--from", "14"], "four rules": ["--from", "60", "--to", "66"], "names and units": ["--from", ">50%", "--step", "1"], "swings": ["--from", "39", "--index", "penrose"]}
         for name, game in games.items():
-            path, data = put("game.toml", game), put("game.tsv", report(game))
+            path, data = put("game.toml", game), put("game.tsv", report(game, *["--swings"] * (name == "swings")))
             cls.pages[name] = Run("page", "--program", PROGRAM, "--game", path, data).out
             cls.pictures[f"bars, {name}"] = Run("bars", "--game", path, data).out
             Run("sweep", "--program", PROGRAM, path, *sweeps[name], "--picture", f"{TEMP}/sweep.svg")
@@ -137,7 +137,7 @@ class Browser(Tests):
         self.assertTrue(it["wide"] <= most <= width, "something is wider than the window")
         self.assertTrue(all(cell["left"] >= 0 and cell["right"] <= most and cell["seen"] for cell in first[:3]) and max(it["last"]) <= most, "the name or an index is out of sight")
         self.assertTrue(after[0]["left"] == first[0]["left"] and after[0]["seen"] and after[-1]["seen"] and after[-1]["right"] <= most and after[0]["right"] <= after[-1]["left"], "after scrolling, the name or the last column is out of sight")
-        self.assertTrue(width < 1280 or name == "four rules" or all(cell["seen"] and cell["right"] <= most for cell in first), "a column is out of sight")
+        self.assertTrue(width < 1280 or name in ("four rules", "swings") or all(cell["seen"] and cell["right"] <= most for cell in first), "a column is out of sight")
         self.assertTrue(all(bar["value"][1] <= most and bar["bar"][1] <= bar["value"][0] and bar["value"][1] - bar["value"][0] > 15 for bar in it["bars"]), "a bar has no number")
         self.assertTrue(all(are_apart(one["value"], other["bar"]) and are_apart(one["value"], other["value"]) for one, other in zip(it["bars"], it["bars"][1:])), "a number touches a bar")
         self.assertGreaterEqual(min(measure_difference(one, other) for one, other in combinations(it["colors"], 2)), 20)

@@ -53,7 +53,7 @@ MINIMAL = Group("minimal", "minimal winning coalitions", "coalitions", "Coalitio
 ))
 SWINGS = Group("winning", "winning coalitions", "swings", "Swings", (
     Index("banzhaf", "Banzhaf", "Banzhaf index", "Bz", "#a8264d", "#f0577f"),
-    Index("penrose", "Penrose", "Penrose's measure (does not add up to 1)", "Pm", "#3b3bc0", "#7a7aff", adds_up=False),
+    Index("penrose", "Penrose", "Penrose's measure (not a share)", "Pm", "#3b3bc0", "#7a7aff", adds_up=False),
     Index("shapley_shubik", "Shapley-Shubik", "Shapley-Shubik index", "SS", "#1a7f94", "#45c4d8"),
 ))
 INDICES = [*MINIMAL.indices, *SWINGS.indices]

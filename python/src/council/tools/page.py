@@ -105,7 +105,7 @@ ABOUT = {
     "banzhaf": ("The <b>Banzhaf index</b> is the member's share of the swings of all members (Banzhaf 1965).", [
         "J. F. Banzhaf (1965): Weighted Voting Doesn't Work: A Mathematical Analysis. <i>Rutgers Law Review</i> 19(2), 317-343."]),
     "penrose": ("<b>Penrose's measure</b> is the probability of a swing of the member if each other member votes yes or no with equal chances (Penrose 1946). "
-                "It is no share: those of all members do not add up to 1.", [
+                "It is not a share: those of all members need not add up to 1.", [
         "L. S. Penrose (1946): The Elementary Statistics of Majority Voting. <i>Journal of the Royal Statistical Society</i> 109(1)."]),
     "shapley_shubik": ("The <b>Shapley-Shubik index</b> is the probability that the member is the one who makes a coalition win, if members join it one after "
                        "the other and each order is as likely as another (Shapley and Shubik 1954).", [
