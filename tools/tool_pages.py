@@ -116,7 +116,7 @@ def write_manual() -> Iterator[str]:
     yield from [".SH \"EXIT STATUS\"", ".TP", ".B 0", "The tool is done."]
     yield from [".TP", ".B 1", "A file could not be read or written, has another form, or leaves a question that an option answers."]
     yield from [".TP", ".B 2", "The command line is wrong."]
-    yield from [".TP", ".B 3, 4", "The program refused a game."]
+    yield from [".TP", ".B 3, 4, 6", "The program refused a game."]
     yield from [".TP", ".B 5", "Memory ran out."]
     yield from [".SH \"SEE ALSO\"", ".BR council (1),", ".IR docs/GUIDE.md ."]
 

@@ -25,6 +25,7 @@ import re
 import shutil
 import sys
 import tempfile
+import textwrap
 import unicodedata
 from fractions import Fraction
 from typing import Iterable, Iterator, Optional, Sequence
@@ -150,13 +151,13 @@ def write_latex(report: Report, columns: Sequence[Column], places: Optional[int]
             # where this TeX has no such letter, its number
             name = f"u8:\\detokenize{{{letter}}}\\endcsname"
             yield f"\\ifcsname {name}\\else\\expandafter\\def\\csname {name}{{[U+{ord(letter):04X}]}}\\fi"
-    # many columns fit a page in a smaller font, with headings of two lines
+    # many columns fit a page in a smaller font, with headings of several lines
     is_wide = len(columns) > 5
     size = "\\scriptsize" if len(columns) < 9 else "\\tiny"
     yield (f"{{{size}\\tabcolsep=2pt" if is_wide else "") + "\\begin{tabular}{" + "".join("l" if it.kind == "name" else "r" for it in columns) + "}"
     yield "\\toprule"
-    titles = [escape_latex(it.title()) for it in columns]
-    yield " & ".join("\\shortstack[r]{" + it.replace(", ", ",\\\\") + "}" if is_wide and ", " in it else it for it in titles) + " \\\\"
+    titles = [textwrap.wrap(it.title(), 9 if is_wide else 1000, break_long_words=False) for it in columns]
+    yield " & ".join("\\shortstack[r]{" * (len(its) > 1) + "\\\\".join(map(escape_latex, its)) + "}" * (len(its) > 1) for its in titles) + " \\\\"
     yield "\\midrule"
     for member in report.members:
         cells = []
