@@ -123,11 +123,12 @@ class Export(Tests):
     def test_latex_prints_it(self):
         if not shutil.which("pdflatex"):
             self.skipTest("this machine has no pdflatex")
-        for at, (data, columns) in enumerate([(HARD, "name,weight,public_good"), (SEVERAL, "name,weight,share,coalitions,deegan_packel_exact,public_good_exact")]):
+        three = stored("eu-27-nice")
+        for at, (data, columns) in enumerate([(HARD, "name,weight,public_good"), (SEVERAL, "name,weight,share,coalitions,deegan_packel_exact,public_good_exact"), (three, "name,weight,deegan_packel,public_good")]):
             table = Run("export", "latex", "--columns", columns, input=data).out
             put(f"{at}.tex", "\\documentclass{article}\n\\usepackage{booktabs}\n\\usepackage[T1]{fontenc}\n\\begin{document}\n" + table + "\\end{document}\n")
             ran = subprocess.run(["pdflatex", "-interaction=nonstopmode", "-halt-on-error", f"{at}.tex"], cwd=TEMP, capture_output=True, timeout=120)
-            told = [it for it in ran.stdout.decode("utf-8", "replace").split("\n") if it.startswith("!") or "Missing character" in it]
+            told = [it for it in ran.stdout.decode("utf-8", "replace").split("\n") if it.startswith("!") or "Missing character" in it or (data == three and "Overfull" in it)]
             if "not found" in "".join(told):
                 self.skipTest("the TeX of this machine lacks a package")
             self.assertEqual((ran.returncode, told), (0, []))

@@ -152,9 +152,9 @@ def write_latex(report: Report, columns: Sequence[Column], places: Optional[int]
             name = f"u8:\\detokenize{{{letter}}}\\endcsname"
             yield f"\\ifcsname {name}\\else\\expandafter\\def\\csname {name}{{[U+{ord(letter):04X}]}}\\fi"
     # many columns fit a page in a smaller font, with headings of several lines
-    is_wide = len(columns) > 5
-    size = "\\scriptsize" if len(columns) < 9 else "\\tiny"
-    yield (f"{{{size}\\tabcolsep=2pt" if is_wide else "") + "\\begin{tabular}{" + "".join("l" if it.kind == "name" else "r" for it in columns) + "}"
+    is_wide = len(columns) > 4
+    size = "\\scriptsize\\tabcolsep=2pt" if len(columns) < 8 else "\\tiny\\tabcolsep=1pt"
+    yield (f"{{{size}" if is_wide else "") + "\\begin{tabular}{" + "".join("l" if it.kind == "name" else "r" for it in columns) + "}"
     yield "\\toprule"
     titles = [textwrap.wrap(it.title(), 9 if is_wide else 1000, break_long_words=False) for it in columns]
     yield " & ".join("\\shortstack[r]{" * (len(its) > 1) + "\\\\".join(map(escape_latex, its)) + "}" * (len(its) > 1) for its in titles) + " \\\\"
