@@ -32,8 +32,7 @@ class Published(Tests):
             self.assertEqual({(it.coalitions, it.deegan_packel_exact, it.public_good_exact) for it in members}, {(number, index, index)})
 
     def test_swings(self):
-        """The Security Council (Shapley and Shubik 1954), the Six of 1958, and a vote given away (Felsenthal and
-        Machover 1998)."""
+        """The Security Council, the Six of 1958, and a vote that is given away."""
         council = read(report(open(f"{TOP}/examples/un-security-council.toml", encoding="utf-8").read(), "--only-swings"))
         self.assertEqual({it.shapley_shubik_exact for it in council.members[:5]} | {it.shapley_shubik_exact for it in council.members[5:]}, {Fraction(421, 2145), Fraction(4, 2145)})
         six = read(report("[12; 4, 4, 4, 2, 2, 1]", "--swings"))
