@@ -2,9 +2,9 @@
 
     council-tools bars [OPTIONS] [REPORT] >PICTURE.svg
 
-Each member has a bar for its share under each rule, and one for each index that the report has. No name is cut. With
-the game file, --game FILE, the picture has the names of the rules, and quotas in the unit of the
-table.
+Each member has a bar for its share under each rule, and one for each index that the report has. No
+name is cut. With the game file, --game FILE, the picture has the names of the rules, and quotas in
+the unit of the table.
 """
 from __future__ import annotations
 

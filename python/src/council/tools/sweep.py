@@ -5,9 +5,10 @@
 GAME is a game file; without one, or as -, it is standard input. The table has a line for each
 quota and member, with the columns quota, name, deegan_packel and public_good (decimals, cut off
 after six), deegan_packel_exact and public_good_exact (fractions), separated by TABs. If --index
-names one that rests on swings, it has the columns of these indices instead. Without --from and --to it goes from 1 to the total of the rule. A QUOTA is in the unit of the game file, as 50.5, or
-a share of the total, as 50% or 2/3; so is --step. Lines are written as they are computed. --picture
-draws a line for each member; members whose lines are the same share one.
+names one that rests on swings, the table has the columns of these indices instead. Without --from
+and --to it goes from 1 to the total of the rule. A QUOTA is in the unit of the game file, as 50.5,
+or a share of the total, as 50% or 2/3; so is --step. Lines are written as they are computed.
+--picture draws a line for each member; members whose lines are the same share one.
 """
 from __future__ import annotations
 
