@@ -5,8 +5,9 @@
 Each game has its weights and its indices, cut off after six decimals, and each but the first also
 the differences of these to the first. DP and PG are the Deegan-Packel and the public good index, Bz
 Banzhaf's, Pm Penrose's measure, and SS that of Shapley and Shubik. A dash means that a game does
-not have the member. Members are matched by their exact names. You are warned of two names that look alike if only one game has each of them: --same makes
-them one. With --game FILE, once for each report, weights are in the unit of their game file.
+not have the member. Members are matched by their exact names. You are warned of two names that look
+alike if only one game has each of them: --same makes them one. With --game FILE, once for each
+report, weights are in the unit of their game file.
 """
 from __future__ import annotations
 
