@@ -9,8 +9,8 @@ it, and one [[member]] header for each member. It checks nothing else: it is for
 right. Plain Python 3, whole numbers and exact fractions alone.
 
 It enumerates the coalitions. With --polynomials it lists none: it counts those of a game of one rule, or of two
-of which one gives each member the same weight, by the terms of generating functions. Swings are counted over
-all sets of members, those of the same sums in one number.
+of which one gives each member the same weight, by the terms of generating functions. Swings are counted
+over all sets of members, those of the same sums at once.
 
 The reports of examples/ were made by it, and are made again, in some minutes, by
 
@@ -165,8 +165,8 @@ def counted(game):
 
 
 def sets_of(weighed, quotas):
-    """For all sums of these members' weights, each cut at its quota, how many sets have them: a number with
-    64 binary digits for each size."""
+    """How many sets of members have which sums of weights, each cut at its quota: a number with 64
+    binary digits for each size."""
     sets = {(0,) * len(quotas): 1}
     for own in weighed:
         for sums, number in list(sets.items()):
@@ -176,7 +176,7 @@ def sets_of(weighed, quotas):
 
 
 def swings_of(game):
-    """How many coalitions win, and for each member how many of each size win with it, and lose without it."""
+    """How many coalitions win, and how many of each size are a swing of each member."""
     quotas = tuple(quota for quota, _ in game.rules)
     members = range(len(game.names))
     # members of the same weights, as far as they matter, have the same swings

@@ -148,8 +148,8 @@ def file_of(game):
 
 
 def by_every_subset(game):
-    """The minimal winning coalitions as sorted lists of ranks, how many coalitions win, and each member's swings by
-    size, told from all subsets."""
+    """The minimal winning coalitions as sorted lists of ranks, how many coalitions win, and each
+    member's swings by size, from all subsets."""
     members = len(game.names)
     weights = [[of[i] for i in game.ranked] for _, of in game.rules]
 
