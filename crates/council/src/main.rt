@@ -5,16 +5,18 @@
 ghost use Rattle.std.specs.Prelude.{◌≡◌};
 ghost use Rattle.council_file.specs.Reads.{Reads};
 ghost use Rattle.council_report.specs.Outcome.{Writes};
-ghost use Rattle.council_report.specs.Report.{report};
+ghost use Rattle.council_run.specs.Columns.{limit_with, report_of};
 ghost use Rattle.council_run.specs.Run.{IsOutcome};
-ghost use Rattle.council_run.specs.Plans.{is_too_many, limit_of, lines_of_plan};
+ghost use Rattle.council_run.specs.Plans.{is_too_many, lines_of_plan};
 
 use council_base::{Gate, Plan, Recorder, Sink, Source, sanitize};
 use council_explain::{explain, remark_on_quotas, remark_on_thousands};
 use council_file::parse_game;
 use council_game::GameFault;
 use council_progress::{Line, Progress, Wiping};
-use council_run::{Cause, LEAST_BITS, RunFault, number_by_states, run_by, status};
+use council_run::{
+    Cause, Columns, LEAST_BITS, MOST_STATES, RunFault, number_by_states, run_by, status,
+};
 use council_words::{Arguments, collect_words, parse_arguments};
 use mwc_gather::GatherFault;
 use mwc_walk::slice_count;
@@ -33,6 +35,9 @@ fn print_fault(rt: &impl Eprint, fault: RunFault) -> ExitCode {
     ExitCode::from(status(&fault))
 }
 
+/// What helps against too many states.
+const WITHOUT_SWINGS: &str = "--tally may still count the minimal winning coalitions";
+
 /// Says more of a fault, if there is more to say; the bytes are those that were read.
 fn explain_further(rt: &(impl Eprint + AllocGlobal), cause: Cause, bytes: &[u8]) {
     match cause {
@@ -49,6 +54,9 @@ fn explain_further(rt: &(impl Eprint + AllocGlobal), cause: Cause, bytes: &[u8])
                 "  --tally counts any number of them, and --most takes up to 4000000"
             );
         }
+        Cause::States => {
+            let _ = eprintln!(rt; "  they take more than {MOST_STATES} states; {WITHOUT_SWINGS}");
+        }
         Cause::Gather(_) | Cause::Write | Cause::Memory => {}
     }
 }
@@ -59,6 +67,7 @@ fn hint(rt: &impl Eprint, cause: Cause) {
         Cause::Game(GameFault::Memory) => return,
         Cause::Game(_) => "--explain says where, and what is allowed",
         Cause::Gather(GatherFault::TooMany) => "--tally counts any number of them",
+        Cause::States => WITHOUT_SWINGS,
         Cause::Gather(_) | Cause::Write | Cause::Memory => return,
     };
     let _ = eprintln!(rt; "  {line}");
@@ -97,16 +106,28 @@ fn report_unopened(
     ExitCode::from(1)
 }
 
+/// Returns which numbers the arguments ask for.
+fn columns_of(arguments: &Arguments<'_>) -> Columns {
+    if arguments.only_swings {
+        Columns::Swings
+    } else if arguments.swings {
+        Columns::Both
+    } else {
+        Columns::Minimal
+    }
+}
+
 /// Runs as the arguments ask.
 fn execute<R: AllocGlobal + Threads + Wait + Sync, I: Source, G: Gate + Sync, W: Sink>(
     rt: &R,
     arguments: &Arguments<'_>,
+    columns: Columns,
     reader: &mut I,
     gate: &G,
     writer: &mut W,
 ) -> Result<u64, RunFault>
-    ensures { IsOutcome (report (lines_of_plan arguments.now.plan arguments.now.options))
-        (limit_of arguments.now.plan arguments.now.options.most (is_too_many result))
+    ensures { IsOutcome (report_of columns (lines_of_plan arguments.now.plan arguments.now.options))
+        (limit_with columns arguments.now.plan arguments.now.options.most (is_too_many result))
         (Reads I.left I.is_read reader.old reader.new)
         (λ text. Writes W.held W.is_write W.is_flush text writer.old writer.new)
         (writer.new ≡ writer.old) result }
@@ -119,6 +140,7 @@ fn execute<R: AllocGlobal + Threads + Wait + Sync, I: Source, G: Gate + Sync, W:
         gate,
         writer,
         arguments.plan,
+        columns,
     )
 }
 
@@ -175,7 +197,8 @@ fn run_on<R: AllocGlobal + Print + Eprint + Clock + Threads + Wait + Sync, I: So
         line: Line(&progress),
         writer: io::writer(rt),
     };
-    let outcome = execute(rt, arguments, &mut reader, &progress, &mut writer);
+    let columns = columns_of(arguments);
+    let outcome = execute(rt, arguments, columns, &mut reader, &progress, &mut writer);
     progress.wipe();
     report_outcome(rt, arguments, terminal, outcome, reader.bytes())
 }

@@ -28,7 +28,7 @@ fn write_length(
     requires { IsFound game.now lines found.now }
     ensures { IfOk result (λ len. len ≡ length (report lines game.now)) }
 {
-    match found.write(alloc, game, lines, &mut io::sink()) {
+    match found.write(alloc, game, None, lines, &mut io::sink()) {
         Ok(length) => Ok(length),
         // memory: a sink takes every write, so a report into one stops for nothing else
         Err(_) => Err(Memory),
@@ -49,7 +49,7 @@ fn put_report(
     ensures kept { OnErr result (room.new ≡ room.old) }
 {
     let mut page = Page::new(alloc, room.len());
-    let length = match found.write(alloc, game, lines, &mut page) {
+    let length = match found.write(alloc, game, None, lines, &mut page) {
         Ok(length) => length,
         Err(ReportFault::Write { .. }) if page.bytes().len() == room.len() => {
             write_length(alloc, game, found, lines)?

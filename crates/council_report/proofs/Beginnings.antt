@@ -77,7 +77,7 @@ fields-none g = refl
 
 pub fields-fit : (g : GameView) → IsGame g → (c k : ℕ) → k ≤ 40 → length (fields_of g (places_before (length g.names) c k)) ≤ 3400
 unfolding fields_of
-fields-fit g game c k few = grind (arith, nat_tests, with_tab-fits, each-field, name-fits, length-map, before-few)
+fields-fit g game c k few = grind (arith, nat_tests, with_tab-fits 84, each-field, name-fits, length-map, before-few)
 
 -- ---- the weights
 weights-append : (g : GameView) (r : ℕ) (ps qs : List ℕ)

@@ -8,4 +8,5 @@ mod Beginnings
 pub mod SharedLines
 mod Differences
 mod FromCounts
+mod Fields
 mod Imports

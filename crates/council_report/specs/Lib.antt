@@ -1,8 +1,10 @@
 pub use Rattle.council_game.specs.Game
 pub use Rattle.council_game.specs.Votes
 pub use Rattle.power_index.specs.Tables
+pub use Rattle.swings.specs.Swings
 pub mod Lines
 pub mod Report
+pub mod SwingLines
 pub mod Sending
 pub mod Outcome
 pub mod Inner

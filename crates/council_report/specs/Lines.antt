@@ -76,8 +76,6 @@ size_line g s count count_of_member = if count == 0 then [] else
 abbrev pub index_fields : ℕ × ℕ → List (List ℕ)
 index_fields p = (decimal p.0 ++ 47 ∷ decimal p.1) ∷ decimals p ∷ []
 
--- member i: name, weights, how many coalitions contain it, and its two indices
-unfoldable pub member_line : GameView → ℕ → ℕ → ℕ × ℕ → ℕ × ℕ → List ℕ
-member_line g i count deegan_packel public_good =
-    line (codes "member")
-    (name_of g i ∷ with_slashes (weights_of_member g i) ∷ decimal count ∷ index_fields deegan_packel ++ index_fields public_good)
+-- member i: its name, its weights, and its other fields
+unfoldable pub member_line : GameView → ℕ → List (List ℕ) → List ℕ
+member_line g i fields = line (codes "member") (name_of g i ∷ with_slashes (weights_of_member g i) ∷ fields)

@@ -1,19 +1,25 @@
 //! The lines of what was counted: one for each size, and one for each member.
-ghost use Rattle.std.specs.Prelude.{◌++◌, ◌<◌, ◌≤◌, ◌∷◌, length, map, decimal};
+ghost use Rattle.std.specs.Prelude.{◌≡◌, ◌++◌, ◌<◌, ◌≤◌, ◌∷◌, length, map, decimal, []};
 ghost use Rattle.std.specs.List.{flat_map};
+ghost use Rattle.std.specs.Option.{option_map_or};
+ghost use Rattle.council_game.specs.Game.{GameView, IsGame};
 ghost use Rattle.power_index.specs.Counting.{members};
-ghost use Rattle.power_index.specs.Tables.{table_of_member, table_of_member_size, table_deegan_packel, table_public_good};
-ghost use Rattle.power_index.specs.Fractions.{IsIndex, lowest_terms, pair_of};
-ghost use Rattle.council_report.specs.Lines.{with_tab, with_slashes, name_of, weights_of_member, index_fields};
+ghost use Rattle.power_index.specs.Tables.{table_of_member_size, table_total};
+ghost use Rattle.power_index.specs.Fractions.{IsIndex, pair_of};
+ghost use Rattle.swings.specs.Swings.{AreWinningCounts};
+ghost use Rattle.council_report.specs.Lines.{with_tab, with_slashes, weights_of_member, index_fields};
+ghost use Rattle.council_report.specs.SwingLines.{added_fields, swing_fields};
 ghost use Rattle.council_report.specs.Inner.Ready.{AppendsInRoom};
-ghost use Rattle.council_report.specs.Inner.Lines.{line_of_size, line_of_member};
+ghost use Rattle.council_report.specs.Inner.Numbers.{AreSomeCounts};
+ghost use Rattle.council_report.specs.Inner.Lines.{fields_of, fields_of_counts, line_of_size, line_of_member};
 
-use crate::game_counts::GameCounts;
+use crate::game_numbers::GameNumbers;
 use crate::output::Block;
 use crate::text::{push_field, push_number, push_values};
 use council_game::Game;
 use itoa::Buffer;
 use power_index::{Counts, Fraction, deegan_packel, public_good};
+use swings::{Swings, banzhaf, penrose, shapley_shubik};
 
 /// A field `top/bottom`.
 fn push_fraction(out: &mut Block, fraction: Fraction)
@@ -35,40 +41,33 @@ fn push_index(out: &mut Block, index: Fraction)
 }
 
 /// For each member, how many coalitions of a size contain it.
-fn push_counts(out: &mut Block, counted: &GameCounts<'_>, size: usize)
-    requires { size ≤ counted.now.members }
-    ensures { AppendsInRoom out.old out.new (flat_map with_tab (map (λ i. decimal
-        (table_of_member_size counted.now.counts.now i size)) (members counted.now.game.now))) }
+fn push_counts(out: &mut Block, counts: &Counts, size: usize)
+    requires { size ≤ counts.now.members }
+    ensures { (g : GameView) → length g.names ≡ counts.now.members → AppendsInRoom out.old out.new
+        (flat_map with_tab (map (λ i. decimal (table_of_member_size counts.now i size)) (members g))) }
 {
-    for member in 0..counted.members {
-        push_number(out, counted.counts.wide_of_member_size(member, size));
+    for member in 0..counts.members() {
+        push_number(out, counts.wide_of_member_size(member, size));
     }
 }
 
 /// `size`, a size, how many coalitions have it, and how many of those contain each member; no line
 /// if none has it.
 #[tactic(auto, unfolding(crate::specs::Lines::size_line))]
-pub(crate) fn push_size(out: &mut Block, counted: &GameCounts<'_>, size: usize)
-    requires { size ≤ counted.now.members }
-    ensures { AppendsInRoom out.old out.new (line_of_size counted.now size) }
+pub(crate) fn push_size(out: &mut Block, counts: &Counts, size: usize)
+    requires { size ≤ counts.now.members }
+    ensures { (g : GameView) → length g.names ≡ counts.now.members → AppendsInRoom out.old out.new
+        (line_of_size g counts.now size) }
 {
-    let count = counted.counts.wide_of_size(size);
+    let count = counts.wide_of_size(size);
     if count == 0 {
         return;
     }
     out.push(b"size");
     push_number(out, size as u64);
     push_number(out, count);
-    push_counts(out, counted, size);
+    push_counts(out, counts, size);
     out.push(b"\n");
-}
-
-/// How many coalitions contain a member.
-fn push_count(out: &mut Block, counts: &Counts, member: usize)
-    requires { member < counts.now.members }
-    ensures { AppendsInRoom out.old out.new (with_tab (decimal (table_of_member counts.now member))) }
-{
-    push_number(out, counts.wide_of_member(member));
 }
 
 /// The weights of a member, one for each rule.
@@ -79,38 +78,70 @@ fn push_weights(out: &mut Block, game: &Game, member: usize)
     push_values(out, game.rules(), |r| game.rule_weight(r, member));
 }
 
-/// A member's name, its weights, and how many coalitions contain it.
-fn push_member_counts(out: &mut Block, counted: &GameCounts<'_>, member: usize)
-    requires { member < counted.now.members }
-    ensures { AppendsInRoom out.old out.new (with_tab (name_of counted.now.game.now member)
-        ++ with_tab (with_slashes (weights_of_member counted.now.game.now member))
-        ++ with_tab (decimal (table_of_member counted.now.counts.now member))) }
+/// How many coalitions contain a member, and its two indices.
+fn push_count_fields(out: &mut Block, counts: &Counts, member: usize)
+    requires member { member < counts.now.members }
+    requires some { 1 ≤ table_total counts.now }
+    ensures { AppendsInRoom out.old out.new (flat_map with_tab (fields_of_counts counts.now member)) }
 {
-    let game = counted.game;
-    push_field(out, game.name(member).as_bytes());
-    push_weights(out, game, member);
-    push_count(out, counted.counts, member);
+    push_number(out, counts.wide_of_member(member));
+    push_index(out, deegan_packel(counts, member));
+    push_index(out, public_good(counts, member));
 }
 
-/// Both indices of a member.
-fn push_indices(out: &mut Block, counted: &GameCounts<'_>, member: usize)
-    requires { member < counted.now.members }
+/// A member's swings, its Banzhaf index, Penrose's measure, and its Shapley-Shubik index.
+#[tactic(auto, unfolding(crate::specs::SwingLines::swing_fields))]
+fn push_swing_fields(out: &mut Block, swings: &Swings, member: usize)
+    requires { member < swings.now.members }
+    ensures { (g : GameView) → IsGame g → AreWinningCounts g swings.now
+        → AppendsInRoom out.old out.new (flat_map with_tab (swing_fields g member)) }
+{
+    push_number(out, swings.of_member(member));
+    push_index(out, banzhaf(swings, member));
+    push_index(out, penrose(swings, member));
+    push_index(out, shapley_shubik(swings, member));
+}
+
+/// The fields of a member from the counts, if there are any.
+fn push_counted(out: &mut Block, numbers: &GameNumbers<'_>, member: usize)
+    requires { member < length numbers.now.game.now.names }
     ensures { AppendsInRoom out.old out.new (flat_map with_tab
-        (index_fields (lowest_terms (table_deegan_packel counted.now.counts.now member))
-        ++ index_fields (lowest_terms (table_public_good counted.now.counts.now member)))) }
+        (option_map_or (λ c. fields_of_counts c.now member) numbers.now.counts [])) }
 {
-    push_index(out, deegan_packel(counted.counts, member));
-    push_index(out, public_good(counted.counts, member));
+    if let Some(counts) = numbers.counts {
+        push_count_fields(out, counts, member);
+    }
 }
 
-/// `member`, a name, its weights, how many coalitions contain it, and its two indices.
+/// The fields of a member from the swings, if there are any.
+fn push_added(out: &mut Block, numbers: &GameNumbers<'_>, member: usize)
+    requires { member < length numbers.now.game.now.names }
+    ensures { AppendsInRoom out.old out.new (flat_map with_tab
+        (added_fields numbers.now.game.now numbers.now.swings member)) }
+{
+    if let Some(swings) = numbers.swings {
+        push_swing_fields(out, swings, member);
+    }
+}
+
+/// The fields of a member from what was counted.
+fn push_fields(out: &mut Block, numbers: &GameNumbers<'_>, member: usize)
+    requires { member < length numbers.now.game.now.names }
+    ensures { AppendsInRoom out.old out.new (flat_map with_tab (fields_of numbers.now member)) }
+{
+    push_counted(out, numbers, member);
+    push_added(out, numbers, member);
+}
+
+/// `member`, a name, its weights, and the fields of what was counted.
 #[tactic(auto, unfolding(crate::specs::Lines::member_line))]
-pub(crate) fn push_member(out: &mut Block, counted: &GameCounts<'_>, member: usize)
-    requires { member < counted.now.members }
-    ensures { AppendsInRoom out.old out.new (line_of_member counted.now member) }
+pub(crate) fn push_member(out: &mut Block, numbers: &GameNumbers<'_>, member: usize)
+    requires { member < length numbers.now.game.now.names }
+    ensures { AppendsInRoom out.old out.new (line_of_member numbers.now member) }
 {
     out.push(b"member");
-    push_member_counts(out, counted, member);
-    push_indices(out, counted, member);
+    push_field(out, numbers.game.name(member).as_bytes());
+    push_weights(out, numbers.game, member);
+    push_fields(out, numbers, member);
     out.push(b"\n");
 }

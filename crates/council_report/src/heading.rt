@@ -5,10 +5,15 @@ ghost use Rattle.council_game.specs.Votes.{rule_at};
 ghost use Rattle.council_game.specs.Notation.{notation};
 ghost use Rattle.council_report.specs.Inner.Ready.{AppendsText};
 ghost use Rattle.council_report.specs.Lines.{notation_line};
-ghost use Rattle.council_report.specs.Report.{heading, notation_lines};
+ghost use Rattle.council_report.specs.Inner.Lines.{heading_of, minimal_lines};
+ghost use Rattle.council_report.specs.Report.{game_lines, notation_lines};
+ghost use Rattle.council_report.specs.SwingLines.{winning_lines};
 
 use crate::ReportLines;
-use crate::lines::{push_members, push_minimal, push_quota, push_title, push_total};
+use crate::game_numbers::GameNumbers;
+use crate::lines::{
+    push_count, push_members, push_quota, push_title, push_total, push_winning_count,
+};
 use crate::output::Block;
 use council_game::{Game, write_notation};
 
@@ -41,14 +46,40 @@ fn push_notations(out: &mut Block, game: &Game, shown: ReportLines)
     }
 }
 
-/// The lines before those of the `count` coalitions.
-pub(crate) fn push_heading(out: &mut Block, game: &Game, count: u64, shown: ReportLines)
-    ensures { AppendsText out.old out.new (heading shown game.now count) }
+/// `minimal`, the number of minimal winning coalitions, if they were counted.
+fn push_minimal(out: &mut Block, numbers: &GameNumbers<'_>)
+    ensures { AppendsText out.old out.new (minimal_lines numbers.now) }
+{
+    if let Some(counts) = numbers.counts {
+        push_count(out, counts.wide_total());
+    }
+}
+
+/// `winning`, the number of winning coalitions, if there are swings.
+fn push_winning(out: &mut Block, numbers: &GameNumbers<'_>)
+    ensures { AppendsText out.old out.new (winning_lines numbers.now.game.now numbers.now.swings) }
+{
+    if let Some(swings) = numbers.swings {
+        push_winning_count(out, swings);
+    }
+}
+
+/// The lines of the game itself.
+fn push_game(out: &mut Block, game: &Game, shown: ReportLines)
+    ensures { AppendsText out.old out.new (game_lines shown game.now) }
 {
     push_title(out, game);
     push_members(out, game);
     push_quota(out, game);
     push_total(out, game);
     push_notations(out, game, shown);
-    push_minimal(out, count);
+}
+
+/// The lines before those of coalitions, sizes and members.
+pub(crate) fn push_heading(out: &mut Block, numbers: &GameNumbers<'_>, shown: ReportLines)
+    ensures { AppendsText out.old out.new (heading_of shown numbers.now) }
+{
+    push_game(out, numbers.game, shown);
+    push_minimal(out, numbers);
+    push_winning(out, numbers);
 }

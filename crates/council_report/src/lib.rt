@@ -7,7 +7,7 @@
 
 mod count_lines;
 mod fault;
-mod game_counts;
+mod game_numbers;
 mod heading;
 mod lines;
 mod output;
@@ -21,4 +21,4 @@ mod text;
 
 pub use council_base::ReportLines;
 pub use fault::ReportFault;
-pub use report::{write_report, write_report_of, write_tally};
+pub use report::{write_report, write_report_of, write_swings, write_tally};

@@ -1,11 +1,15 @@
 //! The lines of a report, one function for each kind.
 ghost use Rattle.std.specs.Prelude.{◌≡◌, ◌<◌, Some};
 ghost use Rattle.council_report.specs.Inner.Ready.{AppendsText};
+ghost use Rattle.council_game.specs.Game.{GameView};
+ghost use Rattle.swings.specs.Swings.{AreWinningCounts};
 ghost use Rattle.council_report.specs.Lines.{title_line, members_line, quota_line, total_line, minimal_line};
+ghost use Rattle.council_report.specs.SwingLines.{winning_line};
 
 use crate::output::Block;
 use crate::text::{push_field, push_number, push_values};
 use council_game::Game;
+use swings::Swings;
 
 /// `title`, the title; no line if there is none.
 #[tactic(auto, unfolding(crate::specs::Lines::title_line))]
@@ -52,10 +56,20 @@ pub(crate) fn push_total(out: &mut Block, game: &Game)
 
 /// `minimal`, the number of minimal winning coalitions.
 #[tactic(auto, unfolding(crate::specs::Lines::minimal_line))]
-pub(crate) fn push_minimal(out: &mut Block, count: u64)
+pub(crate) fn push_count(out: &mut Block, count: u64)
     ensures { AppendsText out.old out.new (minimal_line count) }
 {
     out.push(b"minimal");
     push_number(out, count);
+    out.push(b"\n");
+}
+
+/// `winning`, the number of winning coalitions.
+#[tactic(auto, unfolding(crate::specs::SwingLines::winning_line))]
+pub(crate) fn push_winning_count(out: &mut Block, swings: &Swings)
+    ensures { (g : GameView) → AreWinningCounts g swings.now → AppendsText out.old out.new (winning_line g) }
+{
+    out.push(b"winning");
+    push_number(out, swings.winning());
     out.push(b"\n");
 }

@@ -1,12 +1,14 @@
 //! A report, written whole.
-ghost use Rattle.std.specs.Prelude.{◌≡◌, ◌+◌, ◌≤◌, ◌^◌, true, false, ℕ, List, length, IfOk, IfErr, OnOk};
+ghost use Rattle.std.specs.Prelude.{◌≡◌, ◌++◌, ◌+◌, ◌≤◌, ◌^◌, true, false, ℕ, List, length, IfOk, IfErr, IfSome, OnOk};
 ghost use Rattle.council_base.specs.Lists.{joined};
 ghost use Rattle.council_base.specs.declared.limits.TheConstants.{MEMBERS, COALITIONS};
 ghost use Rattle.council_game.specs.Game.{votes_of, AreNonemptyCoalitions, IsGame};
 ghost use Rattle.council_game.specs.Votes.{minimal_coalitions};
 ghost use Rattle.power_index.specs.Tables.{AreCounts};
-ghost use Rattle.council_report.specs.Inner.Lines.{lines_of, lines_of_sizes};
-ghost use Rattle.council_report.specs.Report.{coalition_lines, report, report_over};
+ghost use Rattle.council_report.specs.Inner.Lines.{heading_of, lines_of, lines_of_sizes};
+ghost use Rattle.council_report.specs.Report.{coalition_lines, report_over, report_with};
+ghost use Rattle.council_report.specs.SwingLines.{added_fields, swings_report, winning_lines};
+ghost use Rattle.swings.specs.Swings.{AreWinningCounts};
 ghost use Rattle.council_report.specs.Inner.SharedLine.{IsReadyLine};
 ghost use Rattle.council_report.specs.Inner.Written.{Ends, progress_of};
 ghost use Rattle.council_report.specs.Inner.Ready.{HasRoom, IsReady, CanCount};
@@ -16,7 +18,7 @@ ghost use Rattle.council_report.specs.Sending.{Sending};
 
 use crate::ReportLines;
 use crate::fault::ReportFault;
-use crate::game_counts::GameCounts;
+use crate::game_numbers::{GameNumbers, are_some_counts};
 use crate::heading::push_heading;
 use crate::output::{Block, WriteFault};
 use crate::shared_line::SharedLine;
@@ -26,6 +28,7 @@ use council_game::{Coalition, Game};
 use power_index::Counts;
 use power_index::laws::minimal_coalitions_can_be_counted;
 use std::alloc::Global;
+use swings::Swings;
 
 /// A line for each coalition, if they are shown.
 fn put_shown_coalitions<W: Sink>(
@@ -54,18 +57,17 @@ fn put_shown_coalitions<W: Sink>(
 fn put_shown_sizes<W: Sink>(
     block: &mut Block,
     writer: &mut W,
-    counted: &GameCounts<'_>,
+    numbers: &GameNumbers<'_>,
     shown: ReportLines,
 ) -> Result<(), WriteFault>
     requires ready { IsReady block.old }
-    requires counted { CanCount block.old (lines_of_sizes shown counted.now) }
-    ensures { WritesText (Sending W.is_write W.is_flush) (lines_of_sizes shown counted.now)
+    requires counted { CanCount block.old (lines_of_sizes shown numbers.now) }
+    ensures { WritesText (Sending W.is_write W.is_flush) (lines_of_sizes shown numbers.now)
         writer.old block.old writer.new block.new result }
 {
-    if shown.sizes {
-        put_sizes(block, writer, counted)
-    } else {
-        Ok(())
+    match numbers.counts {
+        Some(counts) if shown.sizes => put_sizes(block, writer, numbers.game, counts),
+        _ => Ok(()),
     }
 }
 
@@ -74,43 +76,74 @@ fn put_shown_sizes<W: Sink>(
 fn put_lines<W: Sink>(
     block: &mut Block,
     writer: &mut W,
-    counted: &GameCounts<'_>,
+    numbers: &GameNumbers<'_>,
     pieces: &[&[Coalition]],
     line: &mut SharedLine,
     shown: ReportLines,
 ) -> Result<(), WriteFault>
-    requires coalitions { AreNonemptyCoalitions counted.now.game.now (joined pieces.now) }
-    requires line { IsReadyLine counted.now.game.now line.old }
+    requires coalitions { AreNonemptyCoalitions numbers.now.game.now (joined pieces.now) }
+    requires line { IsReadyLine numbers.now.game.now line.old }
     requires ready { IsReady block.old }
-    requires counted { CanCount block.old (lines_of shown counted.now (joined pieces.now)) }
-    ensures { WritesText (Sending W.is_write W.is_flush) (lines_of shown counted.now (joined pieces.now))
+    requires counted { CanCount block.old (lines_of shown numbers.now (joined pieces.now)) }
+    ensures { WritesText (Sending W.is_write W.is_flush) (lines_of shown numbers.now (joined pieces.now))
         writer.old block.old writer.new block.new result }
 {
-    put_shown_coalitions(block, writer, counted.game, pieces, line, shown)?;
-    put_shown_sizes(block, writer, counted, shown)?;
-    put_members(block, writer, counted)
+    put_shown_coalitions(block, writer, numbers.game, pieces, line, shown)?;
+    put_shown_sizes(block, writer, numbers, shown)?;
+    put_members(block, writer, numbers)
 }
 
 /// The lines after the heading, and the flush.
 fn send<W: Sink>(
     mut block: Block,
     writer: &mut W,
-    counted: &GameCounts<'_>,
+    numbers: &GameNumbers<'_>,
     pieces: &[&[Coalition]],
     line: &mut SharedLine,
     shown: ReportLines,
 ) -> Result<u64, WriteFault>
-    requires coalitions { AreNonemptyCoalitions counted.now.game.now (joined pieces.now) }
-    requires line { IsReadyLine counted.now.game.now line.old }
+    requires coalitions { AreNonemptyCoalitions numbers.now.game.now (joined pieces.now) }
+    requires line { IsReadyLine numbers.now.game.now line.old }
     requires room { HasRoom block }
     requires kept { block.refused ≡ false }
-    requires counted { CanCount block (lines_of shown counted.now (joined pieces.now)) }
+    requires counted { CanCount block (lines_of shown numbers.now (joined pieces.now)) }
     ensures { Ends (Sending W.is_write W.is_flush) (progress_of writer.old block)
-        (lines_of shown counted.now (joined pieces.now)) (end_of result) writer.new }
+        (lines_of shown numbers.now (joined pieces.now)) (end_of result) writer.new }
 {
     block.settle(writer)?;
-    put_lines(&mut block, writer, counted, pieces, line, shown)?;
+    put_lines(&mut block, writer, numbers, pieces, line, shown)?;
     block.finish(writer)
+}
+
+/// Writes the lines of what is there.
+///
+/// The coalitions lie in pieces, and need be there only if they are shown.
+fn write_numbers<W: Sink>(
+    alloc: Global,
+    numbers: &GameNumbers<'_>,
+    pieces: &[&[Coalition]],
+    shown: ReportLines,
+    writer: &mut W,
+) -> Result<u64, ReportFault>
+    requires few { shown.list ≡ true → length (joined pieces.now) ≤ 2 ^ MEMBERS }
+    requires coalitions { AreNonemptyCoalitions numbers.now.game.now (joined pieces.now) }
+    ensures { Writes W.held W.is_write W.is_flush
+        (heading_of shown numbers.now ++ lines_of shown numbers.now (joined pieces.now))
+        writer.old writer.new result }
+{
+    let mut block = Block::new(alloc)?;
+    push_heading(&mut block, numbers, shown);
+    if block.refused {
+        // memory: for a line of the heading it was refused
+        return Err(ReportFault::Memory);
+    }
+    let mut line = SharedLine::new(alloc, numbers.game)?;
+    match send(block, writer, numbers, pieces, &mut line, shown) {
+        Ok(count) => Ok(count),
+        Err(fault) => Err(ReportFault::Write {
+            written: fault.written,
+        }),
+    }
 }
 
 /// Writes the report of a game over a list of its coalitions with these counts. The list need be
@@ -121,41 +154,36 @@ fn write_over<W: Sink>(
     game: &Game,
     pieces: &[&[Coalition]],
     counts: &Counts,
+    swings: Option<&Swings>,
     shown: ReportLines,
     writer: &mut W,
 ) -> Result<u64, ReportFault>
     ghost list: { List ℕ }
     requires some { IsGame game.now → 1 ≤ length list }
+    requires few { length (joined pieces.now) ≤ 2 ^ MEMBERS }
     requires pieces { shown.list ≡ true → joined pieces.now ≡ list }
     requires coalitions { AreNonemptyCoalitions game.now (joined pieces.now) }
     requires counts { AreCounts game.now list counts.now }
-    ensures { Writes W.held W.is_write W.is_flush (report_over shown game.now list)
+    requires swings { IfSome swings (λ s. AreWinningCounts game.now s.now) }
+    ensures { Writes W.held W.is_write W.is_flush
+        (report_with (winning_lines game.now swings.entry) (added_fields game.now swings.entry) shown game.now list)
         writer.old writer.new result }
 {
-    let mut block = Block::new(alloc)?;
-    push_heading(&mut block, game, counts.wide_total(), shown);
-    if block.refused {
-        // memory: for a line of the heading it was refused
-        return Err(ReportFault::Memory);
-    }
-    let mut line = SharedLine::new(alloc, game)?;
-    let counted = GameCounts {
+    game.was_checked();
+    are_some_counts(game, counts);
+    let numbers = GameNumbers {
         game,
-        members: counts.members(),
-        counts,
+        counts: Some(counts),
+        swings,
     };
-    match send(block, writer, &counted, pieces, &mut line, shown) {
-        Ok(count) => Ok(count),
-        Err(fault) => Err(ReportFault::Write {
-            written: fault.written,
-        }),
-    }
+    write_numbers(alloc, &numbers, pieces, shown, writer)
 }
 
 /// Writes the report of a game over pieces of a list, and flushes once.
 ///
 /// The list has 1 to 2^40 coalitions of the game, none of them empty. Its pieces are in its order,
-/// and its counts are known already. The answer is the number of bytes.
+/// and its counts are known already. If there are swings, they are shown too. The answer is the
+/// number of bytes.
 ///
 /// No byte goes out before all memory is there.
 ///
@@ -167,6 +195,7 @@ pub fn write_report_of<W: Sink>(
     game: &Game,
     pieces: &[&[Coalition]],
     counts: &Counts,
+    swings: Option<&Swings>,
     shown: ReportLines,
     writer: &mut W,
 ) -> Result<u64, ReportFault>
@@ -174,16 +203,19 @@ pub fn write_report_of<W: Sink>(
     requires few { length (joined pieces.now) ≤ 2 ^ MEMBERS }
     requires coalitions { AreNonemptyCoalitions game.now (joined pieces.now) }
     requires counts { AreCounts game.now (joined pieces.now) counts.now }
-    ensures { Writes W.held W.is_write W.is_flush (report_over shown game.now (joined pieces.now))
-        writer.old writer.new result }
+    requires swings { IfSome swings (λ s. AreWinningCounts game.now s.now) }
+    ensures { Writes W.held W.is_write W.is_flush
+        (report_with (winning_lines game.now swings.entry) (added_fields game.now swings.entry)
+        shown game.now (joined pieces.now)) writer.old writer.new result }
 {
-    write_over(alloc, game, pieces, counts, shown, writer)
+    write_over(alloc, game, pieces, counts, swings, shown, writer)
 }
 
 /// Writes the report of a game from counts, and flushes once.
 ///
 /// The counts are those of its minimal winning coalitions, however many there are. The report has
-/// no line for a coalition. The answer is the number of bytes.
+/// no line for a coalition. If there are swings, they are shown too. The answer is the number of
+/// bytes.
 ///
 /// No byte goes out before all memory is there.
 ///
@@ -194,16 +226,53 @@ pub fn write_tally<W: Sink>(
     alloc: Global,
     game: &Game,
     counts: &Counts,
+    swings: Option<&Swings>,
     shown: ReportLines,
     writer: &mut W,
 ) -> Result<u64, ReportFault>
     requires without_list { shown.list ≡ false }
     requires counts { AreCounts game.now (minimal_coalitions (votes_of game.now)) counts.now }
-    ensures { Writes W.held W.is_write W.is_flush (report shown game.now)
-        writer.old writer.new result }
+    requires swings { IfSome swings (λ s. AreWinningCounts game.now s.now) }
+    ensures { Writes W.held W.is_write W.is_flush
+        (report_with (winning_lines game.now swings.entry) (added_fields game.now swings.entry)
+        shown game.now (minimal_coalitions (votes_of game.now))) writer.old writer.new result }
 {
     minimal_coalitions_can_be_counted();
-    write_over(alloc, game, &[], counts, shown, writer)
+    write_over(alloc, game, &[], counts, swings, shown, writer)
+}
+
+/// Writes the report of a game's swings alone, and flushes once.
+///
+/// Of the optional lines only the notation is shown. The answer is the number of bytes.
+///
+/// No byte goes out before all memory is there.
+///
+/// # Errors
+///
+/// As for `write_report`.
+pub fn write_swings<'a, W: Sink>(
+    alloc: Global,
+    game: &'a Game,
+    swings: &'a Swings,
+    shown: ReportLines,
+    writer: &mut W,
+) -> Result<u64, ReportFault>
+    requires { AreWinningCounts game.now swings.now }
+    ensures { Writes W.held W.is_write W.is_flush (swings_report shown game.now)
+        writer.old writer.new result }
+{
+    game.was_checked();
+    let numbers = GameNumbers {
+        game,
+        counts: None,
+        swings: Some(swings),
+    };
+    let shown = ReportLines {
+        list: false,
+        sizes: false,
+        notation: shown.notation,
+    };
+    write_numbers(alloc, &numbers, &[], shown, writer)
 }
 
 /// Writes the report of a game over a list, and flushes once.
@@ -232,5 +301,5 @@ pub fn write_report<W: Sink>(
         writer.old writer.new result }
 {
     let counts = Counts::of(game, list);
-    write_report_of(alloc, game, &[list], &counts, shown, writer)
+    write_report_of(alloc, game, &[list], &counts, None, shown, writer)
 }

@@ -3,18 +3,20 @@ ghost use Rattle.std.specs.Prelude.{◌<◌, ◌≤◌, ◌^◌, length, All, On
 ghost use Rattle.std.specs.List.{flat_map, range_with_len};
 ghost use Rattle.council_game.specs.Game.{AreNonemptyCoalitions};
 ghost use Rattle.council_report.specs.Lines.{coalition_line};
-ghost use Rattle.council_report.specs.Inner.Lines.{line_of_size, line_of_member, lines_of_members};
+ghost use Rattle.council_report.specs.Inner.Lines.{line_of_size, line_of_member, lines_of_members, sizes_of_counts};
+ghost use Rattle.council_report.specs.Inner.Numbers.{AreSomeCounts};
 ghost use Rattle.council_report.specs.Inner.SharedLine.{IsReadyLine};
 ghost use Rattle.council_report.specs.Inner.Ready.{IsReady, CanCount};
 ghost use Rattle.council_report.specs.Inner.Writing.{WritesText};
 ghost use Rattle.council_report.specs.Sending.{Sending};
 
 use crate::count_lines::{push_member, push_size};
-use crate::game_counts::GameCounts;
+use crate::game_numbers::GameNumbers;
 use crate::output::{Block, WriteFault};
 use crate::shared_line::SharedLine;
 use council_base::Sink;
 use council_game::{Coalition, Game};
+use power_index::Counts;
 
 /// A line for each coalition, in the order of the list, whichever that is.
 pub(crate) fn put_coalitions<W: Sink>(
@@ -66,16 +68,17 @@ pub(crate) fn put_pieces<W: Sink>(
 pub(crate) fn put_sizes<W: Sink>(
     block: &mut Block,
     writer: &mut W,
-    counted: &GameCounts<'_>,
+    game: &Game,
+    counts: &Counts,
 ) -> Result<(), WriteFault>
+    requires counts { AreSomeCounts game.now counts.now }
     requires ready { IsReady block.old }
-    requires counted { CanCount block.old
-        (flat_map (line_of_size counted.now) (range_with_len 1 counted.now.members)) }
-    ensures { WritesText (Sending W.is_write W.is_flush) (flat_map (line_of_size counted.now) (range_with_len 1 counted.now.members))
+    requires counted { CanCount block.old (sizes_of_counts game.now counts.now) }
+    ensures { WritesText (Sending W.is_write W.is_flush) (sizes_of_counts game.now counts.now)
         writer.old block.old writer.new block.new result }
 {
-    for size in 1..counted.members + 1 {
-        push_size(block, counted, size);
+    for size in 1..game.members() + 1 {
+        push_size(block, counts, size);
         block.settle(writer)?;
     }
     Ok(())
@@ -85,15 +88,15 @@ pub(crate) fn put_sizes<W: Sink>(
 pub(crate) fn put_members<W: Sink>(
     block: &mut Block,
     writer: &mut W,
-    counted: &GameCounts<'_>,
+    numbers: &GameNumbers<'_>,
 ) -> Result<(), WriteFault>
     requires ready { IsReady block.old }
-    requires counted { CanCount block.old (lines_of_members counted.now) }
-    ensures { WritesText (Sending W.is_write W.is_flush) (lines_of_members counted.now)
+    requires counted { CanCount block.old (lines_of_members numbers.now) }
+    ensures { WritesText (Sending W.is_write W.is_flush) (lines_of_members numbers.now)
         writer.old block.old writer.new block.new result }
 {
-    for member in 0..counted.members {
-        push_member(block, counted, member);
+    for member in 0..numbers.game.members() {
+        push_member(block, numbers, member);
         block.settle(writer)?;
     }
     Ok(())

@@ -7,7 +7,9 @@ use Rattle.council_game.specs.declared.fault.GameFault.TheVariants as game
 use Rattle.council_report.specs.declared.fault.ReportFault.{ReportFault}
 use Rattle.council_report.specs.declared.fault.ReportFault.TheVariants as report
 use Rattle.mwc_gather.specs.declared.fault.GatherFault.TheVariants as gather
+use Rattle.council_run.specs.Columns.{IsNoFinding}
 use Rattle.council_run.specs.Found.{Finds, IsNotFound}
+use Rattle.council_run.specs.declared.columns.Columns.{Columns}
 use Rattle.council_run.specs.Plans.{is_cause_many, is_too_many, limit_of}
 use Rattle.council_run.specs.Run.{IsWithin, Stops}
 use Rattle.council_run.specs.declared.fault.Cause.{Cause}
@@ -30,11 +32,20 @@ not-found-either most g (cause.Gather gather.TooMany) h = h
 not-found-either most g (cause.Gather fault) h = tt
 not-found-either most g cause.Write h = absurd h
 not-found-either most g cause.Memory h = tt
+not-found-either most g cause.States h = absurd h
 
 pub finds-either : (most : ℕ) (lines : ReportLines) (g : GameView) (r : Result Found RunFault) → Finds (Some most) lines g r
     → Finds (limit_of plan.Either most (is_too_many r)) lines g r
 finds-either most lines g (Ok found) h = (tt, h.1)
 finds-either most lines g (Err fault) h = (not-found-either most g fault.cause h.0, h.1)
+
+-- if coalitions were not found, that is why not all was
+pub no-finding : (columns : Columns) (limit : Option ℕ) (g : GameView) (why : Cause) → IsNotFound limit g why → IsNoFinding columns limit g why
+no-finding columns limit g (cause.Game fault) h = h
+no-finding columns limit g (cause.Gather fault) h = h
+no-finding columns limit g cause.Write h = h
+no-finding columns limit g cause.Memory h = h
+no-finding columns limit g cause.States h = absurd h
 
 module _ (text : GameView → List ℕ) (limit : Option ℕ) (Read : Result GameView GameFault → Type 0)
     (Write : List ℕ → Result ℕ ReportFault → Type 0) (Kept : Type 0) where
@@ -43,14 +54,15 @@ module _ (text : GameView → List ℕ) (limit : Option ℕ) (Read : Result Game
   stops-game game.Memory kept read = (refl, kept)
   stops-game fault kept read = (refl, kept, read)
 
-  -- its coalitions were not found
-  pub stops-found : (g : GameView) (why : Cause) (n : ℕ) → n ≡ 0 → Kept → Read (Ok g) → IsNotFound limit g why
+  -- what it shows was not found
+  pub stops-found : (columns : Columns) (g : GameView) (why : Cause) (n : ℕ) → n ≡ 0 → Kept → Read (Ok g) → IsNoFinding columns limit g why
       → Stops text limit Read Write Kept why n
-  stops-found g (cause.Game fault) n none kept read h = absurd h
-  stops-found g (cause.Gather gather.TooMany) n none kept read h = (none, kept, (g, read, h))
-  stops-found g (cause.Gather fault) n none kept read h = (none, kept)
-  stops-found g cause.Write n none kept read h = absurd h
-  stops-found g cause.Memory n none kept read h = (none, kept)
+  stops-found columns g (cause.Game fault) n none kept read h = absurd h
+  stops-found columns g (cause.Gather gather.TooMany) n none kept read h = (none, kept, (g, read, h))
+  stops-found columns g (cause.Gather fault) n none kept read h = (none, kept)
+  stops-found columns g cause.Write n none kept read h = absurd h
+  stops-found columns g cause.Memory n none kept read h = (none, kept)
+  stops-found columns g cause.States n none kept read h = (none, kept)
 
   -- its report was not written
   pub stops-report : (g : GameView) (why : ReportFault) (e : RunFault) → (why ≡ report.Memory → e ≡ record { cause = cause.Memory; written = 0 })

@@ -38,6 +38,7 @@ IsNotFound limit g (cause.Game fault) = ⊥
 IsNotFound limit g (cause.Gather gather.TooMany) = IsWithin limit g → ⊥
 IsNotFound limit g (cause.Gather fault) = ⊤
 IsNotFound limit g cause.Write = ⊥
+IsNotFound limit g cause.States = ⊥
 IsNotFound limit g cause.Memory = ⊤
 
 -- what finding them returns: if it fails, nothing was written

@@ -2,3 +2,4 @@ pub mod Status
 pub mod Run
 pub mod Found
 pub mod Plans
+pub mod Columns

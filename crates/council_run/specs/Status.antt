@@ -13,6 +13,7 @@ status_of (cause.Gather gather.TooMany) = 4
 status_of (cause.Gather fault) = 5
 status_of cause.Write = 5
 status_of cause.Memory = 5
+status_of cause.States = 6
 
 -- the number of a cause
 abbrev pub number_of : Cause → ℕ
@@ -20,3 +21,4 @@ number_of (cause.Game fault) = 1
 number_of (cause.Gather fault) = 2
 number_of cause.Write = 3
 number_of cause.Memory = 4
+number_of cause.States = 5

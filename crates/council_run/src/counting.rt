@@ -1,16 +1,18 @@
 //! Counting the coalitions of a game, and keeping none: by states, and if these are too many, by
 //! worker threads or by one walk.
-ghost use Rattle.std.specs.Prelude.{◌≡◌, IfErr, IfOk, IfSome, None, false};
+ghost use Rattle.std.specs.Prelude.{◌≡◌, ◌⊎◌, IfErr, IfOk, IfSome, None, false};
 ghost use Rattle.council_base.specs.declared.report_lines.ReportLines.{ReportLines};
 ghost use Rattle.council_run.specs.Found.{Finds, IsWorkersFault};
+ghost use Rattle.council_run.specs.declared.fault.Cause.TheVariants as cause;
 ghost use Rattle.power_index.specs.Tables.{AreCountsOfGame};
+ghost use Rattle.swings.specs.Swings.{AreWinningCounts};
 
-use crate::fault::RunFault;
+use crate::fault::{Cause, RunFault};
 use crate::found::{Coalitions, Found, on_heap};
 use crate::order::choose_game;
 use council_base::{Gate, Memory, NoGate, Options};
 use council_game::Game;
-use mwc_states::count_by_states;
+use mwc_states::{count_by_states, count_swings};
 use mwc_tally::{TallyFault, tally, tally_slice};
 use mwc_walk::laws::one_slice_is_the_whole;
 use power_index::Counts;
@@ -18,6 +20,7 @@ use power_index::laws::tallies_are_counts;
 use std::alloc::Global;
 use std::sync::Wait;
 use std::thread::Threads;
+use swings::Swings;
 
 /// The most states by which a game is counted. With four times as many hardly another game is.
 pub const MOST_STATES: usize = 1 << 22;
@@ -48,6 +51,26 @@ pub fn count_states<G: Gate>(
 {
     let ordered = game.by_contribution(alloc)?;
     count_by_states(alloc, choose_game(game, &ordered), room, gate)
+}
+
+/// Counts the swings of a game's members by states.
+///
+/// It decides the members in the order of what they contribute. The gate hears of each member that
+/// is decided.
+///
+/// # Errors
+///
+/// Out of memory, or States if there are more than `MOST_STATES`.
+pub(crate) fn find_swings<G: Gate>(alloc: Global, game: &Game, gate: &G) -> Result<Swings, RunFault>
+    ensures counts { IfOk result (λ swings. AreWinningCounts game.now swings) }
+    ensures fails { IfErr result (λ fault. ((fault.cause ≡ cause.Memory) ⊎ (fault.cause ≡ cause.States))
+        × (fault.written ≡ 0)) }
+{
+    let ordered = game.by_contribution(alloc)?;
+    match count_swings(alloc, choose_game(game, &ordered), MOST_STATES, gate)? {
+        Some(swings) => Ok(swings),
+        None => Err(RunFault::early(Cause::States)),
+    }
 }
 
 /// Counts all coalitions of a game by worker threads behind a gate.

@@ -28,6 +28,9 @@ pub enum Cause {
     /// A growth was refused.
     #[error("out of memory")]
     Memory,
+    /// The swings of the game take more than `MOST_STATES` states.
+    #[error("too many states for the swings")]
+    States,
 }
 
 /// Why a run stopped, and how many bytes the writer took. Only after `Write` it may have taken
@@ -39,7 +42,7 @@ pub struct RunFault {
 }
 
 impl Cause {
-    /// Returns the number of the cause, 1 to 4.
+    /// Returns the number of the cause, 1 to 5.
     pub fn number(self) -> u8
         ensures { result ≡ number_of self }
     {
@@ -48,6 +51,7 @@ impl Cause {
             Cause::Gather(_) => 2,
             Cause::Write => 3,
             Cause::Memory => 4,
+            Cause::States => 5,
         }
     }
 }
@@ -61,7 +65,7 @@ impl RunFault {
     }
 
     /// A fault before anything was written.
-    fn early(cause: Cause) -> RunFault
+    pub(crate) fn early(cause: Cause) -> RunFault
         ensures { result ≡ record { cause = cause; written = 0 } }
     {
         RunFault { cause, written: 0 }
@@ -124,7 +128,7 @@ impl From<ReportFault> for RunFault {
 /// Returns the status that the program ends with.
 ///
 /// It is 1 if the game file could not be read, 3 for any other fault of the game, 4 for too many
-/// coalitions, and 5 if memory, a thread, a ring or the writer failed.
+/// coalitions, 5 if memory, a thread, a ring or the writer failed, and 6 for too many states.
 pub fn status(fault: &RunFault) -> u8
     ensures { result ≡ status_of fault.now.cause }
 {
@@ -134,5 +138,6 @@ pub fn status(fault: &RunFault) -> u8
         Cause::Game(_) => 3,
         Cause::Gather(GatherFault::TooMany) => 4,
         Cause::Gather(_) | Cause::Write | Cause::Memory => 5,
+        Cause::States => 6,
     }
 }

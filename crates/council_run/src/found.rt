@@ -1,12 +1,14 @@
 //! What a report is made from.
-ghost use Rattle.std.specs.Prelude.{◌≡◌, IfOk};
+ghost use Rattle.std.specs.Prelude.{◌≡◌, IfOk, IfSome};
 ghost use Rattle.council_base.specs.Lists.{joined};
 ghost use Rattle.council_game.specs.Game.{votes_of};
 ghost use Rattle.council_game.specs.Votes.{minimal_coalitions};
 ghost use Rattle.council_report.specs.Outcome.{Writes};
-ghost use Rattle.council_report.specs.Report.{report};
+ghost use Rattle.council_report.specs.Report.{report_with};
+ghost use Rattle.council_report.specs.SwingLines.{added_fields, winning_lines};
 ghost use Rattle.council_run.specs.Found.{HoldAll, IsFound};
 ghost use Rattle.power_index.specs.Tables.{AreCountsOfGame};
+ghost use Rattle.swings.specs.Swings.{AreWinningCounts};
 
 use council_base::{Coalition, Memory, ReportLines, Sink};
 use council_game::Game;
@@ -15,6 +17,7 @@ use mwc_gather::Gathered;
 use power_index::Counts;
 use power_index::laws::minimal_coalitions_can_be_counted;
 use std::alloc::Global;
+use swings::Swings;
 
 /// The minimal winning coalitions of a game, if they were kept.
 #[derive(Drop)]
@@ -61,20 +64,24 @@ fn write_pieces<W: Sink>(
     game: &Game,
     pieces: &[&[Coalition]],
     counts: &Counts,
+    swings: Option<&Swings>,
     lines: ReportLines,
     writer: &mut W,
 ) -> Result<u64, ReportFault>
     requires pieces { joined pieces.now ≡ minimal_coalitions (votes_of game.now) }
     requires counts { AreCountsOfGame game.now counts.now }
-    ensures { Writes W.held W.is_write W.is_flush (report lines game.now) writer.old writer.new result }
+    requires swings { IfSome swings (λ s. AreWinningCounts game.now s.now) }
+    ensures { Writes W.held W.is_write W.is_flush
+        (report_with (winning_lines game.now swings.entry) (added_fields game.now swings.entry)
+        lines game.now (minimal_coalitions (votes_of game.now))) writer.old writer.new result }
 {
     game.was_checked();
     minimal_coalitions_can_be_counted();
-    write_report_of(alloc, game, pieces, counts, lines, writer)
+    write_report_of(alloc, game, pieces, counts, swings, lines, writer)
 }
 
 impl Found {
-    /// Writes the report of the game, and returns its length.
+    /// Writes the report of the game, and returns its length. If there are swings, it shows them.
     ///
     /// # Errors
     ///
@@ -83,20 +90,33 @@ impl Found {
         &self,
         alloc: Global,
         game: &Game,
+        swings: Option<&Swings>,
         lines: ReportLines,
         writer: &mut W,
     ) -> Result<u64, ReportFault>
-        requires { IsFound game.now lines self.now }
-        ensures { Writes W.held W.is_write W.is_flush (report lines game.now) writer.old writer.new result }
+        requires found { IsFound game.now lines self.now }
+        requires swings { IfSome swings (λ s. AreWinningCounts game.now s.now) }
+        ensures { Writes W.held W.is_write W.is_flush
+            (report_with (winning_lines game.now swings.entry) (added_fields game.now swings.entry)
+            lines game.now (minimal_coalitions (votes_of game.now))) writer.old writer.new result }
     {
+        let counts = &self.counts;
         match &self.coalitions {
-            Coalitions::Counted => write_tally(alloc, game, &self.counts, lines, writer),
+            Coalitions::Counted => write_tally(alloc, game, counts, swings, lines, writer),
             Coalitions::Whole(list) => {
-                write_pieces(alloc, game, &[list.as_slice()], &self.counts, lines, writer)
+                write_pieces(
+                    alloc,
+                    game,
+                    &[list.as_slice()],
+                    counts,
+                    swings,
+                    lines,
+                    writer,
+                )
             }
             Coalitions::Parts(gathered) => {
                 let pieces = pieces(alloc, game, gathered)?;
-                write_pieces(alloc, game, &pieces, &self.counts, lines, writer)
+                write_pieces(alloc, game, &pieces, counts, swings, lines, writer)
             }
         }
     }

@@ -7,8 +7,10 @@
 //! ```
 #![tactic(auto)]
 
+mod columns;
 mod counting;
 mod fault;
+mod findings;
 mod found;
 pub mod laws;
 mod listing;
@@ -16,6 +18,7 @@ mod number;
 mod order;
 mod runs;
 
+pub use columns::Columns;
 pub use council_base::{Gate, NoGate, Options, limits};
 pub use counting::{
     FEW_STATES, LEAST_BITS, MOST_STATES, count_by_threads, count_by_walk, count_by_workers,

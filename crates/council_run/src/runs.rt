@@ -1,10 +1,11 @@
 //! Runs: from the bytes of a game to its report.
-ghost use Rattle.std.specs.Prelude.{◌≡◌, IfErr, None, Some};
+ghost use Rattle.std.specs.Prelude.{◌≡◌, ◌≢◌, IfErr, None, Some};
 ghost use Rattle.council_base.specs.Options.{lines_of, without_list};
 ghost use Rattle.council_base.specs.declared.report_lines.ReportLines.{ReportLines};
 ghost use Rattle.council_file.specs.Reads.{Reads};
 ghost use Rattle.council_report.specs.Outcome.{Writes};
 ghost use Rattle.council_report.specs.Report.{report};
+ghost use Rattle.council_run.specs.Columns.{FindsAll, ShowsSwings, limit_with, report_of};
 ghost use Rattle.council_run.specs.Found.{Finds, IsWorkersFault};
 ghost use Rattle.council_run.specs.Plans.{is_too_many, limit_of, lines_of_plan};
 ghost use Rattle.council_run.specs.Run.{IsOutcome};
@@ -13,8 +14,10 @@ ghost use Rattle.council_base.specs.declared.plan.Plan.TheVariants as plans;
 ghost use Rattle.mwc_gather.specs.declared.fault.GatherFault.{GatherFault};
 ghost use Rattle.mwc_gather.specs.declared.fault.GatherFault.TheVariants as gather;
 
-use crate::counting::{MOST_STATES, count_by_workers, count_states};
+use crate::columns::Columns;
+use crate::counting::{MOST_STATES, count_by_workers, count_states, find_swings};
 use crate::fault::RunFault;
+use crate::findings::Findings;
 use crate::found::{Coalitions, Found};
 use crate::listing::list_by_workers;
 use council_base::{Gate, Options, Plan, ReportLines, Sink, Source};
@@ -69,6 +72,40 @@ fn find<T: Threads + Wait + Sync, G: Gate + Sync>(
     }
 }
 
+/// Finds all that the report of a game shows.
+///
+/// Swings come first: if there are too many states, no coalition is looked for.
+fn find_all<T: Threads + Wait + Sync, G: Gate + Sync>(
+    rt: &T,
+    alloc: Global,
+    game: &Game,
+    options: &Options,
+    gate: &G,
+    plan: Plan,
+    columns: Columns,
+) -> Result<Findings, RunFault>
+    ensures finds { (lines : ReportLines) → lines.list ≡ (lines_of_plan plan options.now).list
+        → FindsAll columns (limit_with columns plan options.now.most (is_too_many result)) lines game.now result }
+    ensures threads { plan ≡ plans.Count → IfErr result (λ fault. (why : GatherFault) →
+        fault.cause ≡ cause.Gather why → why ≡ gather.Start) }
+{
+    match columns {
+        Columns::Minimal => {
+            let found = find(rt, alloc, game, options, gate, plan)?;
+            Ok(Findings::Minimal(found))
+        }
+        Columns::Both => {
+            let swings = find_swings(alloc, game, gate)?;
+            let found = find(rt, alloc, game, options, gate, plan)?;
+            Ok(Findings::Both(found, swings))
+        }
+        Columns::Swings => {
+            let swings = find_swings(alloc, game, gate)?;
+            Ok(Findings::Swings(swings))
+        }
+    }
+}
+
 /// Returns the optional lines of the report by a plan.
 fn lines_of(plan: Plan, options: &Options) -> ReportLines
     ensures { result ≡ lines_of_plan plan options.now }
@@ -79,7 +116,7 @@ fn lines_of(plan: Plan, options: &Options) -> ReportLines
     }
 }
 
-/// Reads a game, finds its coalitions as a plan says, and writes its report.
+/// Reads a game, finds its coalitions as a plan says, and writes the report that is asked for.
 ///
 /// It may wait for its workers. It writes nothing else, and returns the number of bytes written.
 ///
@@ -89,8 +126,9 @@ fn lines_of(plan: Plan, options: &Options) -> ReportLines
 ///
 /// # Errors
 ///
-/// The first fault that is met, in this order: of the game file; out of memory for the game in the
-/// order of contribution, or for its states; TooMany if few states show it; of the gathering, its
+/// The first fault that is met, in this order: of the game file; if swings are shown, out of memory
+/// for them, or States; out of memory for the game in the order of contribution, or for its states;
+/// TooMany if few states show it; of the gathering, its
 /// Start before its Memory, Ring and TooMany; out of memory for the row of its pieces, for their
 /// counts or for the report; of the writer. No byte goes out before all memory is there: after each
 /// fault but `Write` the writer took nothing, and after `Write` it has the first bytes of the
@@ -104,17 +142,19 @@ pub fn run_by<T: Threads + Wait + Sync, R: Source, W: Sink, G: Gate + Sync>(
     gate: &G,
     writer: &mut W,
     plan: Plan,
+    columns: Columns,
 ) -> Result<u64, RunFault>
-    ensures outcome { IsOutcome (report (lines_of_plan plan options.now))
-        (limit_of plan options.now.most (is_too_many result))
+    ensures outcome { IsOutcome (report_of columns (lines_of_plan plan options.now))
+        (limit_with columns plan options.now.most (is_too_many result))
         (Reads R.left R.is_read reader.old reader.new)
         (λ text. Writes W.held W.is_write W.is_flush text writer.old writer.new)
         (writer.new ≡ writer.old) result }
     ensures threads { plan ≡ plans.Count → IfErr result (λ fault. (why : GatherFault) →
         fault.cause ≡ cause.Gather why → why ≡ gather.Start) }
+    ensures states { IfErr result (λ fault. fault.cause ≡ cause.States → ShowsSwings columns) }
 {
     let game = read_game(alloc, reader)?;
-    let found = find(rt, alloc, &game, options, gate, plan)?;
+    let found = find_all(rt, alloc, &game, options, gate, plan, columns)?;
     Ok(found.write(alloc, &game, lines_of(plan, options), writer)?)
 }
 
@@ -133,12 +173,23 @@ pub fn run<T: Threads + Wait + Sync, R: Source, W: Sink, G: Gate + Sync>(
     gate: &G,
     writer: &mut W,
 ) -> Result<u64, RunFault>
-    ensures { IsOutcome (report (lines_of options.now)) (Some options.now.most)
+    ensures outcome { IsOutcome (report (lines_of options.now)) (Some options.now.most)
         (Reads R.left R.is_read reader.old reader.new)
         (λ text. Writes W.held W.is_write W.is_flush text writer.old writer.new)
         (writer.new ≡ writer.old) result }
+    ensures states { IfErr result (λ fault. fault.cause ≢ cause.States) }
 {
-    run_by(rt, alloc, reader, options, gate, writer, Plan::List)
+    let columns = Columns::Minimal;
+    run_by(
+        rt,
+        alloc,
+        reader,
+        options,
+        gate,
+        writer,
+        Plan::List,
+        columns,
+    )
 }
 
 /// Reads a game, counts its minimal winning coalitions and writes its report.
@@ -166,6 +217,17 @@ pub fn tally<T: Threads + Wait + Sync, R: Source, W: Sink, G: Gate + Sync>(
         (writer.new ≡ writer.old) result }
     ensures threads { IfErr result (λ fault. (why : GatherFault) →
         fault.cause ≡ cause.Gather why → why ≡ gather.Start) }
+    ensures states { IfErr result (λ fault. fault.cause ≢ cause.States) }
 {
-    run_by(rt, alloc, reader, options, gate, writer, Plan::Count)
+    let columns = Columns::Minimal;
+    run_by(
+        rt,
+        alloc,
+        reader,
+        options,
+        gate,
+        writer,
+        Plan::Count,
+        columns,
+    )
 }

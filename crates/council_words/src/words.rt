@@ -22,15 +22,20 @@ pub struct Arguments<'a> {
     pub options: Options,
     /// How the coalitions are found.
     pub plan: Plan,
+    /// Show the swings too.
+    pub swings: bool,
+    /// Show the swings alone.
+    pub only_swings: bool,
     /// Explain on standard error why a game is refused.
     pub explain: bool,
 }
 
-const ABOUT: &str =
-    "Lists the minimal winning coalitions of a weighted voting game, and computes two
-power indices that rest on them, as exact fractions and with six decimals that
-are cut off: the Deegan-Packel index (Deegan and Packel 1978) and the public
-good index (Holler 1982; Holler and Packel 1983).";
+const ABOUT: &str = "Lists the minimal winning coalitions of a weighted voting game, and computes
+power indices, as exact fractions and with six decimals that are cut off. Two
+rest on these coalitions: the Deegan-Packel index (Deegan and Packel 1978) and
+the public good index (Holler 1982; Holler and Packel 1983). If asked, three
+rest on swings: the Banzhaf index (Banzhaf 1965), Penrose's measure (Penrose
+1946), and the Shapley-Shubik index (Shapley and Shubik 1954).";
 
 /// The version, and the kit with which it was proved.
 const VERSION: &str = "1.2.0\nproved with rattle-kit-13f logic dac8208d650f15bf";
@@ -62,13 +67,20 @@ rules a quota, a total or a weight has one value for each rule, with / between.
   total      the total of the weights
   notation   [q; w1, .., wn], a line for each rule (--notation)
   minimal    the number of minimal winning coalitions
+  winning    the number of winning coalitions (--swings, --only-swings)
   coalition  its size, its weight, and its members' names, the heaviest first
              (--list)
   size       a size, how many coalitions have it, and how many of those contain
              each member (--sizes)
   member     a name, its weight, how many coalitions contain the member, the
              Deegan-Packel index as a fraction and as decimals, and the public
-             good index likewise
+             good index likewise; with --swings then how many swings the member
+             has, and likewise its Banzhaf index, Penrose's measure and its
+             Shapley-Shubik index
+
+A swing of a member is a winning coalition with it that loses without it. With
+--only-swings there are no numbers of minimal winning coalitions: a member has
+its name, its weight, and what rests on swings.
 
 With --tally a game may have any number of coalitions: they are counted, and
 none is kept. Most games are counted by states, in up to a few seconds; others
@@ -80,7 +92,7 @@ the line of the file, what it has, and what is allowed. They begin with blanks.
 The status is 0 if the report was written, 1 if the game file cannot be opened
 or read, 2 if the command line is wrong, 3 if the file has no game, 4 if the
 game has more than --most coalitions, 5 if memory ran out, a thread could not be
-started, or the output failed.";
+started, or the output failed, 6 if swings take too many states.";
 
 /// An option that takes a number.
 ///
@@ -134,6 +146,16 @@ const FLAGS: &[(&str, &str, &[&str])] = &[
         "tally",
         "Counts the coalitions, any number of them, and keeps none",
         &["list", "most"],
+    ),
+    (
+        "swings",
+        "Adds swings and the indices that rest on them",
+        &["only-swings"],
+    ),
+    (
+        "only-swings",
+        "Shows these alone: no minimal winning coalition is found",
+        &["list", "sizes", "tally", "most"],
     ),
     ("explain", "If a game is refused, says where and why", &[]),
 ];
@@ -239,6 +261,8 @@ pub fn read_words<'a>(alloc: Global, words: &'a [String]) -> Result<Arguments<'a
             file: file_of(&matches),
             options: options_of(&matches).ok_or(WordsFault::Range)?,
             plan: plan_of(&matches),
+            swings: matches.get_flag("swings"),
+            only_swings: matches.get_flag("only-swings"),
             explain: matches.get_flag("explain"),
         }),
         Err(error) => Err(WordsFault::Parse(error)),

@@ -1,12 +1,12 @@
 -- How many winning coalitions and swings there are.
-use Rattle.std.proofs.Common.{◌≡◌, ◌∙◌, ℕ, zero, suc, ◌+◌, ◌-◌, ◌*◌, ◌^◌, ◌<◌, ◌≤◌, ◌&&◌, Bool, true, false, not, cond, List, length, filter, sum_by, get_or}
-use Rattle.std.proofs.Common.{refl, sym, ap, arith, w64, inl, inr}
+use Rattle.std.proofs.Common.{◌≡◌, ◌∙◌, ℕ, zero, suc, ◌+◌, ◌-◌, ◌*◌, ◌^◌, ◌<◌, ◌≤◌, ◌&&◌, Bool, true, not, cond, List, length, sum_by, get_or}
+use Rattle.std.proofs.Common.{refl, ap, arith, w64, inl, inr}
 use Rattle.std.specs.{List.range_with_len, Int.trailing_zeros}
-use Rattle.std.proofs.lemmas.{Bool.Decides.nat_tests, Bool.cases_eq, List.Sums.sum_by-cons, List.Sums.length-filter, List.Elements.Contains-get_or, List.Sums.get_or-le-sum_by, List.Sums.sum_by-le}
+use Rattle.std.proofs.lemmas.{Bool.Decides.nat_tests, Bool.cases_eq, List.Sums.sum_by-cons, List.Sums.length-filter, List.Elements.Contains-get_or, List.Sums.get_or-le-sum_by}
 use Rattle.std.proofs.lemmas.List.FromFn.{length-range_with_len}
 use Rattle.council_base.specs.Coalitions.{has}
 use Rattle.council_base.proofs.Shared.Digits.{lowest-place}
-use Rattle.council_game.specs.{Game.GameView, Game.IsGame, Game.votes_of, Votes.down, Votes.minimal_coalitions, Members.members, Ranks.member_at}
+use Rattle.council_game.specs.{Game.GameView, Game.IsGame, Game.votes_of, Votes.down, Votes.minimal_coalitions, Ranks.member_at}
 use Rattle.council_game.proofs.Shared.{Games.few-members, Making.ranks-are, Rankings.places-at, Sets.count-both, Sets.double-pow, Listing.listed-is, Sets.needs-members}
 use Rattle.power_index.proofs.Shared.{Minimal.minimal-are-coalitions, Minimal.minimal-some}
 use Rattle.swings.specs.{Critical.is_critical, Swings.all_swings, Swings.swings, Swings.winning_coalitions}

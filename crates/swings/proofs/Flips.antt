@@ -1,6 +1,6 @@
 -- A coalition with a place or without it: how many there are of each.
-use Rattle.std.proofs.Common.{◌≡◌, ◌∙◌, ◌≢◌, ℕ, ◌+◌, ◌-◌, ◌/◌, ◌%◌, ◌^◌, ◌<◌, ◌≤◌, ◌==◌, ◌&&◌, Bool, true, false, not, cond, List, length, filter, sum_by}
-use Rattle.std.proofs.Common.{refl, sym, ap, arith, inl, inr, ltb, zero, suc}
+use Rattle.std.proofs.Common.{◌≡◌, ◌∙◌, ℕ, ◌+◌, ◌-◌, ◌^◌, ◌<◌, ◌≤◌, ◌==◌, ◌&&◌, Bool, true, false, not, cond, sum_by}
+use Rattle.std.proofs.Common.{ap, arith, inl, inr, ltb, zero, suc}
 use Rattle.std.specs.List.{range_with_len}
 use Rattle.std.proofs.lemmas.{Bool.Decides.nat_tests, Bool.cases_eq, Bool.cases_Bool, Bool.cases_lt, List.Sums.length-filter, List.Sums.sum_by-cons}
 use Rattle.std.proofs.Math.Nat.{div-eq_of_lt}

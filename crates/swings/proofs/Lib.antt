@@ -3,4 +3,5 @@ mod Bounds
 mod Counts
 mod Flips
 mod Orders
+mod Reordered
 mod Shares

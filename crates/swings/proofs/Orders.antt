@@ -1,18 +1,18 @@
 -- The Shapley-Shubik indices of all members add up to 1: each order of the members has one swing.
-use Rattle.std.proofs.Common.{◌≡◌, ◌≢◌, ◌∙◌, ℕ, zero, suc, ◌+◌, ◌-◌, ◌*◌, ◌^◌, ◌<◌, ◌≤◌, ◌==◌, ◌&&◌, Bool, true, false, cond, List, [], ◌∷◌, length, filter, sum_by, get_or}
-use Rattle.std.proofs.Common.{refl, sym, ap, arith, inl, inr, pow_pos}
+use Rattle.std.proofs.Common.{◌≡◌, ◌∙◌, ℕ, zero, suc, ◌+◌, ◌-◌, ◌*◌, ◌^◌, ◌<◌, ◌≤◌, ◌==◌, ◌&&◌, Bool, true, false, cond, List, [], ◌∷◌, length, filter, sum_by, get_or}
+use Rattle.std.proofs.Common.{refl, sym, ap, arith, inl, inr}
 use Rattle.std.specs.List.{range_with_len}
-use Rattle.std.proofs.lemmas.{Bool.Decides.nat_tests, Bool.cases_eq, Bool.cases_Bool, List.Sums.length-filter, List.Sums.sum_by-cons, List.Sums.get_or-le-sum_by, List.Elements.All-contains, List.Elements.Contains-get_or}
+use Rattle.std.proofs.lemmas.{Bool.Decides.nat_tests, Bool.cases_eq, Bool.cases_Bool, List.Sums.length-filter, List.Sums.sum_by-cons, List.Sums.get_or-le-sum_by, List.Elements.Contains-get_or}
 use Rattle.std.proofs.lemmas.List.FromFn.{length-range_with_len}
 use Rattle.council_base.specs.Coalitions.{has, size, with_member, without}
-use Rattle.council_base.proofs.Shared.{Digits.added-below, Digits.same-places, Digits.has-none, Lists.sum-plus, Lists.sum-zero, Lists.filter-both}
+use Rattle.council_base.proofs.Shared.{Digits.same-places, Lists.sum-plus, Lists.sum-zero, Lists.filter-both}
 use Rattle.council_game.specs.{Game.GameView, Game.IsGame, Game.votes_of, Votes.down, Votes.wins, Votes.minimal_coalitions, Members.members, Members.contains, Members.size_of}
-use Rattle.council_game.proofs.Shared.{Games.few-members, Games.votes-are, Listing.listed-is, Listing.listing-is, Meanings.needs-each-member, Rankings.places-at, Sets.count-both}
-use Rattle.council_game.proofs.Shared.{Sets.mask_of, Sets.mask-below, Sets.mask-has, Sets.sum-one, Sets.sum-none, Sets.sum-range, Subsets.digits-less, Subsets.minimal-inside, Subsets.wins-mono}
+use Rattle.council_game.proofs.Shared.{Games.few-members, Games.votes-are, Listing.listed-is, Meanings.needs-each-member, Rankings.places-at, Sets.count-both}
+use Rattle.council_game.proofs.Shared.{Sets.mask_of, Sets.mask-below, Sets.mask-has, Sets.sum-one, Sets.sum-none, Sets.sum-range, Subsets.digits-less, Subsets.wins-mono}
 use Rattle.power_index.specs.Counting.{count_of_member, count_of_member_size, count_of_size}
 use Rattle.power_index.proofs.Shared.{Members.memberships, Members.size-le, Members.size-pos, Minimal.minimal-some, Sums.sum-times}
 use Rattle.swings.specs.{Indices.factorial, Indices.shapley_shubik, Swings.swings_of_size, Swings.winning_coalitions}
-use Rattle.swings.proofs.{Counts.swings-of-size, Flips.and-swap, Flips.counted, Flips.added-has, Flips.size-less, Shared.Winning.none-wins}
+use Rattle.swings.proofs.{Counts.swings-of-size, Flips.and-swap, Flips.added-has, Flips.size-less, Shared.Winning.none-wins}
 
 -- ---- the coalition of all members, and the empty one
 module _ (n : ℕ) where

@@ -1,2 +1,3 @@
 -- What other crates may cite.
 pub mod Winning
+pub mod Small

@@ -1,8 +1,8 @@
 -- In how many of all orders a swing of a size is made, over a common denominator.
-use Rattle.std.proofs.Common.{◌≡◌, ◌∙◌, ℕ, zero, suc, ◌+◌, ◌-◌, ◌*◌, ◌/◌, ◌%◌, ◌<◌, ◌≤◌, ◌==◌, ◌&&◌, leb, refl, sym, ap, arith, get_or, eqb-true, mul-pos, Bool, true, sum_by}
+use Rattle.std.proofs.Common.{◌≡◌, ◌∙◌, ℕ, zero, suc, ◌+◌, ◌-◌, ◌*◌, ◌/◌, ◌<◌, ◌≤◌, ◌==◌, ◌&&◌, leb, refl, sym, ap, arith, get_or, eqb-true, mul-pos, Bool, true, sum_by}
 use Rattle.std.specs.{List.range_with_len, List.list_all}
 use Rattle.std.proofs.lemmas.{Bool.Decides.nat_tests, Bool.and_parts, List.Sums.AllPass-from_list_all, List.FromFn.get_or-range_with_len}
-use Rattle.std.proofs.Math.Nat.{div-mul_cancel, div-eq_of_eq-mul_right, eq_of_mul-eq-mul_right, le_of_mul-le-mul_right, mul-le-mul_left}
+use Rattle.std.proofs.Math.Nat.{div-eq_of_eq-mul_right, eq_of_mul-eq-mul_right, le_of_mul-le-mul_right, mul-le-mul_left}
 use Rattle.council_game.proofs.Shared.Lists.{all-at}
 use Rattle.power_index.specs.Tables.{denominator}
 use Rattle.swings.specs.Indices.{factorial}

@@ -1,5 +1,5 @@
 -- Indices and measures that rest on swings, each a pair of a top and a bottom.
-use Rattle.std.specs.Prelude.{ℕ, zero, suc, ◌+◌, ◌-◌, ◌*◌, ◌^◌, length, sum_by}
+use Rattle.std.specs.Prelude.{ℕ, zero, suc, ◌-◌, ◌*◌, ◌^◌, length, sum_by}
 use Rattle.std.specs.List.{range_with_len}
 use Rattle.council_game.specs.Game.{GameView}
 use Rattle.swings.specs.Swings.{all_swings, swings, swings_of_size, winning_coalitions}

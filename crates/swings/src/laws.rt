@@ -3,7 +3,8 @@ ghost use Rattle.council_game.specs.Game.{GameView, IsGame};
 ghost use Rattle.council_game.specs.Members.{members};
 ghost use Rattle.std.specs.Prelude.{◌≡◌, ◌<◌, ◌≤◌, ◌+◌, ◌^◌, ℕ, length, sum_by};
 ghost use Rattle.swings.specs.Indices.{shapley_shubik};
-ghost use Rattle.swings.specs.Swings.{all_swings, swings, winning_coalitions};
+ghost use Rattle.power_index.specs.Tables.{Tables};
+ghost use Rattle.swings.specs.Swings.{AreWinningCounts, all_swings, swings, winning_coalitions};
 
 /// Some member has a swing.
 pub fn some_member_has_a_swing()
@@ -24,4 +25,12 @@ pub fn swings_are_winning_and_leave_losing_coalitions()
 pub fn shapley_shubik_adds_up()
     ensures { (g : GameView) (i : ℕ) → IsGame g
         → sum_by (λ j. (shapley_shubik g j).0) (members g) ≡ (shapley_shubik g i).1 }
+{}
+
+/// Which places the members have changes no count of winning coalitions, and so no swing.
+///
+/// The counts of a game are those of each game of the same members and rules.
+pub fn places_change_no_swing()
+    ensures { (g h : GameView) (t : Tables) → IsGame g → IsGame h → h.names ≡ g.names → h.rules ≡ g.rules
+        → AreWinningCounts h t → AreWinningCounts g t }
 {}

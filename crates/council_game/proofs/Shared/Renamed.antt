@@ -153,31 +153,37 @@ module _ (to from : ℕ → ℕ) (g h : GameView) (is_g : IsGame g) (is_h : IsGa
   there-inside : (c : ℕ) → there to from g h is_g is_h r c < 2 ^ length h.names
   there-inside c = let room = ap (λ (n : ℕ). 2 ^ n) r.count in omega (arith, room, there-below to from g h is_g is_h r c)
 
-pub renamed-alike : (to from : ℕ → ℕ) (g h : GameView) → IsGame g → IsGame h → IsRenaming to from g h → AreAlike to g h
-unfolding minimal_coalitions renamed-back there
-renamed-alike to from g h is_g is_h r =
+-- as many coalitions pass a test of their members
+pub as-many : (to from : ℕ → ℕ) (g h : GameView) → IsGame g → IsGame h → IsRenaming to from g h → (p q : ℕ → Bool)
+    → ((c d : ℕ) → c < 2 ^ length g.names → d < 2 ^ length g.names → HaveRenamedMembers to g h c d → p c ≡ q d)
+    → sum_by (λ c. cond (p c) 1 0) (down (2 ^ length g.names)) ≡ sum_by (λ d. cond (q d) 1 0) (down (2 ^ length h.names))
+unfolding renamed-back there
+as-many to from g h is_g is_h r p q alike =
     let room = ap (λ (n : ℕ). 2 ^ n) r.count in
     let go = there to from g h is_g is_h r in
     let come = there from to h g is_h is_g (renamed-back to from g h r) in
-    record {
+    let other : ℕ → ℕ = λ d. cond (q d) 1 0 in
+    sum-down (λ c. cond (p c) 1 0) (λ c. other (go c)) (2 ^ length g.names) (λ c lt k.
+    cond (alike c (go c) lt (there-below to from g h is_g is_h r c) (there-same to from g h is_g is_h r c) k) 1 0)
+    ∙ sum-moved other go come (2 ^ length g.names)
+    (λ c lt. (there-below to from g h is_g is_h r c, there-back to from g h is_g is_h r c lt))
+    (λ d lt. (
+      there-inside from to h g is_h is_g (renamed-back to from g h r) d,
+      there-back from to h g is_h is_g (renamed-back to from g h r) d (omega (arith, room, lt)),
+    ))
+    ∙ ap (λ (m : ℕ). sum_by other (down m)) (sym room)
+
+pub renamed-alike : (to from : ℕ → ℕ) (g h : GameView) → IsGame g → IsGame h → IsRenaming to from g h → AreAlike to g h
+unfolding minimal_coalitions
+renamed-alike to from g h is_g is_h r =
+    let alone = minimal-alike to from g h is_g is_h r in record {
       size = size-alike to from g h is_g is_h r;
       win = r.win;
-      minimal = minimal-alike to from g h is_g is_h r;
-      counts = λ p q same.
-          let own : ℕ → ℕ = λ c. cond (minimal (votes_of g) c && p c) 1 0 in
-          let other : ℕ → ℕ = λ d. cond (minimal (votes_of h) d && q d) 1 0 in
+      minimal = alone;
+      counts = λ p q alike.
           count-both (minimal (votes_of g)) p (down (2 ^ length g.names))
-          ∙ sum-down own (λ c. other (go c)) (2 ^ length g.names) (λ c lt.
-          let alike = minimal-alike to from g h is_g is_h r c (go c) (there-same to from g h is_g is_h r c) in
-          let tests = same c (go c) lt (there-below to from g h is_g is_h r c) (there-same to from g h is_g is_h r c) in
-          grind (arith, nat_tests, alike, tests))
-          ∙ sum-moved other go come (2 ^ length g.names)
-          (λ c lt. (there-below to from g h is_g is_h r c, there-back to from g h is_g is_h r c lt))
-          (λ d lt. (
-            there-inside from to h g is_h is_g (renamed-back to from g h r) d,
-            there-back from to h g is_h is_g (renamed-back to from g h r) d (omega (arith, room, lt)),
-          ))
-          ∙ ap (λ (m : ℕ). sum_by other (down m)) (sym room)
+          ∙ as-many to from g h is_g is_h r (λ c. minimal (votes_of g) c && p c) (λ d. minimal (votes_of h) d && q d)
+          (λ c d lc ld m k. alone c d m k && alike c d lc ld m k)
           ∙ sym (count-both (minimal (votes_of h)) q (down (2 ^ length h.names)));
     }
 

@@ -71,6 +71,6 @@ fn writes_a_tally(rt: HostRuntime) {
     };
     let mut writer = Counter { bytes: 0 };
     print_line(&rt, "call");
-    let answer = write_tally(alloc, &game, &counts, lines, &mut writer);
+    let answer = write_tally(alloc, &game, &counts, None, lines, &mut writer);
     print_answer(&rt, answer, &writer);
 }

@@ -1,5 +1,5 @@
 -- The winning coalitions of a game can be counted: none is empty.
-use Rattle.std.proofs.Common.{◌≡◌, ◌≢◌, ℕ, ◌^◌, ◌<◌, ◌≤◌, true, length, filter, get_or, sym, ap, ◌∙◌, arith, pow_pos, pow_mono, inl, inr}
+use Rattle.std.proofs.Common.{◌≡◌, ◌≢◌, ℕ, ◌^◌, ◌<◌, ◌≤◌, true, length, get_or, sym, ap, ◌∙◌, arith, pow_pos, pow_mono, inl, inr}
 use Rattle.std.proofs.lemmas.{Bool.cases_eq, List.Elements.All-contains, List.Elements.All-filter, List.Elements.filter_passes}
 use Rattle.council_game.specs.{Game.GameView, Game.IsGame, Game.AreNonemptyCoalitions, Game.votes_of, Votes.down, Votes.wins, Votes.minimal_coalitions}
 use Rattle.council_game.proofs.Shared.{Games.few-members, Games.votes-are, Listing.down-below, Listing.listed-is, Listing.listing-is, Subsets.minimal-inside}

@@ -6,7 +6,7 @@ use Rattle.council_report.proofs.count_lines.push_counts.Goals as goal
 
 pub loop-member-preserved : goal.loop-member-preserved
 loop-member-preserved c =
-    let text : ℕ → List ℕ = λ i. decimal (table_of_member_size c.args.counted.now.counts.now i c.args.size) in
+    let text : ℕ → List ℕ = λ i. decimal (table_of_member_size c.args.counts.now i c.args.size) in
     let k : ℕ = c.loop-member.member in
     let more = ap (flat_map with_tab) (map-range_with_len_more text 0 k k (zero-add k))
     ∙ rows-more with_tab (map text (range_with_len 0 k)) (text k) in grind (arith, common_steps)

@@ -4,4 +4,4 @@ use Rattle.council_report.proofs.count_lines.push_counts.Given as goal
 abbrev pub invariant-loop-member : goal.invariant-loop-member
 invariant-loop-member l =
     AppendsInRoom l.initial.out l.out (flat_map with_tab
-    (map (λ i. decimal (table_of_member_size l.counted.counts.now i l.size)) (range_with_len 0 l.member)))
+    (map (λ i. decimal (table_of_member_size l.counts i l.size)) (range_with_len 0 l.member)))

@@ -1,35 +1,14 @@
-use Rattle.council_report.proofs.Imports.{◌∙◌, Err, List, Ok, ap, arith, length, ℕ}
-use Rattle.council_report.specs.{Outcome.Writes, Sending.Sending, declared.fault.ReportFault.TheVariants.Write}
-use Rattle.council_report.proofs.{Bounds.lines-count, FromCounts.from-counts}
-use Rattle.council_report.proofs.Wholes.{after-none, from-block, writes-part, writes-whole}
+use Rattle.council_base.specs.Lists.{joined}
+use Rattle.council_report.specs.Outcome.{Writes}
+use Rattle.council_report.proofs.FromCounts.{report-same}
+use Rattle.council_report.proofs.Imports.{Some, lines_of, refl, subst}
 use Rattle.council_report.proofs.report.write_over.Goals as goal
 
-pub send-requires-clause-counted : goal.send-requires-clause-counted
-send-requires-clause-counted g c =
-    lines-count c.args.shown _ _ _
-    (λ on. let wide = c.wide_total.ensures in
-    omega (arith, ap (λ (t : List ℕ). length t) (c.requires.1.1.0 on), wide.total, wide.few, c.requires.1.1.1.1.total))
-    (let bytes = c.push_heading.new.out.bytes in
-    omega (arith, bytes.ok, bytes.small, c.push_heading.ensures.written, c.in_ok-block.ensures.empty.1))
-
-pub returns-in-Ok : goal.returns-in-Ok
-returns-in-Ok g c =
-    let is = after-none (c.push_heading.ensures.items c.if-block.false) c.in_ok-block.ensures.empty.0 in
-    let none = c.push_heading.ensures.written ∙ c.in_ok-block.ensures.empty.1 in
-    let calls = from-block (Sending g.W.Sink.is_write g.W.Sink.is_flush) c.args.writer.now c.send.new.writer c.push_heading.new.out _ _
-    (Ok c.in-Ok.count) none is c.in-Ok.ensures in
-    from-counts (λ t. Writes g.W.Sink.held g.W.Sink.is_write g.W.Sink.is_flush t c.args.writer.now c.send.new.writer (Ok c.in-Ok.count))
-    c.args.shown _ _ g.list c.wide_total.result
-    (writes-whole g.W.Sink.held g.W.Sink.is_write g.W.Sink.is_flush g.met.W.Sink.writes g.met.W.Sink.flushes _ _ _ c.in-Ok.count calls)
-    c.requires.1.1.1.1 (c.wide_total.ensures.total ∙ c.requires.1.1.1.1.total) c.requires.1.1.0
-
 pub returns : goal.returns
+unfolding lines_of
 returns g c =
-    let is = after-none (c.push_heading.ensures.items c.if-block.false) c.in_ok-block.ensures.empty.0 in
-    let none = c.push_heading.ensures.written ∙ c.in_ok-block.ensures.empty.1 in
-    let calls = from-block (Sending g.W.Sink.is_write g.W.Sink.is_flush) c.args.writer.now c.send.new.writer c.push_heading.new.out _ _
-    (Err c.in-Err.fault.written) none is c.in-Err.ensures in
-    from-counts (λ t. Writes g.W.Sink.held g.W.Sink.is_write g.W.Sink.is_flush t c.args.writer.now c.send.new.writer
-    (Err (Write c.in-Err.fault.written))) c.args.shown _ _ g.list c.wide_total.result
-    (writes-part g.W.Sink.held g.W.Sink.is_write g.W.Sink.is_flush g.met.W.Sink.writes g.met.W.Sink.flushes _ _ _ c.in-Err.fault.written calls)
-    c.requires.1.1.1.1 (c.wide_total.ensures.total ∙ c.requires.1.1.1.1.total) c.requires.1.1.0
+    let some = c.requires.1.0 c.was_checked.ensures.game in
+    let counts = c.requires.1.1.1.1.1.0 in
+    subst (λ t. Writes g.W.Sink.held g.W.Sink.is_write g.W.Sink.is_flush t c.args.writer.now c.write_numbers.new.writer c.write_numbers.result)
+    (report-same (λ t. t.now) c.args.shown c.args.game.now (Some c.args.counts) c.args.swings (joined c.args.pieces.now) g.list
+    (c.are_some_counts.ensures g.list some counts) counts refl c.requires.1.1.1.0) c.write_numbers.ensures

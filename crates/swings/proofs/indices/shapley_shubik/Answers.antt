@@ -1,4 +1,4 @@
-use Rattle.std.proofs.Common.{◌≡◌, ◌∙◌, ◌*◌, ◌-◌, ◌+◌, length, sum_by, sym, ap, arith, ℕ, mul-le-mul}
+use Rattle.std.proofs.Common.{◌≡◌, ◌∙◌, ◌*◌, ◌-◌, ◌+◌, length, ap, arith, ℕ, mul-le-mul}
 use Rattle.power_index.specs.Tables.{denominator}
 use Rattle.power_index.proofs.Shared.LowestTerms.{lowest_from_same}
 use Rattle.swings.specs.{Indices.factorial, Indices.shapley_shubik, Inner.Orders.order_share, Swings.swings_of_size}
