@@ -16,7 +16,7 @@ _council() {
         ;;
     esac
     if [[ $word == -* ]]; then
-        mapfile -t COMPREPLY < <(compgen -W "--workers --bits --most --list --sizes --notation --tally --explain --help --version -h -V" -- "$word")
+        mapfile -t COMPREPLY < <(compgen -W "--workers --bits --most --list --sizes --notation --tally --swings --only-swings --explain --help --version -h -V" -- "$word")
     else
         compopt -o filenames 2>/dev/null
         mapfile -t COMPREPLY < <(compgen -f -- "$word")

@@ -28,7 +28,7 @@ LIMITS = {
     "CONTRIBUTING.md": 1200,
     "CHANGELOG.md": 1200,
     "docs/GUIDE.md": 3200,
-    "docs/FORMATS.md": 1400,
+    "docs/FORMATS.md": 1500,
     "docs/DEFINITIONS.md": 1800,
     "docs/TOUR.md": 1200,
     "docs/PROOF.md": 2400,

@@ -1,7 +1,7 @@
 -- The lines from the counts of a list, or from its pieces, are those of the list.
 use Rattle.council_report.proofs.Imports.{Bool, true, false, flat_map, range_with_len, nat_tests, ReportLines, size_line, line_of_size}
 use Rattle.council_report.proofs.Imports.{◌≡◌, ◌∙◌, ◌<◌, ◌≤◌, ◌+◌, ◌++◌, ℕ, zero, suc, List, [], map, length, cond, refl, ap, sym, arith}
-use Rattle.council_report.proofs.Imports.{lines_of, ◌∷◌, cond-true, flat_map-append, GameView, coalition_line, coalition_lines}
+use Rattle.council_report.proofs.Imports.{◌∷◌, cond-true, flat_map-append, GameView, coalition_line, coalition_lines}
 use Rattle.std.proofs.lemmas.List.Folds.{flat_map-map}
 use Rattle.std.specs.Option.{IfSome, IsSome, option_map_or}
 use Rattle.council_report.proofs.Imports.{Option, None, Some, decimal, member_line}

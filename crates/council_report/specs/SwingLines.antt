@@ -23,7 +23,7 @@ swing_fields g i = decimal (swings g i) ∷ index_fields (lowest_terms (banzhaf 
 abbrev pub report_with_swings : ReportLines → GameView → List ℕ
 report_with_swings shown g = report_with (winning_line g) (swing_fields g) shown g (minimal_coalitions (votes_of g))
 
--- the report of its swings alone
+-- the report of only its swings
 abbrev pub swings_report : ReportLines → GameView → List ℕ
 swings_report shown g = game_lines shown g ++ winning_line g ++ member_lines g (swing_fields g)
 

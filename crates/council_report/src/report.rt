@@ -241,7 +241,7 @@ pub fn write_tally<W: Sink>(
     write_over(alloc, game, &[], counts, swings, shown, writer)
 }
 
-/// Writes the report of a game's swings alone, and flushes once.
+/// Writes the report of only the swings of a game, and flushes once.
 ///
 /// Of the optional lines only the notation is shown. The answer is the number of bytes.
 ///

@@ -1,6 +1,7 @@
 //! All that a report is made from.
 ghost use Rattle.council_report.specs.Outcome.{Writes};
-ghost use Rattle.council_run.specs.Columns.{AreFindings, columns_of, report_of};
+ghost use Rattle.council_run.specs.Columns.{report_of};
+ghost use Rattle.council_run.specs.Inner.Findings.{AreFindings, columns_of};
 
 use crate::found::Found;
 use council_base::{ReportLines, Sink};

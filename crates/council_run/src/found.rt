@@ -81,7 +81,9 @@ fn write_pieces<W: Sink>(
 }
 
 impl Found {
-    /// Writes the report of the game, and returns its length. If there are swings, it shows them.
+    /// Writes the report of the game, and returns its length.
+    ///
+    /// If there are swings, it shows them too.
     ///
     /// # Errors
     ///

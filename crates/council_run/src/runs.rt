@@ -5,7 +5,8 @@ ghost use Rattle.council_base.specs.declared.report_lines.ReportLines.{ReportLin
 ghost use Rattle.council_file.specs.Reads.{Reads};
 ghost use Rattle.council_report.specs.Outcome.{Writes};
 ghost use Rattle.council_report.specs.Report.{report};
-ghost use Rattle.council_run.specs.Columns.{FindsAll, ShowsSwings, limit_with, report_of};
+ghost use Rattle.council_run.specs.Columns.{ShowsSwings, limit_with, report_of};
+ghost use Rattle.council_run.specs.Inner.Findings.{FindsAll};
 ghost use Rattle.council_run.specs.Found.{Finds, IsWorkersFault};
 ghost use Rattle.council_run.specs.Plans.{is_too_many, limit_of, lines_of_plan};
 ghost use Rattle.council_run.specs.Run.{IsOutcome};
@@ -116,9 +117,10 @@ fn lines_of(plan: Plan, options: &Options) -> ReportLines
     }
 }
 
-/// Reads a game, finds its coalitions as a plan says, and writes the report that is asked for.
+/// Reads a game, finds what its report shows, and writes it.
 ///
-/// It may wait for its workers. It writes nothing else, and returns the number of bytes written.
+/// The coalitions are found as the plan says. It may wait for its workers. It writes nothing else,
+/// and returns the number of bytes written.
 ///
 /// The contract says which calls the reader and the writer got, whatever they are: no read after
 /// one that failed or gave nothing; each write gets what is left of a block of the report, and

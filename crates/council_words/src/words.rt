@@ -24,7 +24,7 @@ pub struct Arguments<'a> {
     pub plan: Plan,
     /// Show the swings too.
     pub swings: bool,
-    /// Show the swings alone.
+    /// Show only the swings.
     pub only_swings: bool,
     /// Explain on standard error why a game is refused.
     pub explain: bool,
@@ -154,7 +154,7 @@ const FLAGS: &[(&str, &str, &[&str])] = &[
     ),
     (
         "only-swings",
-        "Shows these alone: no minimal winning coalition is found",
+        "Shows only these, and finds no minimal winning coalition",
         &["list", "sizes", "tally", "most"],
     ),
     ("explain", "If a game is refused, says where and why", &[]),

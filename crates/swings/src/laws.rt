@@ -27,9 +27,10 @@ pub fn shapley_shubik_adds_up()
         → sum_by (λ j. (shapley_shubik g j).0) (members g) ≡ (shapley_shubik g i).1 }
 {}
 
-/// Which places the members have changes no count of winning coalitions, and so no swing.
+/// Which places the members have changes no swing.
 ///
-/// The counts of a game are those of each game of the same members and rules.
+/// The counts of the winning coalitions of a game are those of each game of the same members and
+/// rules.
 pub fn places_change_no_swing()
     ensures { (g h : GameView) (t : Tables) → IsGame g → IsGame h → h.names ≡ g.names → h.rules ≡ g.rules
         → AreWinningCounts h t → AreWinningCounts g t }

@@ -1,5 +1,5 @@
 use Rattle.council_report.proofs.Imports.{◌∙◌, Err, Ok, arith}
-use Rattle.council_report.specs.{Outcome.Writes, Sending.Sending}
+use Rattle.council_report.specs.{Sending.Sending}
 use Rattle.council_report.proofs.Bounds.{lines-count}
 use Rattle.council_report.proofs.Wholes.{after-none, from-block, writes-part, writes-whole}
 use Rattle.council_report.proofs.report.write_numbers.Goals as goal

@@ -3,7 +3,8 @@ use Rattle.std.proofs.lemmas.Result.{err_from_is_err_and}
 use Rattle.council_base.specs.declared.report_lines.ReportLines.{ReportLines}
 use Rattle.council_file.specs.Reads.{Reads}
 use Rattle.council_report.specs.Outcome.{Writes}
-use Rattle.council_run.specs.Columns.{IsNoFinding, columns_of, limit_with, report_of}
+use Rattle.council_run.specs.Columns.{limit_with, report_of}
+use Rattle.council_run.specs.Inner.Findings.{IsNoFinding, columns_of}
 use Rattle.council_run.specs.declared.{columns.Columns.Columns, fault.Cause.Cause}
 use Rattle.council_run.proofs.Outcomes.{is-not-many, stops-found, stops-game, stops-report}
 use Rattle.council_run.specs.Plans.{is_cause_many, lines_of_plan}

@@ -1,0 +1,1 @@
+council --only-swings --notation <game

@@ -1,0 +1,1 @@
+council --swings --list <game
