@@ -1,8 +1,8 @@
 /*
  * The report of a weighted voting game, for C and whatever can call C. See docs/LIBRARY.md.
  *
- * There is one call. It starts no thread, keeps nothing from one call to the next, and gives out no memory. Threads of
- * the caller's may call it at the same time, each with buffers of its own.
+ * There are two calls. They start no thread, keep nothing from one call to the next, and give out no memory. Threads of
+ * the caller's may call them at the same time, each with buffers of its own.
  */
 #ifndef COUNCIL_H
 #define COUNCIL_H
@@ -30,7 +30,8 @@ enum council_status {
 	COUNCIL_OPTIONS = 2,   /* no call takes these options */
 	COUNCIL_GAME = 3,      /* the bytes hold no game: the text is the first fault */
 	COUNCIL_TOO_MANY = 4,  /* the game has more minimal winning coalitions than most */
-	COUNCIL_MEMORY = 5     /* memory was refused */
+	COUNCIL_MEMORY = 5,    /* memory was refused */
+	COUNCIL_STATES = 6     /* the swings take too many states; only of council_swings_report */
 };
 
 /*
@@ -45,6 +46,15 @@ enum council_status {
  */
 uint32_t council_report(const char *game, size_t game_length, const struct council_options *options,
 			char *text, size_t room, uint64_t *length);
+
+/*
+ * Does as council_report, and adds swings: the number of winning coalitions, and for each member its swings, its Banzhaf
+ * index, Penrose's measure and its Shapley-Shubik index. If only is true, the report has nothing else of its members than
+ * name and weight; no minimal winning coalition is found, and of the options only notation has an effect. A call may take
+ * 500 MB.
+ */
+uint32_t council_swings_report(const char *game, size_t game_length, const struct council_options *options, bool only,
+			       char *text, size_t room, uint64_t *length);
 
 #ifdef __cplusplus
 }

@@ -127,7 +127,7 @@ shared=$here/lib/libcouncil.so
 name="in the archive, the shared object"
 if [ -f "$shared" ] && needs nm "$name: its calls"; then
     found=$(nm -D --defined-only "$shared" | grep -v ' w ' | sed 's/.* //' | tr '\n' ' ')
-    if [ "$found" = "council_report " ]; then ok "$name: it exports its one call"; else failed "$name: it exports its one call" "$found"; fi
+    if [ "$found" = "council_report council_swings_report " ]; then ok "$name: it exports its two calls"; else failed "$name: it exports its two calls" "$found"; fi
 fi
 if [ -f "$shared" ] && needs objdump "the C library that programs need"; then
     for file in council lib/libcouncil.so; do

@@ -1,5 +1,5 @@
 #!/usr/bin/env bash
-# The library for other languages: what C, Python and Rust get by its one call is what the program
+# The library for other languages: what C, Python and Rust get by its calls is what the program
 # prints, byte by byte, with the same status. The library is crates/council_c/out/libcouncil.a,
 # which `tools/build.py --library` makes (.ci/run has it made), or the file that COUNCIL_LIBRARY
 # names. The callers are those of foreign/.
@@ -38,7 +38,7 @@ if needs cc "from C" "from threads of C" "from C++"; then
         failed "$name" "$(head -n 1 "$temp/cc")"
     fi
     name="a shared object is linked"
-    if cc -shared -o "$temp/libcouncil.so" -Wl,-u,council_report -Wl,-z,defs "$library" 2>"$temp/cc"; then
+    if cc -shared -o "$temp/libcouncil.so" -Wl,-u,council_report -Wl,-u,council_swings_report -Wl,-z,defs "$library" 2>"$temp/cc"; then
         ok "$name"
         if needs python3 "from Python"; then callers+=(Python); fi
     else
@@ -97,6 +97,14 @@ done
 for word in --list --sizes --notation --tally; do
     same "board.toml, $word" "$top/examples/board.toml" $word
 done
+all_callers=(${callers[@]+"${callers[@]}"})
+case " ${callers[*]-} " in *" C "*) callers=(C) ;; *) callers=() ;; esac
+for game in board.txt eec-1958.toml un-security-council.toml; do
+    same "$game, with swings" "$top/examples/$game" --swings --list --sizes
+    same "$game, only swings" "$top/examples/$game" --only-swings --notation
+done
+same "27 members, only swings" "$top/examples/eu-27-lisbon.toml" --only-swings
+callers=(${all_callers[@]+"${all_callers[@]}"})
 same "more coalitions than are kept, counted by a walk" "$top/examples/eu-27-lisbon.toml" --tally
 game_file 3 1 1 1 1 1 >"$temp/ten.toml"
 same "exactly the most" "$temp/ten.toml" --most 10

@@ -2,7 +2,9 @@
 use Rattle.std.specs.Prelude.{◌≡◌, ℕ, List, ◌++◌, length, take, drop, ◌⊎◌, true, false, Ok, Option}
 use Rattle.council_game.specs.declared.fault.GameFault.TheVariants as game
 use Rattle.council_game.specs.Game.{GameView}
-use Rattle.council_report.specs.Report.{report}
+use Rattle.council_base.specs.declared.report_lines.ReportLines.{ReportLines}
+use Rattle.council_run.specs.Columns.{ShowsSwings, report_of}
+use Rattle.council_run.specs.declared.columns.Columns.{Columns}
 use Rattle.council_run.specs.Run.{Holds, IsWithin, Stops}
 use Rattle.council_run.specs.Status.{status_of}
 use Rattle.council_run.specs.declared.fault.Cause.{Cause}
@@ -22,21 +24,22 @@ FillsBy text limit bytes before after len =
     (g : GameView) × Holds bytes (Ok g) × IsWithin limit g × (len ≡ length (text g)) × Shows (text g) before after
 
 -- the options are right, and it is a report of the game that the bytes hold
-abbrev pub Reports : CouncilOptions → List ℕ → List ℕ → List ℕ → ℕ → Type 0
-Reports o bytes before after len =
-    (are_wrong o ≡ false) × FillsBy (report (lines_of_call o)) (limit_of o) bytes before after len
+abbrev pub Reports : Columns → CouncilOptions → List ℕ → List ℕ → List ℕ → ℕ → Type 0
+Reports columns o bytes before after len =
+    (are_wrong o ≡ false) × FillsBy (report_of columns (lines_of_call o)) (limit_of columns o) bytes before after len
 
 -- a run on these bytes stops so, before anything was written; a read or a write that fails is no
--- cause
-abbrev pub StopsOn : (GameView → List ℕ) → Option ℕ → List ℕ → Cause → Type 0
-StopsOn text limit bytes (cause.Game game.Read) = ⊥
-StopsOn text limit bytes why = Stops text limit (Holds bytes) (λ _ _. ⊥) (Unit {0}) why 0
+-- cause, and too many states are one only if swings are shown
+abbrev pub StopsOn : Columns → ReportLines → Option ℕ → List ℕ → Cause → Type 0
+StopsOn columns lines limit bytes (cause.Game game.Read) = ⊥
+StopsOn columns lines limit bytes cause.States = ShowsSwings columns
+StopsOn columns lines limit bytes why = Stops (report_of columns lines) limit (Holds bytes) (λ _ _. ⊥) (Unit {0}) why 0
 
 -- Why there is none: the options are wrong, or they are right and a run on these bytes stops so.
-abbrev pub StopsCall : CouncilOptions → List ℕ → Fault → Type 0
-StopsCall o bytes fault.Options = are_wrong o ≡ true
-StopsCall o bytes (fault.Run why) =
-    (are_wrong o ≡ false) × StopsOn (report (lines_of_call o)) (limit_of o) bytes why
+abbrev pub StopsCall : Columns → CouncilOptions → List ℕ → Fault → Type 0
+StopsCall columns o bytes fault.Options = are_wrong o ≡ true
+StopsCall columns o bytes (fault.Run why) =
+    (are_wrong o ≡ false) × StopsOn columns (lines_of_call o) (limit_of columns o) bytes why
 
 -- the buffer shows some text, and `len` is its length
 abbrev pub Tells : List ℕ → List ℕ → ℕ → Type 0
@@ -49,7 +52,7 @@ status_of_call (fault.Run why) = status_of why
 
 -- A call that gives status 0 reports, and one that gives another was stopped by a fault of that
 -- status.
-abbrev pub Answers : CouncilOptions → List ℕ → List ℕ → List ℕ → ℕ → ℕ → Type 0
-Answers o bytes before after len status =
-    ((status ≡ 0) × Reports o bytes before after len)
-    ⊎ ((why : Fault) × StopsCall o bytes why × (status ≡ status_of_call why) × Tells before after len)
+abbrev pub Answers : Columns → CouncilOptions → List ℕ → List ℕ → List ℕ → ℕ → ℕ → Type 0
+Answers columns o bytes before after len status =
+    ((status ≡ 0) × Reports columns o bytes before after len)
+    ⊎ ((why : Fault) × StopsCall columns o bytes why × (status ≡ status_of_call why) × Tells before after len)

@@ -2,6 +2,8 @@
 use Rattle.std.specs.Prelude.{ℕ, ◌==◌, ◌&&◌, ◌||◌, nat_lt, Bool, Option, None, Some, if◌then◌else◌}
 use Rattle.council_base.specs.declared.limits.TheConstants.{COALITIONS}
 use Rattle.council_base.specs.declared.report_lines.ReportLines.{ReportLines}
+use Rattle.council_run.specs.declared.columns.Columns.{Columns}
+use Rattle.council_run.specs.declared.columns.Columns.TheVariants as columns
 use Rattle.council_c.specs.declared.options.CouncilOptions.{CouncilOptions}
 
 -- no call takes them: they ask for more than can be kept, or a tally, which keeps none, to list or
@@ -13,9 +15,10 @@ are_wrong o = nat_lt COALITIONS o.most || o.tally && (o.list || nat_lt 0 o.most)
 abbrev pub most_of : CouncilOptions → ℕ
 most_of o = if o.most == 0 then 1000000 else o.most
 
--- a tally takes any number of them
-abbrev pub limit_of : CouncilOptions → Option ℕ
-limit_of o = if o.tally then None else Some (most_of o)
+-- a tally takes any number of them, and so does a report of only swings
+abbrev pub limit_of : Columns → CouncilOptions → Option ℕ
+limit_of columns.Swings o = None
+limit_of other o = if o.tally then None else Some (most_of o)
 
 -- the optional lines of the report
 abbrev pub lines_of_call : CouncilOptions → ReportLines

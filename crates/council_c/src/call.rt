@@ -1,9 +1,35 @@
 //! The call.
+ghost use Rattle.std.specs.Prelude.{if◌then◌else◌};
 ghost use Rattle.council_c.specs.Answer.{Answers};
+ghost use Rattle.council_run.specs.declared.columns.Columns.TheVariants as columns;
 
 use crate::fill::fill;
 use crate::options::CouncilOptions;
+use council_run::Columns;
 use std::alloc::Global;
+
+/// Puts the report of a game that shows these numbers into `text`, and returns the status.
+fn answer(
+    alloc: Global,
+    game: &[u8],
+    options: &CouncilOptions,
+    columns: Columns,
+    text: &mut [u8],
+    length: &mut u64,
+) -> u32
+    ensures { Answers columns options.now game.now text.old text.new length.new result }
+{
+    match fill(alloc, game, options, columns, text) {
+        Ok(whole) => {
+            *length = whole;
+            0
+        }
+        Err(fault) => {
+            *length = fault.put_words(text);
+            fault.status()
+        }
+    }
+}
 
 /// Reads the bytes of a game, and puts its report into `text`.
 ///
@@ -23,16 +49,27 @@ pub extern "C" fn council_report(
     text: &mut [u8],
     length: &mut u64,
 ) -> u32
-    ensures { Answers options.now game.now text.old text.new length.new result }
+    ensures { Answers columns.Minimal options.now game.now text.old text.new length.new result }
 {
-    match fill(alloc, game, options, text) {
-        Ok(whole) => {
-            *length = whole;
-            0
-        }
-        Err(fault) => {
-            *length = fault.put_words(text);
-            fault.status()
-        }
-    }
+    answer(alloc, game, options, Columns::Minimal, text, length)
+}
+
+/// Does as `council_report`, and shows the swings; if `only` is true, it shows only these.
+///
+/// Then no minimal winning coalition is found, and of the options only `notation` has an effect.
+/// The result is 6 if the swings take too many states.
+#[unsafe(no_mangle)]
+pub extern "C" fn council_swings_report(
+    alloc: Global,
+    game: &[u8],
+    options: &CouncilOptions,
+    only: bool,
+    text: &mut [u8],
+    length: &mut u64,
+) -> u32
+    ensures { Answers (if only then columns.Swings else columns.Both) options.now game.now
+        text.old text.new length.new result }
+{
+    let columns = if only { Columns::Swings } else { Columns::Both };
+    answer(alloc, game, options, columns, text, length)
 }

@@ -1,4 +1,4 @@
-//! One call for other languages: from the bytes of a game to its report, in a buffer of the
+//! Two calls for other languages: from the bytes of a game to its report, in a buffer of the
 //! caller's and in the caller's thread. `include/council.h` declares it for C.
 //!
 //! ```text
@@ -13,6 +13,6 @@ mod options;
 mod page;
 mod put;
 
-pub use call::council_report;
+pub use call::{council_report, council_swings_report};
 pub use fault::Fault;
 pub use options::CouncilOptions;

@@ -7,7 +7,7 @@ use Rattle.council_game.specs.declared.fault.GameFault.TheVariants as game
 use Rattle.council_report.specs.declared.fault.ReportFault.{ReportFault}
 use Rattle.council_report.specs.declared.fault.ReportFault.TheVariants as report
 use Rattle.mwc_gather.specs.declared.fault.GatherFault.TheVariants as gather
-use Rattle.council_run.specs.Inner.Findings.{IsNoFinding}
+use Rattle.council_run.specs.Findings.{IsNoFinding}
 use Rattle.council_run.specs.Found.{Finds, IsNotFound}
 use Rattle.council_run.specs.declared.columns.Columns.{Columns}
 use Rattle.council_run.specs.Plans.{is_cause_many, is_too_many, limit_of}
@@ -53,16 +53,6 @@ module _ (text : GameView → List ℕ) (limit : Option ℕ) (Read : Result Game
   pub stops-game : (fault : GameFault) → Kept → Read (Err fault) → Stops text limit Read Write Kept (cause.Game fault) 0
   stops-game game.Memory kept read = (refl, kept)
   stops-game fault kept read = (refl, kept, read)
-
-  -- what it shows was not found
-  pub stops-found : (columns : Columns) (g : GameView) (why : Cause) (n : ℕ) → n ≡ 0 → Kept → Read (Ok g) → IsNoFinding columns limit g why
-      → Stops text limit Read Write Kept why n
-  stops-found columns g (cause.Game fault) n none kept read h = absurd h
-  stops-found columns g (cause.Gather gather.TooMany) n none kept read h = (none, kept, (g, read, h))
-  stops-found columns g (cause.Gather fault) n none kept read h = (none, kept)
-  stops-found columns g cause.Write n none kept read h = absurd h
-  stops-found columns g cause.Memory n none kept read h = (none, kept)
-  stops-found columns g cause.States n none kept read h = (none, kept)
 
   -- its report was not written
   pub stops-report : (g : GameView) (why : ReportFault) (e : RunFault) → (why ≡ report.Memory → e ≡ record { cause = cause.Memory; written = 0 })

@@ -3,4 +3,4 @@ pub mod Run
 pub mod Found
 pub mod Plans
 pub mod Columns
-pub mod Inner
+pub mod Findings

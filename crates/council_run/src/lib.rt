@@ -25,6 +25,7 @@ pub use counting::{
     count_states,
 };
 pub use fault::{Cause, RunFault, status};
+pub use findings::{Findings, find_in_one_thread};
 pub use found::{Coalitions, Found};
 pub use listing::{list_by_walk, list_by_workers};
 pub use number::number_by_states;

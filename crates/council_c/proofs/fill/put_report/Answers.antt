@@ -1,5 +1,5 @@
 use Rattle.std.proofs.Common.{ℕ, List, subst, ap, arith, length}
-use Rattle.council_report.specs.Report.{report}
+use Rattle.council_run.specs.{Columns.report_of, Findings.columns_of}
 use Rattle.council_c.specs.Answer.{Shows}
 use Rattle.council_c.proofs.fill.put_report.Goals.{in-Ok, in-Err-Write+in_ok-length-in-Err-Write}
 use Rattle.council_c.proofs.Buffers.{shows-beginning}
@@ -13,7 +13,7 @@ returns-clause-text c =
           (rw c.new-page.ensures.bytes at w.in-Ok.ensures.1) shown
       | in-Err-Write+in_ok-length-in-Err-Write w ↦
           let fell = rw w.in-Err-Write.field-0-is at w.in-Err-Write.ensures in
-          shows-beginning _ (report c.args.lines c.args.game.now) c.args.room.now c.put.new.room _ fell.0
+          shows-beginning _ (report_of (columns_of c.args.found.now) c.args.lines c.args.game.now) c.args.room.now c.put.new.room _ fell.0
           (rw c.new-page.ensures.bytes at fell.1)
           (omega (arith, w.if-bytes-room.true, ap (λ (l : List ℕ). length l) w.bytes.ensures)) shown
     ]

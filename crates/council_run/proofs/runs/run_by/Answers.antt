@@ -4,9 +4,10 @@ use Rattle.council_base.specs.declared.report_lines.ReportLines.{ReportLines}
 use Rattle.council_file.specs.Reads.{Reads}
 use Rattle.council_report.specs.Outcome.{Writes}
 use Rattle.council_run.specs.Columns.{limit_with, report_of}
-use Rattle.council_run.specs.Inner.Findings.{IsNoFinding, columns_of}
+use Rattle.council_run.specs.Findings.{IsNoFinding, columns_of}
 use Rattle.council_run.specs.declared.{columns.Columns.Columns, fault.Cause.Cause}
-use Rattle.council_run.proofs.Outcomes.{is-not-many, stops-found, stops-game, stops-report}
+use Rattle.council_run.proofs.Outcomes.{is-not-many, stops-game, stops-report}
+use Rattle.council_run.proofs.Shared.Finding.{stops-found}
 use Rattle.council_run.specs.Plans.{is_cause_many, lines_of_plan}
 use Rattle.council_run.specs.Run.{IsOutcome, Stops}
 use Rattle.council_run.proofs.runs.run_by.Goals as goal
