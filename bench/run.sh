@@ -13,7 +13,7 @@
 # How well threads wait is in no contract, and no test tells it: a wake-up that is lost costs a
 # millisecond. It shows here. A bell that is never rung, or a turn that rings nobody, makes a ring
 # that is full or empty cost that millisecond each time: the list of 658,008 coalitions goes in some
-# 10,000 rows, and takes seconds. Looks that are never renewed make each wait a sleep: 2 and
+# 1,300 rows, and takes a second. Looks that are never renewed make each wait a sleep: 2 and
 # 4 workers gain little over 1. Looks that never become fewer hold processors that others want: the
 # last table, beside busy loops, rises.
 #

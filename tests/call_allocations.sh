@@ -212,8 +212,8 @@ shape=''
 takes_none mwc_tally tallies_a_slice_without_memory
 takes_memory mwc_states counts_under_one_rule
 takes_memory mwc_states counts_under_three_rules
-# room for three handles; for each of three workers its room, and the start of its thread; and what
-# comes then
+# the gatherer's row, and room for three handles; for each of three workers its room, and the start
+# of its thread; and what comes then
 shape='o+(o{4,})(s+)\1\2\1\2o+'
 takes_memory mwc_gather gathers "not started"
 takes_memory mwc_gather gathers_too_many "not started"

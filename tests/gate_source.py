@@ -24,10 +24,10 @@ WANTED = {
     ("mwc_gather/src/guarded.rt", "self.gate.announce(worker, slice);"),
     ("mwc_gather/src/guarded.rt", "self.admit(worker, slice)"),
     ("mwc_gather/src/send.rt", "let mut walk = Walk::new(guarded.admit(worker, slice), bits, slice);"),
-    ("mwc_gather/src/send.rt", "send_slice_in_rows::<WordByWord, _, _, _>(rt, guarded, bits, slice, worker, left, out, pair)"),
-    ("mwc_gather/src/worker.rt", "let sent = send_slice_in_rows::<RowByRow, _, _, _>("),
-    ("mwc_gather/src/worker.rt", "run_worker(rt, &job, worker, out, tasks, pair)"),
-    ("mwc_gather/src/worker_handle.rt", "{ run_worker(rt, &own, worker, out, list, pair) };"),
+    ("mwc_gather/src/send.rt", "send_slice_in_rows::<WordByWord, _, _, _>(rt, guarded, bits, slice, worker, left, buffer, out, pair,"),
+    ("mwc_gather/src/worker.rt", "let sent = send_slice_in_rows::<RowByRow, _, _, _>(rt,"),
+    ("mwc_gather/src/worker.rt", "run_worker(rt, &job, worker, &mut row, out, tasks, pair)"),
+    ("mwc_gather/src/worker_handle.rt", "{ run_worker(rt, &own, worker, row.as_mut_slice(), out, list, pair) };"),
 }
 PASSES = re.compile(r"::(?:pass|announce|admit)\b|\.(?:pass|announce|admit)\((?!\w+\))|\brun_worker\(|\bsend_slice_in_rows::")
 
@@ -41,9 +41,11 @@ def main(words):
         if "_tests/" in name or name.startswith("mwc_tally/"):
             continue
         with open(path, encoding="utf-8") as it:
-            for line in it:
-                code = line.split("//")[0]
-                found += [(name, code.strip())] * len(PASSES.findall(code))
+            lines = [line.split("//")[0].strip() for line in it]
+        for code, after in zip(lines, [*lines[1:], ""]):
+            # arguments that have no room beside the call are in the next line
+            whole = code + after if code.endswith("(") else code
+            found += [(name, whole)] * len(PASSES.findall(code))
     faults = [f"a gate is passed, or a worker handed on, in {name}: {code}" for name, code in found if (name, code) not in WANTED]
     faults += [f"{name} has this {found.count((name, code))} times, and not once: {code}" for name, code in sorted(WANTED) if found.count((name, code)) != 1]
     for fault in faults:

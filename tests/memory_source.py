@@ -5,7 +5,7 @@
 
 goes through the src/ of all crates, but for their tests, and looks at each line where the code answers want of memory or a
 thread that can not be started (a value `Memory`, a variant `Memory` or `Start` of an error, an allocator's error made by hand),
-notes a refusal (`out_of_memory = ..`, `set_out_of_memory()`), asks whether a call failed (`is_err()`), or makes a vector grow by a great number of its own
+notes a refusal (`out_of_memory = ..`), asks whether a call failed (`is_err()`), or makes a vector grow by a great number of its own
 (`reserve(1 << 60)`). Such a line is fine
 
 - in a conversion, `impl From<..> for ..`, of an allocator's error or of another want of memory;
@@ -29,10 +29,10 @@ GROWTH = r"[\w.]*\.(?:push|push_back|reserve|extend_from_slice)\((?:[^|&]|&(?!&)
 ASKS = re.compile(rf"(?:if |let \w+ = ){GROWTH}\.is_err\(\)(?: \{{|;)$|if let Err\(\w+\) = {GROWTH} \{{$|let Ok\(\w+\) = [\w.]*\bspawn_with\([^|&]*\) else \{{$")
 PROVED = re.compile(r"prove!\(matches!\(\w+, (?:[A-Z]\w*::)?Memory\)\);$")
 # how the code notes a refusal; each of these words must be in the sources
-NOTES = ("out_of_memory", ".refused", "set_out_of_memory()")
+NOTES = ("out_of_memory", ".refused")
 # a refusal that is noted, a call that is asked whether it failed, and a growth by a great number
 # that the code makes up
-LOSS = re.compile(r"\bset_out_of_memory\(\)|(?:\bout_of_memory|\.refused)\s*\|?=(?![=>])(?! false;)|\.is_(?:err|ok)\(\)|(?:(?:reserve\w*|with_capacity)\(.*|resize\([^,]*)(?:\d{4}|\d_\d|<<|(?<!limits::)\b[A-Z]{2})")
+LOSS = re.compile(r"(?:\bout_of_memory|\.refused)\s*\|?=(?![=>])(?! false;)|\.is_(?:err|ok)\(\)|(?:(?:reserve\w*|with_capacity)\(.*|resize\([^,]*)(?:\d{4}|\d_\d|<<|(?<!limits::)\b[A-Z]{2})")
 
 
 def code_lines(path):
@@ -95,7 +95,7 @@ def sees_planted_lines(top):
     lines = [
         "return Err(Memory);", "if most > 9 { return Err(Memory); }", "return Err(AllocError.into());", "return Err(GameFault::Memory);",
         "list.reserve(1 << 60)?;", "let mut list = Vec::with_capacity(alloc, 4_000_000_000)?;", "if j > 7 || list.push(coalition).is_err() {",
-        "return Err(TallyFault::Start);", "if list.len() > 9 { builder.set_out_of_memory(); }",
+        "return Err(TallyFault::Start);", "if list.len() > 9 { builder.out_of_memory = true; }",
         "out_of_memory |= most > 9;", "out_of_memory = true;", "block.refused |= most > 9;",
     ]
     for line in lines:

@@ -120,6 +120,8 @@ game=$temp/two.toml
 sweep "two rules" "$game" --list --sizes --notation --workers 2
 game=$temp/five.toml
 sweep "a tally" "$game" --tally --sizes --workers 3
+sweep "swings" "$game" --swings --tally
+sweep "only swings" "$game" --only-swings
 sweep "too many coalitions" "$game" --most 4 --workers 2
 for game in "$temp"/fault*; do
     run "$game"

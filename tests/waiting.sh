@@ -21,8 +21,7 @@ cat >"$own/src/waiting/tests.rt" <<'END'
 use super::{Backoff, Waker, WakerPair, Wakers};
 use crate::guarded::Guarded;
 use crate::job::Job;
-use crate::putting::RowByRow;
-use crate::send::send;
+use crate::send::put;
 use crate::worker_handle::WorkerHandle;
 use council_base::Gate;
 use council_game::Game;
@@ -112,15 +111,21 @@ fn words_that_were_put_in_wake_the_other_side(rt: HostRuntime) {
     looks_before_sleep(&rt, &mut Backoff::new(), &wakers.gatherer);
     looks_before_sleep(&rt, &mut Backoff::new(), &wakers.workers[3]);
     let pair = wakers.pair(3);
-    assert!(rt; send::<RowByRow, _, _>(&rt, [Word::Open(0)].as_slice(), &mut out, pair));
+    put(&rt, &mut out, Word::Open(0), pair);
     assert!(rt; !is_asleep(&wakers.workers[3]) && is_asleep(&wakers.gatherer));
     // the same, as the worker sees it
     let back = WakerPair {
         own: pair.other,
         other: pair.own,
     };
-    assert!(rt; send::<RowByRow, _, _>(&rt, [Word::Done(0)].as_slice(), &mut out, back));
+    put(&rt, &mut out, Word::Done(0), back);
     assert!(rt; !is_asleep(&wakers.gatherer));
+    // rows that can wait
+    for wakes in [true, false, false, false, true] {
+        looks_before_sleep(&rt, &mut Backoff::new(), &wakers.gatherer);
+        back.other.nudge();
+        assert!(rt; is_asleep(&wakers.gatherer) != wakes);
+    }
 }
 
 /// Waits until the thread sleeps, or is about to.
@@ -189,15 +194,14 @@ cat >"$own/src/scheduler/tests.rt" <<'END'
 //! Tests of who sleeps, and who is woken, while slices are handed out.
 
 use super::Scheduler;
+use crate::channels::new_row;
 use crate::guarded::Guarded;
 use crate::job::Job;
 use crate::marks::Marks;
 use crate::waiting::tests::{equal_game, is_asleep, looks_before_sleep, sleeps_often};
 use crate::waiting::{Backoff, Waker, Wakers};
-use crate::word_buffer::WORDS;
 use crate::worker_handle::WorkerHandle;
 use council_base::{Gate, NoGate};
-use mwc_pipe::Word;
 use std::process::Abort;
 use std::sync::atomic::{AtomicBool, Ordering};
 use std::{hint, thread};
@@ -224,13 +228,14 @@ fn a_worker_whose_ring_is_full_sleeps_until_words_are_taken(rt: HostRuntime) {
             marks: Marks::new(1),
             stopped: false,
         };
-        let mut row = [Word::Open(0); WORDS];
-        assert!(rt; !scheduler.serve(rt, &mut handles[0], 3, &mut row, others.pair(5)));
+        let mut row = new_row(alloc).expect(rt, "a row");
+        let row = row.as_mut_slice();
+        assert!(rt; !scheduler.serve(rt, &mut handles[0], 3, row, others.pair(5)));
         assert!(rt; sleeps_often(&wakers.workers[3]));
         looks_before_sleep(rt, &mut Backoff::new(), worker);
-        assert!(rt; scheduler.serve(rt, &mut handles[0], 3, &mut row, others.pair(5)));
+        assert!(rt; scheduler.serve(rt, &mut handles[0], 3, row, others.pair(5)));
         assert!(rt; !handles[0].idle && !is_asleep(worker));
-        scheduler.read_all(rt, &job, &mut handles, &wakers);
+        scheduler.read_all(rt, &job, &mut handles, row, &wakers);
         let [handle] = handles;
         assert!(rt; handle.finish(rt).is_ok());
     });
@@ -271,7 +276,8 @@ fn a_gatherer_sleeps_while_no_word_arrives(rt: HostRuntime) {
             marks: Marks::new(1),
             stopped: false,
         };
-        scheduler.read_all(rt, &job, &mut handles, &wakers);
+        let mut row = new_row(alloc).expect(rt, "a row");
+        scheduler.read_all(rt, &job, &mut handles, row.as_mut_slice(), &wakers);
         let [handle] = handles;
         assert!(rt; handle.finish(rt).is_ok());
     });

@@ -63,7 +63,8 @@ inline pause(who) {
     fi
 }
 
-/* send: puts the first `count` words of a row into a worker's ring */
+/* send: puts the first `count` words of a row into a worker's ring, and wakes the gatherer before it
+ * waits; after the last word that is left to what calls it */
 inline send(who) {
     do
     :: atomic {
@@ -78,16 +79,12 @@ inline send(who) {
             fi
         };
         if
-        :: atomic { accepted -> accepted = false };
-            renew(who);
-#ifndef WAKES_NOBODY
-            wake(GATHERER)
-#endif
+        :: atomic { accepted -> accepted = false }; renew(who)
         :: atomic { !accepted -> skip }
         fi;
         if
         :: atomic { count == 0 -> break }
-        :: atomic { count > 0 -> skip }; pause(who)
+        :: atomic { count > 0 -> skip }; wake(GATHERER); pause(who)
         fi
     od
 }
@@ -108,6 +105,16 @@ proctype worker(byte me) {
         od;
         renew(me);
         wake(GATHERER);
+        /* a slice may have a full row before its last one: only some of them wake the gatherer */
+        if
+        :: atomic { task == Slice -> row[0] = One; count = 1 };
+            send(me);
+            if
+            :: true -> wake(GATHERER)
+            :: true
+            fi
+        :: true
+        fi;
         atomic {
             if
             :: task == Dismiss -> row[0] = End; count = 1; over = true
@@ -126,6 +133,10 @@ proctype worker(byte me) {
             fi
         };
         send(me)
+#ifndef WAKES_NOBODY
+        ;
+        wake(GATHERER)
+#endif
     od;
     returned[me] = true
 }

@@ -110,7 +110,7 @@ impl<'a> Explanation<'a> {
 
     /// Says where a text can't be read on, what the line has, why, and what helps.
     ///
-    /// It returns the line, and what of it comes before. The column is in characters.
+    /// It returns the line, and the text before that place. The column is in characters.
     pub fn explain_place(&mut self, place: usize, message: &str) -> (&'a str, &'a str) {
         let text = self.text;
         let before = text.get(..place).unwrap_or(text);

@@ -12,6 +12,7 @@ ghost use Rattle.mwc_gather.specs.declared.scheduler.Scheduler.{Scheduler};
 ghost use Rattle.mwc_gather.specs.Gathering.{Gathers};
 ghost use Rattle.mwc_gather.specs.Inner.Gathering.{slices_of, all_total, Answers, IsComplete};
 
+use crate::channels::new_row;
 use crate::fault::{GatherFault, first_of};
 use crate::gathered::Gathered;
 use crate::guarded::Guarded;
@@ -89,12 +90,13 @@ fn run<'s, E, R: Threads + Wait + Sync, G: SliceObserver + Sync>(
     requires gate { (w j : ℕ) → w < workers → j < 2 ^ job.now.bits → G.takes w j }
     ensures { Answers job.now workers result }
 {
+    let mut row = new_row(alloc)?;
     let (mut handles, met) = open_all(scope, rt, alloc, job, workers, wakers);
     let mut scheduler = Scheduler {
         marks: Marks::new(slice_count(job.bits)),
         stopped: met.is_some(),
     };
-    scheduler.read_all(rt, job, handles.as_mut_slice(), wakers);
+    scheduler.read_all(rt, job, handles.as_mut_slice(), row.as_mut_slice(), wakers);
     let parts = finish_all(rt, alloc, job, handles, met)?;
     combine_parts(job, workers, parts)
 }

@@ -1,5 +1,5 @@
 //! A part while its words come in.
-ghost use Rattle.std.specs.Prelude.{◌≡◌, [], ◌∷◌, length, None, IfOk, IfErr, true, false};
+ghost use Rattle.std.specs.Prelude.{◌≡◌, ◌<◌, [], ◌∷◌, length, None, IfOk, IfErr, true, false, vec_len, vec_capacity};
 ghost use Rattle.std.specs.List.{list_any};
 ghost use Rattle.mwc_pipe.specs.declared.word.Word.{Word};
 ghost use Rattle.mwc_gather.specs.Pieces.{HasEnds};
@@ -52,18 +52,16 @@ impl PartBuilder {
         })
     }
 
-    /// Keeps one more word.
+    /// Keeps one more word; there is room for its coalition.
     #[tactic(auto, using(crate::proofs::Searches::for_add_word))]
-    pub fn add_word(&mut self, word: Word)
+    fn add_word(&mut self, word: Word)
+        requires { self.old.out_of_memory ≡ false → vec_len self.old.got < vec_capacity self.old.got }
         ensures adds { AddsWords self.old (word ∷ []) self.new }
         ensures grows { Grows self.old 1 self.new }
         ensures full { FailsOnlyWithoutRoom self.old 1 self.new }
     {
         match word {
-            Word::One(coalition) if !self.out_of_memory => {
-                // memory: the growth was refused
-                self.out_of_memory = self.got.push(coalition).is_err();
-            }
+            Word::One(coalition) if !self.out_of_memory => self.got.push_reserved(coalition),
             Word::Done(_) if !self.out_of_memory => match u32::try_from(self.got.len()) {
                 // memory: the growth was refused
                 Ok(end) => self.out_of_memory = self.ends.push(end).is_err(),
@@ -89,7 +87,7 @@ impl PartBuilder {
             end: false,
         };
         if self.got.reserve(row.len()).is_err() {
-            self.set_out_of_memory();
+            self.out_of_memory = true;
         }
         for word in row {
             self.add_word(*word);
@@ -97,14 +95,6 @@ impl PartBuilder {
             signals.end |= matches!(word, Word::End { .. });
         }
         signals
-    }
-
-    /// Notes that a growth was refused: nothing is kept from here on.
-    pub fn set_out_of_memory(&mut self)
-        ensures { self.new ≡ record self.old { out_of_memory = true } }
-    {
-        // memory: the call that notes a refused growth
-        self.out_of_memory = true;
     }
 
     /// Returns the part of a worker that was given these slices and has ended.

@@ -11,7 +11,6 @@ ghost use Rattle.mwc_gather.specs.Inner.WorkerHandles.{IsSameWorker, view_of, vi
 use crate::job::Job;
 use crate::marks::Marks;
 use crate::waiting::{Backoff, WakerPair, Wakers};
-use crate::word_buffer::WORDS;
 use crate::worker_handle::WorkerHandle;
 use mwc_pipe::Word;
 use std::sync::Wait;
@@ -117,6 +116,7 @@ impl Scheduler {
         rt: &R,
         job: &Job<'_, G>,
         handles: &mut [WorkerHandle],
+        row: &mut [Word],
         wakers: &Wakers,
     )
         requires { CanAssign job.now self.old handles.old }
@@ -124,7 +124,6 @@ impl Scheduler {
             self.new handles.new }
         ensures ended { All (λ d. d.ended ≡ true) handles.new }
     {
-        let mut row = [Word::Open(0); WORDS];
         let mut backoff = Backoff::new();
         self.assign_first(rt, job, handles, wakers);
         for _ in rt.forever() {
@@ -132,7 +131,7 @@ impl Scheduler {
             let mut moved = false;
             for i in 0..handles.len() {
                 let handle = &mut handles[i];
-                moved |= self.serve(rt, handle, i as u8, &mut row, wakers.pair(i));
+                moved |= self.serve(rt, handle, i as u8, row, wakers.pair(i));
                 running |= !handle.ended;
             }
             if !running {

@@ -8,19 +8,19 @@ ghost use Rattle.mwc_gather.specs.Inner.Sending.{SendsFirst, SendsSome};
 use crate::guarded::Guarded;
 use crate::observer::SliceObserver;
 use crate::progress::Progress;
-use crate::putting::{PutsRows, WordByWord};
+use crate::putting::{PutsRows, RowByRow, WordByWord};
 use crate::sent::Sent;
 use crate::waiting::{Backoff, Waker, WakerPair};
-use crate::word_buffer::WordBuffer;
+use crate::word_buffer::{SHORT_ROW, WordBuffer};
 use council_base::Gate;
-use mwc_pipe::{PipeIn, Word};
+use mwc_pipe::{PipeIn, RingIn, Word};
 use mwc_walk::Walk;
 use std::sync::Wait;
 
 /// Puts all words into a pipe, and waits while it is full.
 ///
-/// Returns false if the pipe refuses a word for good. After words went in it wakes the other side;
-/// while it waits it sleeps until its own waker wakes it.
+/// Returns false if the pipe refuses a word for good. Before it waits it wakes the other side, and
+/// then it sleeps until its own waker wakes it.
 #[tactic(auto, using(std::proofs::lemmas::Grind::common_steps))]
 pub(crate) fn send<W: PutsRows<P>, R: Wait, P: PipeIn<Word>>(
     rt: &R,
@@ -44,14 +44,25 @@ pub(crate) fn send<W: PutsRows<P>, R: Wait, P: PipeIn<Word>>(
         rest = rest.split_at(outcome.accepted).1;
         if outcome.accepted > 0 {
             backoff.renew(pair.own);
-            pair.other.wake();
         }
         if rest.is_empty() {
             return true;
         }
+        pair.other.wake();
         backoff.wait(rt, pair.own);
     }
     unreachable!()
+}
+
+/// Puts a word into a ring, and waits while it is full; then wakes the other side.
+pub(crate) fn put<R: Wait>(rt: &R, out: &mut RingIn, word: Word, pair: WakerPair<'_>)
+    ensures ring { out.new.ring ≡ out.old.ring }
+    ensures accepted { out.new.accepted ≡ out.old.accepted ++ word ∷ [] }
+{
+    if !send::<RowByRow, _, _>(rt, [word].as_slice(), out, pair) {
+        unreachable!()
+    }
+    pair.other.wake();
 }
 
 /// Adds a word to the buffer, which is sent first if it is full.
@@ -60,7 +71,7 @@ pub(crate) fn send<W: PutsRows<P>, R: Wait, P: PipeIn<Word>>(
 #[tactic(auto, using(std::proofs::lemmas::Grind::common_steps))]
 fn add<W: PutsRows<P>, R: Wait, P: PipeIn<Word>>(
     rt: &R,
-    buffer: &mut WordBuffer,
+    buffer: &mut WordBuffer<'_>,
     word: Word,
     out: &mut P,
     pair: WakerPair<'_>,
@@ -71,24 +82,23 @@ fn add<W: PutsRows<P>, R: Wait, P: PipeIn<Word>>(
     ensures refused { IsFalse result → SendsSome (P.accepted out.old) buffer.old (P.accepted out.new)
         × (P.broken out.new ≡ true) }
 {
-    if !buffer.is_full() {
-        buffer.push(word);
+    if buffer.push(&word) {
         return true;
     }
     if !send::<W, _, _>(rt, buffer.words(), out, pair) {
         return false;
     }
-    buffer.clear();
-    buffer.push(word);
+    pair.other.nudge();
+    buffer.restart(word);
     true
 }
 
-/// Adds the last word to the buffer, and sends all of it.
+/// Adds the last word to the buffer, sends all of it, and wakes the other side.
 ///
 /// Returns false if the pipe refuses a word for good.
 fn send_last<W: PutsRows<P>, R: Wait, P: PipeIn<Word>>(
     rt: &R,
-    buffer: &mut WordBuffer,
+    buffer: &mut WordBuffer<'_>,
     word: Word,
     out: &mut P,
     pair: WakerPair<'_>,
@@ -102,7 +112,9 @@ fn send_last<W: PutsRows<P>, R: Wait, P: PipeIn<Word>>(
     if !add::<W, _, _>(rt, buffer, word, out, pair) {
         return false;
     }
-    send::<W, _, _>(rt, buffer.words(), out, pair)
+    let sent = send::<W, _, _>(rt, buffer.words(), out, pair);
+    pair.other.wake();
+    sent
 }
 
 /// Passes the gate, and sends a slice up to its coalition number `left`.
@@ -134,7 +146,11 @@ pub fn send_slice<R: Wait, P: PipeIn<Word>, G: Gate>(
         own: &waker,
         other: &waker,
     };
-    send_slice_in_rows::<WordByWord, _, _, _>(rt, guarded, bits, slice, worker, left, out, pair)
+    let mut row = [Word::Open(slice); SHORT_ROW];
+    let buffer = &mut WordBuffer::new(&mut row);
+    send_slice_in_rows::<WordByWord, _, _, _>(
+        rt, guarded, bits, slice, worker, left, buffer, out, pair,
+    )
 }
 
 /// Sends a slice as `send_slice` does, in rows, and informs the gate of progress.
@@ -147,6 +163,7 @@ pub(crate) fn send_slice_in_rows<W: PutsRows<P>, R: Wait, P: PipeIn<Word>, G: Sl
     slice: u16,
     worker: u8,
     mut left: u32,
+    buffer: &mut WordBuffer<'_>,
     out: &mut P,
     pair: WakerPair<'_>,
 ) -> Sent
@@ -160,25 +177,24 @@ pub(crate) fn send_slice_in_rows<W: PutsRows<P>, R: Wait, P: PipeIn<Word>, G: Sl
     ensures unbroken { BreaksOnlyIfRefused (P.broken out.old) (P.broken out.new) result }
 {
     let mut walk = Walk::new(guarded.admit(worker, slice), bits, slice);
-    let mut buffer = WordBuffer::new();
-    buffer.push(Word::Open(slice));
+    buffer.restart(Word::Open(slice));
     let mut progress = Progress::new();
     while let Some(coalition) = progress.next(guarded, &mut walk) {
         let word = Word::One(coalition);
         if left == 1 {
             progress.report(guarded, &walk);
-            if !send_last::<W, _, _>(rt, &mut buffer, word, out, pair) {
+            if !send_last::<W, _, _>(rt, buffer, word, out, pair) {
                 return Sent::Refused;
             }
             return Sent::Cut;
         }
-        if !add::<W, _, _>(rt, &mut buffer, word, out, pair) {
+        if !add::<W, _, _>(rt, buffer, word, out, pair) {
             return Sent::Refused;
         }
         left -= 1;
     }
     progress.report(guarded, &walk);
-    if !send_last::<W, _, _>(rt, &mut buffer, Word::Done(slice), out, pair) {
+    if !send_last::<W, _, _>(rt, buffer, Word::Done(slice), out, pair) {
         return Sent::Refused;
     }
     Sent::Whole { left }

@@ -1,78 +1,65 @@
 //! Words that wait to be sent together.
-ghost use Rattle.std.specs.Prelude.{◌≡◌, ◌<◌, ◌↔◌, ◌++◌, ◌∷◌, [], IsTrue, IsFalse, length};
-ghost use Rattle.mwc_gather.specs.declared.word_buffer.TheConstants.{WORDS};
+ghost use Rattle.std.specs.Prelude.{◌≡◌, ◌<◌, ◌++◌, ◌∷◌, [], length, if◌then◌else◌};
 
 use mwc_pipe::Word;
 use std::marker::Model;
 
-/// How many words a buffer has room for.
-pub(crate) const WORDS: usize = 64;
+/// How many words a row has that lies on the stack, 1 KB.
+pub(crate) const SHORT_ROW: usize = 64;
 
-/// For the prover: the number of the constant, which clauses name.
-fn is_this_number()
-    ensures { WORDS ≡ 64 }
-{}
-
-/// Up to 64 words that wait to be sent together.
+/// Words that wait to be sent together, in a row of the caller's.
 ///
 /// Contracts see the words. No call takes memory.
 #[derive(Drop)]
-pub(crate) struct WordBuffer {
-    words: [Word; WORDS],
+pub(crate) struct WordBuffer<'a> {
+    row: &'a mut [Word],
     count: usize,
 }
 
-impl Model for WordBuffer {
-    ghost use Rattle.std.specs.Prelude.{◌≡◌, ◌≤◌, List, length, take};
+impl<'a> Model for WordBuffer<'a> {
+    ghost use Rattle.std.specs.Prelude.{◌<◌, ◌≤◌, List, length, take};
     ghost use Rattle.mwc_pipe.specs.declared.word.Word.{Word};
-    ghost use Rattle.mwc_gather.specs.declared.word_buffer.TheConstants.{WORDS};
 
     ghost Value = { List Word };
 
-    ghost view = { λ r. take r.count r.words };
+    ghost view = { λ b. take b.count b.row.now };
 
-    ghost invariant = { λ r. (r.count ≤ WORDS) × (length r.words ≡ WORDS) };
+    ghost invariant = { λ b. (b.count ≤ length b.row.now) × (0 < length b.row.now) };
 }
 
-impl WordBuffer {
-    /// Makes a buffer of no words.
-    pub fn new() -> WordBuffer
+impl<'a> WordBuffer<'a> {
+    /// Makes a buffer of no words, with room for as many as the row has.
+    pub fn new(row: &'a mut [Word]) -> WordBuffer<'a>
+        requires { 0 < length row.old }
         ensures { result ≡ [] }
     {
-        WordBuffer {
-            words: [Word::Open(0); WORDS],
-            count: 0,
+        WordBuffer { row, count: 0 }
+    }
+
+    /// Adds a word after the others if there is room, and returns whether there is.
+    pub fn push(&mut self, word: &Word) -> bool
+        ensures { self.new ≡ (if result then self.old ++ word.now ∷ [] else self.old) }
+    {
+        if self.count == self.row.len() {
+            return false;
         }
-    }
-
-    /// Returns whether there is no room for one more word.
-    pub fn is_full(&self) -> bool
-        ensures full { IsTrue result ↔ length self.now ≡ WORDS }
-        ensures room { IsFalse result → length self.now < WORDS }
-    {
-        self.count == WORDS
-    }
-
-    /// Adds a word after the others.
-    pub fn push(&mut self, word: Word)
-        requires { length self.old < WORDS }
-        ensures { self.new ≡ self.old ++ word ∷ [] }
-    {
-        self.words[self.count] = word;
+        self.row[self.count] = *word;
         self.count += 1;
+        true
     }
 
     /// Returns the words.
     pub fn words(&self) -> &[Word]
         ensures { result.now ≡ self.now }
     {
-        &self.words[..self.count]
+        &self.row[..self.count]
     }
 
-    /// Removes all words.
-    pub fn clear(&mut self)
-        ensures { self.new ≡ [] }
+    /// Removes all words, and adds one.
+    pub fn restart(&mut self, word: Word)
+        ensures { self.new ≡ word ∷ [] }
     {
-        self.count = 0;
+        self.row[0] = word;
+        self.count = 1;
     }
 }

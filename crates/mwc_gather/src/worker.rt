@@ -12,9 +12,10 @@ use crate::guarded::Guarded;
 use crate::job::Job;
 use crate::observer::SliceObserver;
 use crate::putting::RowByRow;
-use crate::send::{send, send_slice_in_rows};
+use crate::send::{put, send_slice_in_rows};
 use crate::sent::Sent;
 use crate::waiting::{Backoff, Waker, WakerPair};
+use crate::word_buffer::{SHORT_ROW, WordBuffer};
 use council_base::Gate;
 use mwc_pipe::{Closed, RingIn, RingOut, Unfinished, Word};
 use mwc_walk::slice_count;
@@ -57,10 +58,7 @@ fn finish<R: Wait>(
 ) -> Result<Closed, Unfinished>
     ensures { IfOk result (λ c. (c.ring ≡ out.ring) × (c.accepted ≡ out.accepted ++ End cut ∷ [])) }
 {
-    let end = [Word::End { cut }];
-    if !send::<RowByRow, _, _>(rt, end.as_slice(), &mut out, pair) {
-        unreachable!()
-    }
+    put(rt, &mut out, Word::End { cut }, pair);
     out.close()
 }
 
@@ -101,7 +99,8 @@ pub fn work<R: Wait, G: Gate>(
         bits,
         most,
     };
-    run_worker(rt, &job, worker, out, tasks, pair)
+    let mut row = [Word::Open(0); SHORT_ROW];
+    run_worker(rt, &job, worker, &mut row, out, tasks, pair)
 }
 
 /// Works as `work` does, with wakers for both sides of its rings.
@@ -112,16 +111,19 @@ pub(crate) fn run_worker<R: Wait, G: SliceObserver>(
     rt: &R,
     job: &Job<'_, G>,
     worker: u8,
+    row: &mut [Word],
     mut out: RingIn,
     mut tasks: RingOut,
     pair: WakerPair<'_>,
 ) -> (Result<Closed, Unfinished>, RingOut)
     requires worker { worker < WORKERS }
+    requires row { 0 < length row.old }
     requires fresh { (out.accepted ≡ []) × (tasks.taken ≡ []) }
     requires gate { (j : ℕ) → j < 2 ^ job.now.bits → G.takes worker j }
     ensures { HasWorked (slices_of job.now) job.now.most out tasks result }
 {
     let slices = slice_count(job.bits);
+    let mut buffer = WordBuffer::new(row);
     let mut left = job.most + 1;
     for _ in rt.forever() {
         let Some(slice) = next_task(rt, slices, &mut tasks, pair) else {
@@ -134,6 +136,7 @@ pub(crate) fn run_worker<R: Wait, G: SliceObserver>(
             slice,
             worker,
             left,
+            &mut buffer,
             &mut out,
             pair,
         );

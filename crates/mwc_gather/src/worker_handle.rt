@@ -20,8 +20,7 @@ use crate::observer::SliceObserver;
 use crate::part::Part;
 use crate::part_builder::PartBuilder;
 use crate::promise::{Answer, GivenJob};
-use crate::putting::RowByRow;
-use crate::send::send;
+use crate::send::put;
 use crate::waiting::{WakerPair, Wakers};
 use crate::worker::run_worker;
 use mwc_pipe::{Rest, RingIn, RingOut, Word};
@@ -82,6 +81,7 @@ impl WorkerHandle {
             words,
             tasks,
             list,
+            mut row,
             given,
             builder,
         } = Channels::new(alloc, slice_count(job.bits))?;
@@ -97,11 +97,12 @@ impl WorkerHandle {
         };
         let body = move || -> Answer
             requires worker { worker < WORKERS }
+            requires row { 0 < length row.items }
             requires fresh { (out.accepted ≡ []) × (list.taken ≡ []) }
             requires gate { (j : ℕ) → j < 2 ^ own.bits → G.takes worker j }
             ensures { HasWorked (slices_of own.entry) own.entry.most
                 out list result }
-        { run_worker(rt, &own, worker, out, list, pair) };
+        { run_worker(rt, &own, worker, row.as_mut_slice(), out, list, pair) };
         let Ok(worker) = scope.spawn_with(given_job, body) else {
             return Err(GatherFault::Start);
         };
@@ -129,7 +130,7 @@ impl WorkerHandle {
         ensures full { IsFalse result → vec_capacity self.old.given ≤ vec_len self.old.given }
     {
         if self.given.reserve(1).is_err() {
-            self.builder.set_out_of_memory();
+            self.builder.out_of_memory = true;
             return false;
         }
         true
@@ -223,21 +224,11 @@ fn ring_fault(builder: &PartBuilder) -> GatherFault
     }
 }
 
-/// Puts a task into the ring, and waits while it is full; then wakes the worker.
-fn put<R: Wait>(rt: &R, tasks: &mut RingIn, task: Word, pair: WakerPair<'_>)
-    ensures ring { tasks.new.ring ≡ tasks.old.ring }
-    ensures accepted { tasks.new.accepted ≡ tasks.old.accepted ++ task ∷ [] }
-{
-    if !send::<RowByRow, _, _>(rt, [task].as_slice(), tasks, pair) {
-        unreachable!()
-    }
-}
-
 /// Keeps all words that are left.
 fn drain(mut rest: Rest, builder: &mut PartBuilder)
     ensures { AddsWords builder.old rest builder.new }
 {
     while let Some(word) = rest.next() {
-        builder.add_word(word);
+        let _signals = builder.add_row([word].as_slice());
     }
 }

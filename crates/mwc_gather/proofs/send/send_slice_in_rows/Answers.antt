@@ -1,4 +1,4 @@
-use Rattle.mwc_gather.proofs.Imports.{◌≡◌, [], ◌∷◌, ◌++◌, List, length, rules, arith, refl, sym, ◌∙◌, ap, append-nil, Word, Open, GameView}
+use Rattle.mwc_gather.proofs.Imports.{◌≡◌, [], rules, arith, refl, sym, ◌∙◌, ap, append-nil, GameView}
 use Rattle.mwc_gather.proofs.Imports.{slicing}
 use Rattle.std.proofs.Common.{add-zero}
 use Rattle.mwc_walk.specs.WalkView.{WalkView}
@@ -19,13 +19,10 @@ loop-coalition-init g c = record {
     first = (
       [],
       sym (append-nil (g.P.PipeIn.accepted c.args.out.now)),
-      c.push.ensures ∙ ap (λ (w : List Word). w ++ Open c.args.slice ∷ []) c.new-buffer.ensures,
+      c.restart.ensures,
     );
   };
 }
-
-pub push-requires : goal.push-requires
-push-requires g c = let none = ap length c.new-buffer.ensures in omega arith
 
 pub returns-then-not-send_last-clause-sends : goal.returns-then-not-send_last-clause-sends
 returns-then-not-send_last-clause-sends g c =

@@ -9,5 +9,5 @@ loop-word-preserved c =
     let word : Word = c.in-Some.word in (
       done ++ word ∷ [],
       append_assoc done (word ∷ []) c.next.new.self ∙ ap (λ (w : List Word). done ++ w) (sym c.in-Some.ensures) ∙ i.1,
-      adds_more i.2 c.add_word.ensures.adds,
+      adds_more i.2 (rw c.as_slice.ensures at c.add_row-signals.ensures.adds),
     )
