@@ -1,7 +1,7 @@
 //! Levels of the graph: links from the states of one to those of the next.
 ghost use Rattle.std.specs.Prelude.{◌≡◌, ◌+◌, ◌<◌, ◌≤◌, ◌^◌, ℕ, IfOk, IfSome, length};
 ghost use Rattle.mwc_states.specs.Inner.Tables.{AreMoved, IsLevel, IsMoved};
-ghost use Rattle.mwc_states.specs.Inner.Ways.{link_at};
+ghost use Rattle.mwc_states.specs.Inner.Links.{link_at};
 
 use crate::later::Later;
 use crate::row::Row;

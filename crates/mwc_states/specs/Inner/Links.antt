@@ -12,6 +12,10 @@ accepts [] k set = nat_eq k 1
 accepts (links ∷ levels) k [] = false
 accepts (links ∷ levels) k (taken ∷ set) = accepts levels (slice_index (slice_index_or links k []) (if taken then 1 else 0)) set
 
+-- where row p leads without the member (0) or with it (1)
+abbrev pub link_at : List (List ℕ) → ℕ → ℕ → ℕ
+link_at links p choice = slice_index (slice_index_or links p []) choice
+
 -- how many states level i has
 abbrev pub states_at : List (List (List ℕ)) → ℕ → ℕ
 states_at levels i = length (slice_index_or levels i []) - 2

@@ -4,7 +4,7 @@ use Rattle.std.specs.List.{All}
 use Rattle.mwc_states.specs.declared.what.What.{What}
 use Rattle.mwc_states.specs.Inner.Sets.{is_empty}
 use Rattle.mwc_states.specs.Inner.States.{completes}
-use Rattle.mwc_states.specs.Inner.Ways.{link_at}
+use Rattle.mwc_states.specs.Inner.Links.{link_at}
 
 -- the states of a table, each some rows from a place on
 unfoldable pub states_of : List (List ℕ) → List (ℕ × ℕ) → List (List (List ℕ))

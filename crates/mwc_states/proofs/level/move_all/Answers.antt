@@ -1,4 +1,4 @@
-use Rattle.mwc_states.proofs.Imports.{◌≡◌, ◌∙◌, ℕ, [], List, ap, arith, get_or, get_or_default}
+use Rattle.mwc_states.proofs.Imports.{◌∙◌, ℕ, [], List, ap, arith, get_or, get_or_default}
 use Rattle.mwc_states.proofs.Levels.{moved-more}
 use Rattle.mwc_states.proofs.level.move_all.Goals as goal
 
