@@ -39,7 +39,7 @@ cell-of value row size small =
     rw (first, second) (grind (arith, nat_tests))
 
 -- what a choice is worth if each row is worth 1
-pub step-ones : (links : List (List ℕ)) (count p a : ℕ) → a < 41 → count * step links (λ _ _. 1) p a ≡ count + cond (ltb (a + 1) 41) count 0
+pub step-ones : (links : List ℕ) (count p a : ℕ) → a < 41 → count * step links (λ _ _. 1) p a ≡ count + cond (ltb (a + 1) 41) count 0
 step-ones links count p a small = grind (arith, nat_tests)
 
 pub weighted-end : (xs : List ℕ) (k : ℕ) (value : ℕ → ℕ) → length xs ≤ k → weighted k (drop k xs) value ≡ 0

@@ -1,8 +1,8 @@
 -- What choices are worth, and the sets of a graph that have a member.
 use Rattle.mwc_states.proofs.Imports.{◌≡◌, ◌∙◌, ℕ, zero, suc, ◌+◌, ◌-◌, ◌*◌, ◌^◌, ◌<◌, ◌≤◌, ◌&&◌, true, false, cond, leb, ltb, List, [], ◌∷◌}
 use Rattle.mwc_states.proofs.Imports.{length, drop, get_or, sym, ap, arith, nat_tests, drop-cons, drop_all, get_or_past, get_or-map, length-map, map}
-use Rattle.mwc_states.proofs.Imports.{has, count_sets, accepts, over_choices, later, link_at, step, states_at, AreLeading, AreCompleting, worth, cut}
-use Rattle.std.proofs.Common.{pow_mono, replicate, refl, Vec, Global}
+use Rattle.mwc_states.proofs.Imports.{has, count_sets, accepts, over_choices, later, link_at, step, rows_at, count_at, AreLeading, AreCompleting, worth, cut}
+use Rattle.std.proofs.Common.{◌/◌, pow_mono, replicate, refl, Vec, Global}
 use Rattle.mwc_states.proofs.Imports.{get_or-zeros, get_or_default}
 use Rattle.mwc_states.specs.Inner.Links.{IsGraph}
 use Rattle.mwc_states.specs.declared.choices.Choices.{Choices}
@@ -13,11 +13,11 @@ unfoldable use Rattle.mwc_states.specs.Inner.Counting.{over_choices}
 
 -- ---- what choices are worth
 -- a value that is at most c
-choices-few : (levels : List (List (List ℕ))) (i c : ℕ) (value : ℕ → ℕ → ℕ) → ((p a : ℕ) → value p a ≤ c) → over_choices levels i value ≤ c * 2 ^ i
+choices-few : (levels : List (List ℕ)) (i c : ℕ) (value : ℕ → ℕ → ℕ) → ((p a : ℕ) → value p a ≤ c) → over_choices levels i value ≤ c * 2 ^ i
 unfolding over_choices
-choices-few levels zero c value few = omega (arith, few 2 0)
+choices-few levels zero c value few = omega (arith, few 0 0)
 choices-few levels (suc i) c value few =
-    let links : List (List ℕ) = get_or levels i [] in
+    let links : List ℕ = get_or levels i [] in
     let least : (p a : ℕ) → cut value p a ≤ c = λ p a. grind (arith, nat_tests, few p a) in
     let rest = choices-few levels i (2 * c) (step links value) (λ p a. omega (arith, least (link_at links p 0) a, least (link_at links p 1) (a + 1))) in
     let more : 2 ^ suc i ≡ 2 * 2 ^ i = omega arith in
@@ -33,15 +33,15 @@ cut-later : (f : ℕ → ℕ) (a s : ℕ) → s < 41 → cond (ltb a 41) (later 
 cut-later f a s small = grind (arith, nat_tests)
 
 -- the sets with member m
-choices-sets : (levels : List (List (List ℕ))) (i j r m n s : ℕ) → s < 41 → i + j ≡ m → i + r ≡ n → i ≤ length levels
+choices-sets : (levels : List (List ℕ)) (i j r m n s : ℕ) → s < 41 → i + j ≡ m → i + r ≡ n → i ≤ length levels
     → over_choices levels i (λ p a. later a (count_sets r (λ set. has j set && accepts (drop i levels) p set)) s)
-    ≡ count_sets n (λ set. has m set && accepts levels 2 set) s
+    ≡ count_sets n (λ set. has m set && accepts levels 0 set) s
 unfolding over_choices accepts
 choices-sets levels zero j r m n s small first second within =
     let e : j ≡ m = omega arith in let f : r ≡ n = omega arith in
-    later-zero (count_sets r (λ set. has j set && accepts levels 2 set)) s ∙ (λ i. count_sets (f i) (λ set. has (e i) set && accepts levels 2 set) s)
+    later-zero (count_sets r (λ set. has j set && accepts levels 0 set)) s ∙ (λ i. count_sets (f i) (λ set. has (e i) set && accepts levels 0 set) s)
 choices-sets levels (suc i) j r m n s small first second within =
-    let links : List (List ℕ) = get_or levels i [] in
+    let links : List ℕ = get_or levels i [] in
     let front : drop i levels ≡ links ∷ drop (suc i) levels = drop-cons levels i [] (omega arith) in
     let sets : ℕ → ℕ → ℕ = λ p. count_sets r (λ set. has j set && accepts (drop (suc i) levels) p set) in
     (λ t. over_choices levels i (λ p a. cut-later (sets (link_at links p 0)) a s small t + cut-later (sets (link_at links p 1)) (a + 1) s small t))
@@ -50,7 +50,7 @@ choices-sets levels (suc i) j r m n s small first second within =
     ∙ choices-sets levels i (suc j) (suc r) m n s small (omega arith) (omega arith) (omega arith)
 
 -- the pairs of a choice and a set that completes the link with the member
-with-sets : (links : List (List ℕ)) (levels : List (List (List ℕ))) (r s p a : ℕ)
+with-sets : (links : List ℕ) (levels : List (List ℕ)) (r s p a : ℕ)
     → later (a + 1) (count_sets r (accepts levels (link_at links p 1))) s
     ≡ later a (count_sets (suc r) (λ set. has 0 set && accepts (links ∷ levels) p set)) s
 unfolding accepts
@@ -59,40 +59,35 @@ with-sets links levels r s p a =
     omega (arith, sets-step r a s (λ set. has 0 set && accepts (links ∷ levels) p set), none)
 
 -- ---- a level
-pub link-read : (links : List (List ℕ)) (p choice : ℕ) (link : List ℕ) → p < length links → link ≡ get_or links p link
-    → get_or link choice 0 ≡ link_at links p choice
-link-read links p choice link lt is = ap (λ (l : List ℕ). get_or l choice 0) (is ∙ get_or_default links p link [] lt)
-
-abbrev pub links_of : List (Vec (List ℕ) Global) → List (List (List ℕ))
+abbrev pub links_of : List (Vec ℕ Global) → List (List ℕ)
 links_of levels = map (λ links. links.items) levels
 
-pub as-many : (levels : List (Vec (List ℕ) Global)) → length (links_of levels) ≡ length levels
+pub as-many : (levels : List (Vec ℕ Global)) → length (links_of levels) ≡ length levels
 as-many levels = length-map levels (λ v. v.items)
 
 -- the links of level i
-pub record IsLevel (levels : List (List (List ℕ))) (i : ℕ) (links : List (List ℕ)) : Type 0 where
+pub record IsLevel (levels : List (List ℕ)) (i : ℕ) (links : List ℕ) : Type 0 where
   pub within : i < length levels
   pub is : links ≡ get_or levels i []
 
-pub level-at : (levels : List (Vec (List ℕ) Global)) (i : ℕ) (links : Vec (List ℕ) Global) → i < length levels → links ≡ get_or levels i links
+pub level-at : (levels : List (Vec ℕ Global)) (i : ℕ) (links : Vec ℕ Global) → i < length levels → links ≡ get_or levels i links
     → IsLevel (links_of levels) i links.items
 level-at levels i links lt is = record {
   within = omega (arith, lt, as-many levels);
-  is = ap (λ (v : Vec (List ℕ) Global). v.items) is ∙ sym (get_or-map (λ v. v.items) levels i links [] lt);
+  is = ap (λ (v : Vec ℕ Global). v.items) is ∙ sym (get_or-map (λ v. v.items) levels i links [] lt);
 }
 
-module _ {levels : List (List (List ℕ))} {i : ℕ} {links : List (List ℕ)} (graph : IsGraph levels) (h : IsLevel levels i links) where
-  pub level-long : length links ≡ 2 + states_at levels i
-  level-long = omega (arith, ap (λ (l : List (List ℕ)). length l) h.is, graph.ends i h.within)
+module _ {levels : List (List ℕ)} {i : ℕ} {links : List ℕ} (graph : IsGraph levels) (h : IsLevel levels i links) where
+  pub level-rows : length links / 2 ≡ rows_at levels i
+  level-rows = ap (λ (l : List ℕ). length l / 2) (h.is ∙ get_or_default levels i [] (0 ∷ 0 ∷ 0 ∷ 0 ∷ []) h.within)
 
-  pub level-small : (p choice : ℕ) → link_at links p choice < 2 + states_at levels (i + 1)
-  level-small p choice =
-      let small = graph.linked i p choice h.within in omega (arith, small, ap (λ (l : List (List ℕ)). link_at l p choice) h.is)
+  pub level-small : (k : ℕ) → get_or links k 0 < rows_at levels (i + 1)
+  level-small k = omega (arith, graph.linked i k h.within, ap (λ (l : List ℕ). get_or l k 0) h.is)
 
   abbrev left : ℕ
   left = length levels - (i + 1)
 
-  abbrev rest : List (List (List ℕ))
+  abbrev rest : List (List ℕ)
   rest = drop (i + 1) levels
 
   one_level : suc left ≡ length levels - i
@@ -116,30 +111,30 @@ module _ {levels : List (List (List ℕ))} {i : ℕ} {links : List (List ℕ)} (
         omega (arith, lead-step (λ _ _. 1), choices-few levels (i + 1) 1 (λ _ _. 1) (λ p a. omega arith), up)
 
     pub with-sum : {rows : List (List ℕ)} → AreCompleting levels (i + 1) rows → (s : ℕ) → s < 41
-        → worth choices (λ p a. later (a + 1) (link_at rows (link_at links p 1)) s)
-        ≡ count_sets (length levels) (λ set. has i set && accepts levels 2 set) s
+        → worth choices (λ p a. later (a + 1) (count_at rows (link_at links p 1)) s)
+        ≡ count_sets (length levels) (λ set. has i set && accepts levels 0 set) s
     with-sum {rows = rows} complete s small =
         are.sums _
-        ∙ (λ t. over_choices levels i (λ p a. later-alike (a + 1) (link_at rows (link_at links p 1)) (count_sets left (accepts rest (link_at links p 1))) s
-        (complete.each (link_at links p 1) (s - (a + 1)) (level-small p 1) (omega (arith, small))) t))
+        ∙ (λ t. over_choices levels i (λ p a. later-alike (a + 1) (count_at rows (link_at links p 1)) (count_sets left (accepts rest (link_at links p 1))) s
+        (complete.each (link_at links p 1) (s - (a + 1)) (level-small (2 * p + 1)) (omega (arith, small))) t))
         ∙ (λ t. over_choices levels i (λ p a. with-sets links rest left s p a t))
         ∙ (λ t. over_choices levels i (λ p a. later a (count_sets (suc left) (λ set. has 0 set && accepts (front t) p set)) s))
         ∙ choices-sets levels i 0 (suc left) i (length levels) s small (omega arith) (omega (arith, h.within)) (omega (arith, h.within))
 
     pub with-fits : {rows : List (List ℕ)} → AreCompleting levels (i + 1) rows → (s : ℕ) → s < 41
-        → worth choices (λ p a. later (a + 1) (link_at rows (link_at links p 1)) s) < 2 ^ 64
+        → worth choices (λ p a. later (a + 1) (count_at rows (link_at links p 1)) s) < 2 ^ 64
     with-fits complete s small =
         let up : 2 ^ length levels ≤ 2 ^ 40 = pow_mono {j = 40} graph.few in
-        omega (arith, with-sum complete s small, up, sets-few (length levels) s (λ set. has i set && accepts levels 2 set))
+        omega (arith, with-sum complete s small, up, sets-few (length levels) s (λ set. has i set && accepts levels 0 set))
 
   -- ---- one member before
   pub complete-next : {rows : List (List ℕ)} → AreCompleting levels (i + 1) rows → (p s : ℕ) → s < 41
-      → link_at rows (link_at links p 0) s + later 1 (link_at rows (link_at links p 1)) s ≡ count_sets (length levels - i) (accepts (drop i levels) p) s
+      → count_at rows (link_at links p 0) s + later 1 (count_at rows (link_at links p 1)) s ≡ count_sets (length levels - i) (accepts (drop i levels) p) s
   unfolding accepts
   complete-next {rows = rows} are p s small =
-      (λ t. (are.each (link_at links p 0) s (level-small p 0) small ∙ sym (later-zero (count_sets left (accepts rest (link_at links p 0))) s)) t
-      + later-alike 1 (link_at rows (link_at links p 1)) (count_sets left (accepts rest (link_at links p 1))) s
-      (are.each (link_at links p 1) (s - 1) (level-small p 1) (omega (arith, small))) t)
+      (λ t. (are.each (link_at links p 0) s (level-small (2 * p + 0)) small ∙ sym (later-zero (count_sets left (accepts rest (link_at links p 0))) s)) t
+      + later-alike 1 (count_at rows (link_at links p 1)) (count_sets left (accepts rest (link_at links p 1))) s
+      (are.each (link_at links p 1) (s - 1) (level-small (2 * p + 1)) (omega (arith, small))) t)
       ∙ sym (sets-step left 0 s (accepts (links ∷ rest) p)) ∙ later-zero (count_sets (suc left) (accepts (links ∷ rest) p)) s ∙ (λ t. count_sets (one_level t) (accepts (front t) p) s)
 
   pub complete-fits : (p s : ℕ) → count_sets (length levels - i) (accepts (drop i levels) p) s < 2 ^ 64
@@ -147,16 +142,16 @@ module _ {levels : List (List (List ℕ))} {i : ℕ} {links : List (List ℕ)} (
       let up : 2 ^ (length levels - i) ≤ 2 ^ 40 = pow_mono {j = 40} (omega (arith, graph.few)) in
       omega (arith, up, sets-few (length levels - i) s (accepts (drop i levels) p))
 
-pub complete-last : (levels : List (Vec (List ℕ) Global)) → AreCompleting (links_of levels) (length levels) (replicate 41 0 ∷ (1 ∷ replicate 40 0) ∷ [])
+pub complete-last : (levels : List (Vec ℕ Global)) → AreCompleting (links_of levels) (length levels) (replicate 41 0 ∷ (1 ∷ replicate 40 0) ∷ [])
 unfolding accepts count_sets
 complete-last levels = record {
-  long = omega (arith, ap (λ (l : List (List ℕ)). length l) past);
-  wide = λ k lt. full k (omega (arith, lt, ap (λ (l : List (List ℕ)). length l) past));
-  each = λ k s lt small. here k s (omega (arith, lt, ap (λ (l : List (List ℕ)). length l) past)) ∙ (λ t. count_sets (sym none t) (accepts (sym gone t) k) s);
+  long = omega (arith, ap (λ (l : List ℕ). length l / 2) past);
+  wide = λ k lt. full k (omega (arith, lt, ap (λ (l : List ℕ). length l / 2) past));
+  each = λ k s lt small. here k s (omega (arith, lt, ap (λ (l : List ℕ). length l / 2) past)) ∙ (λ t. count_sets (sym none t) (accepts (sym gone t) k) s);
 }
   where
-    past : get_or (links_of levels) (length levels) [] ≡ []
-    past = get_or_past (links_of levels) (length levels) [] (omega (arith, as-many levels))
+    past : get_or (links_of levels) (length levels) (0 ∷ 0 ∷ 0 ∷ 0 ∷ []) ≡ 0 ∷ 0 ∷ 0 ∷ 0 ∷ []
+    past = get_or_past (links_of levels) (length levels) (0 ∷ 0 ∷ 0 ∷ 0 ∷ []) (omega (arith, as-many levels))
 
     none : length (links_of levels) - length levels ≡ 0
     none = omega (arith, as-many levels)
@@ -169,14 +164,14 @@ complete-last levels = record {
     full (suc zero) lt = refl
     full (suc (suc k)) lt = absurd (omega arith)
 
-    here : (k s : ℕ) → k < 2 → link_at (replicate 41 0 ∷ (1 ∷ replicate 40 0) ∷ []) k s ≡ count_sets 0 (accepts [] k) s
+    here : (k s : ℕ) → k < 2 → count_at (replicate 41 0 ∷ (1 ∷ replicate 40 0) ∷ []) k s ≡ count_sets 0 (accepts [] k) s
     here zero zero lt = refl
     here zero (suc s) lt = get_or-zeros 40 s
     here (suc zero) zero lt = refl
     here (suc zero) (suc s) lt = get_or-zeros 40 s
     here (suc (suc k)) s lt = absurd (omega arith)
 
-pub all-sets : {levels : List (List (List ℕ))} {rows : List (List ℕ)} → 1 ≤ states_at levels 0 → AreCompleting levels 0 rows → (s : ℕ) → s < 41
-    → link_at rows 2 s ≡ count_sets (length levels) (λ set. true && accepts levels 2 set) s
+pub all-sets : {levels : List (List ℕ)} {rows : List (List ℕ)} → 1 ≤ rows_at levels 0 → AreCompleting levels 0 rows → (s : ℕ) → s < 41
+    → count_at rows 0 s ≡ count_sets (length levels) (λ set. true && accepts levels 0 set) s
 all-sets {levels = levels} some are s small = let e : length levels - 0 ≡ length levels = omega arith in
-    are.each 2 s (omega (arith, some)) small ∙ (λ t. count_sets (e t) (accepts levels 2) s)
+    are.each 0 s (omega (arith, some)) small ∙ (λ t. count_sets (e t) (accepts levels 0) s)

@@ -1,10 +1,10 @@
 //! Choices of the first members, by the row that they lead to.
-ghost use Rattle.std.specs.Prelude.{◌≡◌, ℕ, ◌+◌, ◌*◌, ◌<◌, ◌≤◌, ◌^◌, All, IfOk, length, map};
+ghost use Rattle.std.specs.Prelude.{◌≡◌, ℕ, ◌+◌, ◌*◌, ◌/◌, ◌<◌, ◌≤◌, ◌^◌, All, IfOk, length, map, slice_index};
 ghost use Rattle.council_base.specs.declared.limits.TheConstants.{SIZES};
 ghost use Rattle.mwc_states.specs.Inner.Counting.{AreLeading, at_cell, cut, step, weighted, worth};
-ghost use Rattle.mwc_states.specs.Inner.Links.{IsGraph, link_at, states_at};
+ghost use Rattle.mwc_states.specs.Inner.Links.{IsGraph, rows_at};
 
-use crate::level::Links;
+use crate::level::{Links, link_at};
 use council_base::{Memory, limits};
 use std::alloc::Global;
 
@@ -37,9 +37,9 @@ fn decide(
     links: &Links,
     rows: usize,
 ) -> Result<Vec<u64>, Memory>
-    requires few { rows ≤ 2 ^ 26 + 2 }
-    requires within { All (λ some. some.cell < SIZES * length links.now.items) choices.now }
-    requires linked { (p choice : ℕ) → link_at links.now.items p choice < rows }
+    requires few { rows ≤ 2 ^ 26 }
+    requires within { All (λ some. some.cell < SIZES * (length links.now.items / 2)) choices.now }
+    requires linked { (k : ℕ) → slice_index links.now.items k < rows }
     requires fits { worth choices.now (step links.now.items (λ _ _. 1)) < 2 ^ 64 }
     ensures long { IfOk result (λ cells. length cells.items ≡ SIZES * rows) }
     ensures sums { IfOk result (λ cells. (value : ℕ → ℕ → ℕ)
@@ -49,8 +49,8 @@ fn decide(
     for some in choices {
         let row = some.cell as usize / limits::SIZES;
         let size = some.cell as usize % limits::SIZES;
-        add(&mut cells, links[row][0], size, some.count);
-        add(&mut cells, links[row][1], size + 1, some.count);
+        add(&mut cells, link_at(links, row, 0), size, some.count);
+        add(&mut cells, link_at(links, row, 1), size + 1, some.count);
     }
     Ok(cells)
 }
@@ -77,12 +77,11 @@ fn list(alloc: Global, cells: &[u64]) -> Result<Vec<Choices>, Memory>
 }
 
 /// Returns the number of rows of a level, or after the last one.
-fn rows_at(levels: &[Links], level: usize) -> usize
-    requires { IsGraph (map (λ links. links.items) levels.now) }
-    ensures { result ≡ 2 + states_at (map (λ links. links.items) levels.now) level }
+pub(crate) fn rows_at(levels: &[Links], level: usize) -> usize
+    ensures { result ≡ rows_at (map (λ links. links.items) levels.now) level }
 {
     if level < levels.len() {
-        levels[level].len()
+        levels[level].len() / 2
     } else {
         2
     }

@@ -1,5 +1,5 @@
 //! Rows.
-ghost use Rattle.std.specs.Prelude.{◌≡◌, ◌+◌, ◌-◌, ◌<◌, ◌^◌, ℕ, min, max, slice_index, sum_by, IsTrue, ◌↔◌, if◌then◌else◌};
+ghost use Rattle.std.specs.Prelude.{◌≡◌, ◌+◌, ◌-◌, ◌<◌, ◌^◌, ℕ, min, max, slice_index, sum_by, if◌then◌else◌};
 ghost use Rattle.council_base.specs.declared.limits.TheConstants.{RULES};
 ghost use Rattle.mwc_states.specs.Inner.Sets.{meets};
 ghost use Rattle.mwc_states.specs.Inner.Later.{IsTotal};
@@ -88,12 +88,4 @@ pub(crate) fn meets(weights: &Row, row: &Row) -> bool
     ensures { result ≡ meets (slice_index weights.now) row.now }
 {
     (0..limits::RULES).all(|r| weights[r] >= row[r])
-}
-
-/// Returns whether a row is 0 under each rule.
-#[inline]
-pub(crate) fn is_zero(row: &Row) -> bool
-    ensures { IsTrue result ↔ ((r : ℕ) → r < RULES → slice_index row.now r ≡ 0) }
-{
-    (0..limits::RULES).all(|r| row[r] == 0)
 }

@@ -6,7 +6,7 @@ ghost use Rattle.mwc_states.specs.Inner.Links.{AreSizesOf, IsGraph};
 ghost use Rattle.mwc_states.specs.Inner.Sets.{has};
 
 use crate::choices::{Choices, decide_all};
-use crate::level::Links;
+use crate::level::{Links, link_at};
 use council_base::{Memory, SizeCounts, limits};
 use std::alloc::Global;
 
@@ -47,7 +47,7 @@ fn count_with(
     for some in choices {
         let row = some.cell as usize / limits::SIZES;
         let size = some.cell as usize % limits::SIZES;
-        let rest = &completing[links[row][1] as usize];
+        let rest = &completing[link_at(links, row, 1) as usize];
         add_times(&mut sizes, size + 1, some.count, rest);
     }
     sizes
@@ -79,10 +79,10 @@ fn complete(
     ensures { IfOk result (λ rows. AreCompleting (map (λ links. links.items) levels.now) level rows.items) }
 {
     let links = &levels[level];
-    let mut rows = Vec::with_capacity(alloc, links.len())?;
-    for row in 0..links.len() {
-        let mut sizes = next[links[row][0] as usize];
-        add_times(&mut sizes, 1, 1, &next[links[row][1] as usize]);
+    let mut rows = Vec::with_capacity(alloc, links.len() / 2)?;
+    for row in 0..links.len() / 2 {
+        let mut sizes = next[link_at(links, row, 0) as usize];
+        add_times(&mut sizes, 1, 1, &next[link_at(links, row, 1) as usize]);
         rows.push(sizes)?;
     }
     Ok(rows)
@@ -115,7 +115,7 @@ fn count_from(
 
 /// Counts the sets that a graph accepts, by size and by member.
 ///
-/// Member i is decided at level i, and the root is row 2 of level 0. Choices are counted from the
+/// Member i is decided at level i, and the root is row 0 of level 0. Choices are counted from the
 /// first level on, and sets that complete them from the last one back.
 ///
 /// # Errors
@@ -128,12 +128,9 @@ pub(crate) fn count(alloc: Global, levels: &[Links]) -> Result<Box<SetCounts>, M
     ensures each { IfOk result (λ counts. (i : ℕ) → i < length levels.now
         → AreSizesOf (map (λ links. links.items) levels.now) (has i) (slice_index_or counts.value.each i [])) }
 {
-    let root = [Choices {
-        cell: 2 * limits::SIZES as u32,
-        count: 1,
-    }];
+    let root = [Choices { cell: 0, count: 1 }];
     let mut each = [[0; limits::SIZES]; limits::MEMBERS];
     let completing = count_from(alloc, levels, 0, &root, &mut each)?;
-    let all = completing[2];
+    let all = completing[0];
     Ok(Box::new(alloc, SetCounts { all, each })?)
 }

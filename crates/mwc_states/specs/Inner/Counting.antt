@@ -1,9 +1,9 @@
 -- Choices of the first members of a graph, and sets that complete them, by size.
-use Rattle.std.specs.Prelude.{ℕ, zero, suc, ◌+◌, ◌-◌, ◌*◌, ◌/◌, ◌%◌, ◌<◌, ◌≡◌, nat_le, nat_lt, if◌then◌else◌, All, List, [], ◌∷◌, length, drop, slice_index_or, sum_by}
+use Rattle.std.specs.Prelude.{ℕ, zero, suc, ◌+◌, ◌-◌, ◌*◌, ◌/◌, ◌%◌, ◌<◌, ◌≡◌, nat_le, nat_lt, if◌then◌else◌, All, List, [], ◌∷◌, length, drop, slice_index, slice_index_or, sum_by}
 use Rattle.council_base.specs.declared.limits.TheConstants.{SIZES}
 use Rattle.mwc_states.specs.declared.choices.Choices.{Choices}
 use Rattle.mwc_states.specs.Inner.Sets.{count_sets}
-use Rattle.mwc_states.specs.Inner.Links.{accepts, link_at, states_at}
+use Rattle.mwc_states.specs.Inner.Links.{accepts, link_at, rows_at}
 
 -- numbers by size, each for a size that is greater by `more`
 abbrev pub later : ℕ → (ℕ → ℕ) → ℕ → ℕ
@@ -27,21 +27,25 @@ abbrev pub cut : (ℕ → ℕ → ℕ) → ℕ → ℕ → ℕ
 cut value p a = if nat_lt a SIZES then value p a else 0
 
 -- the values of the rows that a choice of a size in a row leads to, added
-abbrev pub step : List (List ℕ) → (ℕ → ℕ → ℕ) → ℕ → ℕ → ℕ
+abbrev pub step : List ℕ → (ℕ → ℕ → ℕ) → ℕ → ℕ → ℕ
 step links value p a = cut value (link_at links p 0) a + cut value (link_at links p 1) (a + 1)
 
 -- the values of the rows of level i that the choices of the first i members lead to, added
-unfoldable pub over_choices : List (List (List ℕ)) → ℕ → (ℕ → ℕ → ℕ) → ℕ
-over_choices levels zero value = value 2 0
+unfoldable pub over_choices : List (List ℕ) → ℕ → (ℕ → ℕ → ℕ) → ℕ
+over_choices levels zero value = value 0 0
 over_choices levels (suc i) value = over_choices levels i (step (slice_index_or levels i []) value)
 
 -- the choices of the first i members
-pub record AreLeading (levels : List (List (List ℕ))) (i : ℕ) (choices : List Choices) : Type 0 where
-  pub within : All (λ some. some.cell < SIZES * (2 + states_at levels i)) choices
+pub record AreLeading (levels : List (List ℕ)) (i : ℕ) (choices : List Choices) : Type 0 where
+  pub within : All (λ some. some.cell < SIZES * rows_at levels i) choices
   pub sums : (value : ℕ → ℕ → ℕ) → worth choices value ≡ over_choices levels i value
 
+-- the count of row k for size s
+abbrev pub count_at : List (List ℕ) → ℕ → ℕ → ℕ
+count_at rows k s = slice_index (slice_index_or rows k []) s
+
 -- how many sets of the members from i on complete each row of level i, by size
-pub record AreCompleting (levels : List (List (List ℕ))) (i : ℕ) (rows : List (List ℕ)) : Type 0 where
-  pub long : length rows ≡ 2 + states_at levels i
-  pub wide : (k : ℕ) → k < 2 + states_at levels i → length (slice_index_or rows k []) ≡ SIZES
-  pub each : (k s : ℕ) → k < 2 + states_at levels i → s < SIZES → link_at rows k s ≡ count_sets (length levels - i) (accepts (drop i levels) k) s
+pub record AreCompleting (levels : List (List ℕ)) (i : ℕ) (rows : List (List ℕ)) : Type 0 where
+  pub long : length rows ≡ rows_at levels i
+  pub wide : (k : ℕ) → k < rows_at levels i → length (slice_index_or rows k []) ≡ SIZES
+  pub each : (k s : ℕ) → k < rows_at levels i → s < SIZES → count_at rows k s ≡ count_sets (length levels - i) (accepts (drop i levels) k) s

@@ -3,9 +3,9 @@ use Rattle.mwc_states.proofs.Worth.{lead-few, lead-step, level-at, level-small}
 use Rattle.mwc_states.proofs.choices.decide_all.Goals as goal
 
 pub decide-requires-clause-linked : goal.decide-requires-clause-linked
-decide-requires-clause-linked c p choice =
+decide-requires-clause-linked c k =
     let links = level-at c.args.levels.now c.args.level c.index-levels-level.result c.requires.level c.index-levels-level.is in
-    omega (arith, level-small c.requires.graph links p choice, c.rows_at-rows.ensures)
+    omega (arith, level-small c.requires.graph links k, c.rows_at-rows.ensures)
 
 pub decide-requires-clause-fits : goal.decide-requires-clause-fits
 decide-requires-clause-fits c =
