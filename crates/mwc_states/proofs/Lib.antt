@@ -9,7 +9,6 @@ mod Lowering
 mod Masks
 mod Meeting
 mod Merging
-mod Rows
 mod SetCounts
 mod Tables
 mod Weights
