@@ -62,7 +62,8 @@ fn list(alloc: Global, cells: &[u64]) -> Result<Vec<Choices>, Memory>
     ensures sums { IfOk result (λ choices. (value : ℕ → ℕ → ℕ)
         → worth choices.items value ≡ weighted 0 cells.now (at_cell value)) }
 {
-    let mut choices = Vec::new(alloc);
+    let used = cells.iter().filter(|count| **count > 0).count();
+    let mut choices = Vec::with_capacity(alloc, used)?;
     for cell in 0..cells.len() {
         let count = cells[cell];
         if count == 0 {
