@@ -136,13 +136,13 @@ module _ (v : Votes) (members : List (List ℕ)) (need : List ℕ) (game : IsVot
   ]
 
   -- how many of the counted coalitions pass a test, from how many sets that a graph accepts do
-  pub sizes-are : (what : What) (levels : List (List (List ℕ))) (test : List Bool → Bool) (p : ℕ → Bool) (sizes : List ℕ) → length levels ≡ n
-      → ((xs : List Bool) → length xs ≡ n → accepts levels 2 xs ≡ completes what members (need ∷ []) xs)
+  pub sizes-are : (what : What) (levels : List (List ℕ)) (test : List Bool → Bool) (p : ℕ → Bool) (sizes : List ℕ) → length levels ≡ n
+      → ((xs : List Bool) → length xs ≡ n → accepts levels 0 xs ≡ completes what members (need ∷ []) xs)
       → ((c : ℕ) → test (set_of n c) ≡ p c) → AreSizesOf levels test sizes → AreSizeCounts n p (counted_coalitions what v) sizes
   sizes-are what levels test p sizes long same tests are = record {
     long = are.long;
     each = λ s small.
-        let test_of : List Bool → Bool = λ xs. test xs && accepts levels 2 xs in
+        let test_of : List Bool → Bool = λ xs. test xs && accepts levels 0 xs in
         let both : (c : ℕ) → (test_of (set_of n c) && (size n c == s)) ≡ (is_counted what v c && (p c && (size n c == s))) =
         λ c. grind (arith, nat_tests, tests c, same (set_of n c) (long-set n c), counted-completes what c) in
         are.each s small ∙ ap (λ (k : ℕ). count_sets k test_of s) long ∙ count-coalitions n test_of s

@@ -1,12 +1,12 @@
 -- What is left of a state once a member is decided.
-use Rattle.mwc_states.proofs.Imports.{list_all-map, drop_more, RULES, What, Minimal, Winning, weigh, meets, without_one, is_empty, row_at}
-use Rattle.mwc_states.proofs.Imports.{◌≡◌, ◌∙◌, ℕ, ◌+◌, ◌-◌, ◌<◌, ◌≤◌, Bool, true, false, not, ◌&&◌, cond, List, [], ◌∷◌, length, get_or}
-use Rattle.mwc_states.proofs.Imports.{take, drop, max, ◌⊎◌, inl, inr, ap, sym, refl, arith, subst, list_all, nat_tests, and_parts}
+use Rattle.mwc_states.proofs.Imports.{list_all-map, drop_more, What, Minimal, Winning, weigh, meets, without_one, row_at}
+use Rattle.mwc_states.proofs.Imports.{◌≡◌, ◌∙◌, ℕ, ◌+◌, ◌-◌, ◌<◌, Bool, true, false, not, ◌&&◌, cond, List, [], ◌∷◌, length, get_or}
+use Rattle.mwc_states.proofs.Imports.{take, drop, max, ap, sym, refl, arith, subst, list_all, nat_tests, and_parts}
 use Rattle.mwc_states.proofs.Imports.{needs_each, completes, misses_all, fits, IsLeft}
 use Rattle.std.proofs.Common.{Result, Ok, Err, IfOk, MatchBool}
-use Rattle.std.proofs.lemmas.{Bool.false≢true, Bool.not_from_true, Bool.and_left, List.Folds.list_all_more, List.Folds.list_all_at}
+use Rattle.std.proofs.lemmas.{List.Folds.list_all_more, List.Folds.list_all_at}
 use Rattle.mwc_states.specs.Inner.Later.{spares_none, misses_left, HasNoneLeft, AddsMiss}
-use Rattle.mwc_states.proofs.Meeting.{reach, reached, meets-left, meets-most, meets-through}
+use Rattle.mwc_states.proofs.Meeting.{meets-left, meets-most, meets-through}
 
 pub fits-meets : (what : What) (members : List (List ℕ)) (need : List ℕ) (set : List Bool) → fits what members need set ≡ true → meets (weigh members set) need ≡ true
 fits-meets what members need set fitting = (and_parts (meets (weigh members set) need) (needs_each what members set need) fitting).0
@@ -34,7 +34,7 @@ completes-left what members member taken x y misses set alike = grind (arith, na
 
 -- ---- one more miss
 module _ (what : What) (members : List (List ℕ)) (need miss most raised : List ℕ)
-    (apart : meets (λ r. get_or need r 0) miss ≡ false) (is : (r : ℕ) → get_or most r 0 ≡ max (get_or miss r 0) (get_or need r 0))
+    (is : (r : ℕ) → get_or most r 0 ≡ max (get_or miss r 0) (get_or need r 0))
     (alike : (set : List Bool) → meets (weigh members set) raised ≡ meets (weigh members set) most) where
   raised-alike : (set : List Bool) → fits what members need set ≡ true → meets (weigh members set) raised ≡ meets (weigh members set) miss
   raised-alike set fitting =
@@ -43,47 +43,12 @@ module _ (what : What) (members : List (List ℕ)) (need miss most raised : List
   pub adds-miss : {old new : List (List ℕ)} → ((w : ℕ → ℕ) → misses_all w new ≡ (misses_all w old && not (meets w raised))) → AddsMiss what members need miss old new
   adds-miss {old = old} adds = record {
     keeps = λ set fitting. adds (weigh members set) ∙ ap (λ b. misses_all (weigh members set) old && not b) (raised-alike set fitting);
-    apart = apart;
   }
 
   pub adds-none : (old : List (List ℕ)) → ((set : List Bool) → fits what members need set ≡ true → meets (weigh members set) raised ≡ false) → AddsMiss what members need miss old old
   adds-none old missed = record {
     keeps = λ set fitting. grind (arith, nat_tests, missed set fitting, raised-alike set fitting);
-    apart = apart;
   }
-
--- what weighs no more than a row meets no more than it
-meets-less : (members : List (List ℕ)) (row other : List ℕ) (set : List Bool) → ((r : ℕ) → r < RULES → weigh members set r ≤ get_or row r 0)
-    → meets (weigh members set) other ≡ true → meets (λ r. get_or row r 0) other ≡ true
-meets-less members row other set few met = reached (λ r. get_or row r 0) other (λ r lt. omega (arith, reach (weigh members set) other met r lt, few r lt))
-
--- ---- a need of 0
-all-spared : (p : List Bool → Bool) → ((less : List Bool) → p less ≡ false) → (set : List Bool) → list_all p (without_one set) ≡ is_empty set
-unfolding without_one is_empty
-all-spared p none [] = refl
-all-spared p none (true ∷ set) = and_left (p (false ∷ set)) _ (none (false ∷ set))
-all-spared p none (false ∷ set) = list_all-map p (λ less. false ∷ less) (without_one set) ∙ all-spared (λ less. p (false ∷ less)) (λ less. none (false ∷ less)) set
-
-IsNone : List ℕ → Type 0
-IsNone row = (r : ℕ) → r < RULES → get_or row r 0 ≡ 0
-
-fits-none : (what : What) (members : List (List ℕ)) (need : List ℕ) → IsNone need → (what ≡ Minimal) ⊎ (length members ≡ 0)
-    → (set : List Bool) → length set ≡ length members → fits what members need set ≡ is_empty set
-unfolding is_empty IsNone
-fits-none Minimal members need none over set long =
-    let met : (set : List Bool) → meets (weigh members set) need ≡ true = λ set. reached (weigh members set) need (λ r lt. omega (arith, none r lt)) in
-    ap (λ b. b && needs_each Minimal members set need) (met set) ∙ all-spared (λ less. not (meets (weigh members less) need)) (λ less. not_from_true _ (met less)) set
-fits-none Winning members need none (inl other) set long = cc
-fits-none Winning members need none (inr last) [] long =
-    ap (λ b. b && true) (reached (weigh members []) need (λ r lt. omega (arith, none r lt)))
-fits-none Winning members need none (inr last) (taken ∷ set) long = absurd (omega (arith, long, last))
-
-weigh-empty : (members : List (List ℕ)) (set : List Bool) (r : ℕ) → is_empty set ≡ true → weigh members set r ≡ 0
-unfolding weigh is_empty
-weigh-empty [] set r is = refl
-weigh-empty (member ∷ members) [] r is = refl
-weigh-empty (member ∷ members) (true ∷ set) r is = absurd (false≢true is)
-weigh-empty (member ∷ members) (false ∷ set) r is = weigh-empty members set r is
 
 -- ---- what is left to miss, one after another
 -- the need first
@@ -91,7 +56,6 @@ left-need : (members : List (List ℕ)) (need later_need member : List ℕ) (new
     → IsLeft Minimal members member true need [] later_need new
 left-need members need later_need member new adds = record {
   keeps = λ set fitting. grind (arith, nat_tests, adds.keeps set fitting);
-  apart = λ set few. grind (arith, nat_tests, adds.apart, meets-less members later_need need set few);
 }
 
 none-left_need : (members : List (List ℕ)) (need later_need member : List ℕ) → meets (λ r. get_or later_need r 0) need ≡ true
@@ -125,7 +89,6 @@ module _ (what : What) (members : List (List ℕ)) (member : List ℕ) (taken : 
       grind (arith, nat_tests, meets-left (get_or misses i []) left member members taken set is) in
       record {
         keeps = λ set fitting. grind (arith, nat_tests, more set, adds.keeps set fitting, h.keeps set fitting);
-        apart = λ set few. grind (arith, nat_tests, more set, h.apart set few, adds.apart, meets-less members later_need left set few);
       }
 
   pub none-left_miss : (left : List ℕ) (i : ℕ) → i < length misses
@@ -149,15 +112,6 @@ module _ (what : What) (members : List (List ℕ)) (member : List ℕ) (taken : 
   pub leads-dead : HasNoneLeft what members member taken (row_at state 0) (drop 1 state) later_need
       → (set : List Bool) → completes what (member ∷ members) state (taken ∷ set) ≡ false
   leads-dead none set = grind (arith, nat_tests, completes-next set, none set)
-
-  pub leads-complete : {later_misses : List (List ℕ)} → IsLeft what members member taken (row_at state 0) (drop 1 state) later_need later_misses
-      → ((r : ℕ) → r < RULES → get_or later_need r 0 ≡ 0) → (what ≡ Minimal) ⊎ (length members ≡ 0)
-      → (set : List Bool) → length set ≡ length members → completes what (member ∷ members) state (taken ∷ set) ≡ is_empty set
-  unfolding IsNone
-  leads-complete left none over set long =
-      let apart : is_empty set ≡ true → misses_left what members member taken (row_at state 0) (drop 1 state) set ≡ true = λ e.
-      left.apart set (λ r lt. omega (arith, weigh-empty members set r e)) in
-      grind (arith, nat_tests, completes-next set, fits-none what members later_need none over set long)
 
   pub leads-open : {later_misses : List (List ℕ)} → IsLeft what members member taken (row_at state 0) (drop 1 state) later_need later_misses
       → (set : List Bool) → completes what (member ∷ members) state (taken ∷ set) ≡ completes what members (later_need ∷ later_misses) set

@@ -1,7 +1,7 @@
 -- Weights that meet rows.
-use Rattle.mwc_states.proofs.Imports.{◌≡◌, ℕ, ◌-◌, ◌<◌, ◌≤◌, Bool, true, false, cond, List, [], ◌∷◌, length, get_or, max, sum_by, refl}
+use Rattle.mwc_states.proofs.Imports.{◌≡◌, ℕ, ◌-◌, ◌<◌, ◌≤◌, Bool, true, false, cond, List, [], ◌∷◌, get_or, max, sum_by, refl}
 use Rattle.mwc_states.proofs.Imports.{arith, zero-add, get_or-range_with_len, sum_by-cons, RULES, weigh, meets}
-use Rattle.std.proofs.lemmas.{Bool.Decides.same_from_decides, List.nil_from_length, List.Sums.list_all-from_AllPass}
+use Rattle.std.proofs.lemmas.{Bool.Decides.same_from_decides, List.Sums.list_all-from_AllPass}
 use Rattle.std.proofs.Common.{leb-true, le-leb}
 
 -- weights are at least as great as a row under each rule
@@ -55,7 +55,3 @@ weigh-within (member ∷ members) (false ∷ set) r = simp sum_by-cons (omega (a
 pub meets-total : (members : List (List ℕ)) (total row : List ℕ) (set : List Bool) → ((r : ℕ) → get_or total r 0 ≡ sum_by (λ member. get_or member r 0) members)
     → meets (weigh members set) row ≡ true → meets (λ r. get_or total r 0) row ≡ true
 meets-total members total row set is met = reached _ row (λ r lt. omega (arith, is r, weigh-within members set r, reach _ row met r lt))
-
-pub none-needed : (members : List (List ℕ)) (total row : List ℕ) → ((r : ℕ) → get_or total r 0 ≡ sum_by (λ member. get_or member r 0) members)
-    → length members ≡ 0 → meets (λ r. get_or total r 0) row ≡ true → (r : ℕ) → r < RULES → get_or row r 0 ≡ 0
-none-needed members total row is none met r lt = grind (arith, reach, nil_from_length)

@@ -4,11 +4,7 @@ pub mod Games
 pub mod Graphs
 pub mod Later
 pub mod Links
-pub mod Ranges
 pub mod Sets
-pub mod SizeRows
-pub mod Sizes
 pub mod States
 pub mod Sums
 pub mod Tables
-pub mod Ways

@@ -10,10 +10,11 @@ use crate::graph::build;
 use crate::row::Row;
 use crate::set_counts::{SetCounts, count};
 use crate::what::What;
-use council_base::{Gate, Memory, limits};
+use council_base::{Gate, Memory};
 use council_game::Game;
 use power_index::Counts;
 use std::alloc::Global;
+use std::array;
 use swings::Swings;
 
 /// Returns the weights of the member of a rank place.
@@ -22,23 +23,20 @@ fn weights_at(game: &Game, place: usize) -> Row
     ensures { (r : ℕ) → slice_index result r
         ≡ slice_index (rule_at (votes_of game.now).rules r).weights place }
 {
-    let member = game.member_at(place);
-    let mut row = [0; limits::RULES];
-    for r in 0..game.rules() {
-        row[r] = game.rule_weight(r, member);
-    }
-    row
+    let (member, rules) = (game.member_at(place), game.rules());
+    array::from_fn(|r| if r < rules {
+        game.rule_weight(r, member)
+    } else {
+        0
+    })
 }
 
 /// Returns the quotas of a game.
 fn quotas(game: &Game) -> Row
     ensures { (r : ℕ) → slice_index result r ≡ (rule_at (votes_of game.now).rules r).quota }
 {
-    let mut row = [0; limits::RULES];
-    for r in 0..game.rules() {
-        row[r] = game.rule_quota(r);
-    }
-    row
+    let rules = game.rules();
+    array::from_fn(|r| if r < rules { game.rule_quota(r) } else { 0 })
 }
 
 /// Lists the weights of the members by rank place.

@@ -2,7 +2,6 @@
 ghost use Rattle.std.specs.Prelude.{◌≡◌, ◌<◌, ◌≤◌, ◌^◌, ℕ, [], ◌∷◌, IfOk, IfSome, length, map, slice_index, sum_by};
 ghost use Rattle.council_base.specs.declared.limits.TheConstants.{MEMBERS, RULES, TOTAL};
 ghost use Rattle.mwc_states.specs.Inner.Graphs.{IsGraphOf};
-ghost use Rattle.mwc_states.specs.Inner.Tables.{IsIn};
 
 use crate::later::Later;
 use crate::level::{Links, decide_level};
@@ -22,7 +21,7 @@ fn sums_for(states: usize, rules: usize) -> usize {
 
 /// Makes the table of the first level, whose only state is the need.
 fn first_table(alloc: Global, need: &Row) -> Result<Table, Memory>
-    ensures { IfOk result (λ table. IsIn [] table (need.now ∷ []) 0) }
+    ensures { IfOk result (λ table. table ≡ (need.now ∷ []) ∷ []) }
 {
     let mut table = Table::new(alloc);
     table.push(&[*need])?;
@@ -32,7 +31,7 @@ fn first_table(alloc: Global, need: &Row) -> Result<Table, Memory>
 /// Builds the graph of the sets of members that complete a need.
 ///
 /// Each level decides the next member. Returns `None` if there are more than `room` states, or too
-/// many rows. The gate hears of each level.
+/// many rows, or if no set of all members completes the need. The gate hears of each level.
 pub(crate) fn build<G: Gate>(
     alloc: Global,
     what: What,
@@ -70,5 +69,8 @@ pub(crate) fn build<G: Gate>(
         table = next;
         gate.decide(level as u8 + 1, members.len() as u8);
     }
-    Ok(Some(levels))
+    if table.is_last() {
+        return Ok(Some(levels));
+    }
+    Ok(None)
 }

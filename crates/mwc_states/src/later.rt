@@ -1,5 +1,5 @@
 //! The later members.
-ghost use Rattle.std.specs.Prelude.{◌≡◌, ◌<◌, ◌≤◌, ℕ, true, false, Bool, List, length, slice_index, sum_by, IfOk};
+ghost use Rattle.std.specs.Prelude.{◌≡◌, ◌<◌, ◌≤◌, ℕ, true, false, Bool, List, slice_index, sum_by, IfOk};
 ghost use Rattle.std.specs.Bool.{MatchBool};
 ghost use Rattle.std.specs.List.{All};
 ghost use Rattle.council_base.specs.declared.limits.TheConstants.{RULES, TOTAL};
@@ -84,10 +84,8 @@ impl<'m> Later<'m> {
     ///
     /// If they do not, no subset does.
     pub(crate) fn is_reachable(&self, need: &Row) -> bool
-        ensures some { (set : List Bool)
+        ensures { (set : List Bool)
             → meets (weigh self.now.members.now set) need.now ≡ true → result ≡ true }
-        ensures none { length self.now.members.now ≡ 0 → result ≡ true
-            → (r : ℕ) → r < RULES → slice_index need.now r ≡ 0 }
     {
         row::meets(&self.total, need)
     }

@@ -1,10 +1,11 @@
 //! Rows.
-ghost use Rattle.std.specs.Prelude.{◌≡◌, ◌+◌, ◌-◌, ◌<◌, ◌^◌, ℕ, min, max, slice_index, sum_by, IsTrue, ◌↔◌, if◌then◌else◌};
+ghost use Rattle.std.specs.Prelude.{◌≡◌, ◌+◌, ◌-◌, ◌<◌, ◌^◌, ℕ, min, max, slice_index, sum_by, if◌then◌else◌};
 ghost use Rattle.council_base.specs.declared.limits.TheConstants.{RULES};
 ghost use Rattle.mwc_states.specs.Inner.Sets.{meets};
 ghost use Rattle.mwc_states.specs.Inner.Later.{IsTotal};
 
 use council_base::limits;
+use std::array;
 
 /// A number under each rule; 0 under the rules that a game does not have.
 pub(crate) type Row = [u64; limits::RULES];
@@ -14,16 +15,11 @@ pub(crate) const ZERO: Row = [0; limits::RULES];
 
 /// Returns the sum of two rows.
 #[inline]
-#[tactic(auto, using(crate::proofs::Rows::made_more))]
 pub(crate) fn add(a: &Row, b: &Row) -> Row
     requires { (r : ℕ) → r < RULES → slice_index a.now r + slice_index b.now r < 2 ^ 64 }
     ensures { (r : ℕ) → slice_index result r ≡ slice_index a.now r + slice_index b.now r }
 {
-    let mut sum = *a;
-    for r in 0..limits::RULES {
-        sum[r] += b[r];
-    }
-    sum
+    array::from_fn(|r| a[r] + b[r])
 }
 
 /// Returns the sum of some rows.
@@ -49,24 +45,15 @@ pub(crate) fn reduce(row: &Row, member: &Row, taken: bool) -> Row
     if !taken {
         return *row;
     }
-    let mut left = *row;
-    for r in 0..limits::RULES {
-        left[r] = left[r].saturating_sub(member[r]);
-    }
-    left
+    array::from_fn(|r| row[r].saturating_sub(member[r]))
 }
 
 /// Returns the greater of two numbers under each rule.
 #[inline]
-#[tactic(auto, using(crate::proofs::Rows::made_more))]
 pub(crate) fn max(a: &Row, b: &Row) -> Row
     ensures { (r : ℕ) → slice_index result r ≡ max (slice_index a.now r) (slice_index b.now r) }
 {
-    let mut most = *a;
-    for r in 0..limits::RULES {
-        most[r] = most[r].max(b[r]);
-    }
-    most
+    array::from_fn(|r| a[r].max(b[r]))
 }
 
 /// Returns the lesser of two numbers under each rule.
@@ -74,11 +61,7 @@ pub(crate) fn max(a: &Row, b: &Row) -> Row
 pub(crate) fn min(a: &Row, b: &Row) -> Row
     ensures { (r : ℕ) → slice_index result r ≡ min (slice_index a.now r) (slice_index b.now r) }
 {
-    let mut least = *a;
-    for r in 0..limits::RULES {
-        least[r] = least[r].min(b[r]);
-    }
-    least
+    array::from_fn(|r| a[r].min(b[r]))
 }
 
 /// Returns whether weights are at least as great as a row under each rule.
@@ -88,12 +71,4 @@ pub(crate) fn meets(weights: &Row, row: &Row) -> bool
     ensures { result ≡ meets (slice_index weights.now) row.now }
 {
     (0..limits::RULES).all(|r| weights[r] >= row[r])
-}
-
-/// Returns whether a row is 0 under each rule.
-#[inline]
-pub(crate) fn is_zero(row: &Row) -> bool
-    ensures { IsTrue result ↔ ((r : ℕ) → r < RULES → slice_index row.now r ≡ 0) }
-{
-    (0..limits::RULES).all(|r| row[r] == 0)
 }

@@ -1,18 +1,12 @@
 //! Counts of the sets that a graph accepts.
-ghost use Rattle.std.specs.Prelude.{◌≡◌, ℕ, ◌+◌, ◌<◌, ◌≤◌, ◌^◌, [], true, IfOk, length, map, slice_index, slice_index_or};
+ghost use Rattle.std.specs.Prelude.{◌≡◌, ℕ, ◌+◌, ◌*◌, ◌<◌, ◌≤◌, ◌^◌, [], true, IfOk, length, map, slice_index, slice_index_or};
 ghost use Rattle.council_base.specs.declared.limits.TheConstants.{SIZES};
-ghost use Rattle.mwc_states.specs.declared.size_rows.SizeRows.{SizeRows};
-ghost use Rattle.mwc_states.specs.Inner.Counting.{AreLeading, with_member};
+ghost use Rattle.mwc_states.specs.Inner.Counting.{AreCompleting, AreLeading, later};
 ghost use Rattle.mwc_states.specs.Inner.Links.{AreSizesOf, IsGraph};
-ghost use Rattle.mwc_states.specs.Inner.Ranges.{range_at};
 ghost use Rattle.mwc_states.specs.Inner.Sets.{has};
-ghost use Rattle.mwc_states.specs.Inner.SizeRows.{count_at};
-ghost use Rattle.mwc_states.specs.Inner.Ways.{link_at};
 
-use crate::level::Links;
-use crate::size_rows::SizeRows;
-use crate::spread::spread;
-use crate::way::Way;
+use crate::choices::{Choices, decide_all};
+use crate::level::{Links, link_at};
 use council_base::{Memory, SizeCounts, limits};
 use std::alloc::Global;
 
@@ -23,46 +17,106 @@ pub(crate) struct SetCounts {
     pub(crate) each: [SizeCounts; limits::MEMBERS],
 }
 
-/// Counts the choices of the first members that lead to each row, for each level.
-fn lead(alloc: Global, levels: &[Links]) -> Result<Vec<SizeRows>, Memory>
-    requires { IsGraph (map (λ links. links.items) levels.now) }
-    ensures long { IfOk result (λ leading. length leading.items ≡ length levels.now) }
-    ensures each { IfOk result (λ leading. (i : ℕ) (d : SizeRows) → i < length levels.now
-        → AreLeading (map (λ links. links.items) levels.now) i (slice_index_or leading.items i d)) }
+/// Adds a multiple of counts by size, each for a size that is greater by `more`.
+fn add_times(sum: &mut SizeCounts, more: usize, times: u64, counts: &SizeCounts)
+    requires fits { (s : ℕ) → s < SIZES
+        → slice_index sum.old s + times * later more (slice_index counts.now) s < 2 ^ 64 }
+    ensures { (s : ℕ) → s < SIZES → slice_index sum.new s
+        ≡ slice_index sum.old s + times * later more (slice_index counts.now) s }
 {
-    let mut leading = Vec::with_capacity(alloc, levels.len())?;
-    leading.push(SizeRows::unit(alloc, levels[0].len(), 2)?)?;
-    for level in 0..levels.len() - 1 {
-        let (links, rows) = (&levels[level], levels[level + 1].len());
-        leading.push(spread(alloc, Way::Forward, links, &leading[level], rows)?)?;
+    for size in more..limits::SIZES {
+        sum[size] += times * counts[size - more];
     }
-    Ok(leading)
 }
 
 /// Counts the accepted sets that have the member of a level, by size.
-fn count_with(leading: &SizeRows, links: &Links, completing: &SizeRows) -> SizeCounts
-    requires leading { length links.now.items ≤ length leading.now.ranges.items }
-    requires completing { (p : ℕ) → p < length links.now.items
-        → link_at links.now.items p 1 < length completing.now.ranges.items }
-    requires sizes { (j k : ℕ) → (range_at leading.now.ranges.items j).end
-        + (range_at completing.now.ranges.items k).end ≤ SIZES }
-    requires fits { (s : ℕ)
-        → with_member links.now.items (count_at leading.now) (count_at completing.now) s < 2 ^ 64 }
-    ensures long { length result ≡ SIZES }
-    ensures counts { (s : ℕ) → slice_index result s
-        ≡ with_member links.now.items (count_at leading.now) (count_at completing.now) s }
+fn count_with(
+    levels: &[Links],
+    level: usize,
+    choices: &[Choices],
+    completing: &[SizeCounts],
+) -> SizeCounts
+    requires graph { IsGraph (map (λ links. links.items) levels.now) }
+    requires level { level < length levels.now }
+    requires choices { AreLeading (map (λ links. links.items) levels.now) level choices.now }
+    requires completing { AreCompleting (map (λ links. links.items) levels.now) (level + 1) completing.now }
+    ensures { AreSizesOf (map (λ links. links.items) levels.now) (has level) result }
 {
+    let links = &levels[level];
     let mut sizes = [0; limits::SIZES];
-    for row in 0..links.len() {
-        leading.add_pairs(row, completing, links[row][1] as usize, &mut sizes);
+    for some in choices {
+        let row = some.cell as usize / limits::SIZES;
+        let size = some.cell as usize % limits::SIZES;
+        let rest = &completing[link_at(links, row, 1) as usize];
+        add_times(&mut sizes, size + 1, some.count, rest);
     }
     sizes
 }
 
+/// Counts the sets that complete the rows after the last level, by size.
+fn complete_last(alloc: Global, levels: &[Links]) -> Result<Vec<SizeCounts>, Memory>
+    ensures { IfOk result (λ rows.
+        AreCompleting (map (λ links. links.items) levels.now) (length levels.now) rows.items) }
+{
+    let mut empty = [0; limits::SIZES];
+    empty[0] = 1;
+    let mut rows = Vec::with_capacity(alloc, 2)?;
+    rows.push([0; limits::SIZES])?;
+    rows.push(empty)?;
+    Ok(rows)
+}
+
+/// Counts the sets that complete the rows of a level, by size, from those of the next one.
+fn complete(
+    alloc: Global,
+    levels: &[Links],
+    level: usize,
+    next: &[SizeCounts],
+) -> Result<Vec<SizeCounts>, Memory>
+    requires graph { IsGraph (map (λ links. links.items) levels.now) }
+    requires level { level < length levels.now }
+    requires next { AreCompleting (map (λ links. links.items) levels.now) (level + 1) next.now }
+    ensures { IfOk result (λ rows. AreCompleting (map (λ links. links.items) levels.now) level rows.items) }
+{
+    let links = &levels[level];
+    let mut rows = Vec::with_capacity(alloc, links.len() / 2)?;
+    for row in 0..links.len() / 2 {
+        let mut sizes = next[link_at(links, row, 0) as usize];
+        add_times(&mut sizes, 1, 1, &next[link_at(links, row, 1) as usize]);
+        rows.push(sizes)?;
+    }
+    Ok(rows)
+}
+
+/// Counts the sets that complete the rows of a level, and the accepted ones with each later member.
+fn count_from(
+    alloc: Global,
+    levels: &[Links],
+    level: usize,
+    choices: &[Choices],
+    each: &mut [SizeCounts; limits::MEMBERS],
+) -> Result<Vec<SizeCounts>, Memory>
+    requires graph { IsGraph (map (λ links. links.items) levels.now) }
+    requires level { level ≤ length levels.now }
+    requires choices { AreLeading (map (λ links. links.items) levels.now) level choices.now }
+    ensures completing { IfOk result (λ rows.
+        AreCompleting (map (λ links. links.items) levels.now) level rows.items) }
+    ensures each { IfOk result (λ _. (i : ℕ) → level ≤ i → i < length levels.now
+        → AreSizesOf (map (λ links. links.items) levels.now) (has i) (slice_index_or each.new i [])) }
+{
+    if level == levels.len() {
+        return complete_last(alloc, levels);
+    }
+    let next = decide_all(alloc, levels, level, choices)?;
+    let completing = count_from(alloc, levels, level + 1, &next, each)?;
+    each[level] = count_with(levels, level, choices, &completing);
+    complete(alloc, levels, level, &completing)
+}
+
 /// Counts the sets that a graph accepts, by size and by member.
 ///
-/// It goes over the levels once forward and once backward, and keeps the counts of all levels.
-/// Member i is decided at level i, and the root is row 2 of level 0.
+/// Member i is decided at level i, and the root is row 0 of level 0. Choices are counted from the
+/// first level on, and sets that complete them from the last one back.
 ///
 /// # Errors
 ///
@@ -74,15 +128,9 @@ pub(crate) fn count(alloc: Global, levels: &[Links]) -> Result<Box<SetCounts>, M
     ensures each { IfOk result (λ counts. (i : ℕ) → i < length levels.now
         → AreSizesOf (map (λ links. links.items) levels.now) (has i) (slice_index_or counts.value.each i [])) }
 {
-    let mut leading = lead(alloc, levels)?;
-    let mut completing = SizeRows::unit(alloc, 2, 1)?;
+    let root = [Choices { cell: 0, count: 1 }];
     let mut each = [[0; limits::SIZES]; limits::MEMBERS];
-    for level in (0..levels.len()).rev() {
-        let links = &levels[level];
-        each[level] = count_with(&leading[level], links, &completing);
-        leading.truncate(level);
-        completing = spread(alloc, Way::Backward, links, &completing, links.len())?;
-    }
-    let all = completing.sizes(2);
+    let completing = count_from(alloc, levels, 0, &root, &mut each)?;
+    let all = completing[0];
     Ok(Box::new(alloc, SetCounts { all, each })?)
 }

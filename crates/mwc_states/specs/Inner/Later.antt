@@ -1,5 +1,5 @@
 -- What a state leads to: how its need and its misses change once a member is decided.
-use Rattle.std.specs.Prelude.{ℕ, ◌≡◌, ◌<◌, ◌≤◌, ◌-◌, Bool, true, false, not, ◌&&◌, nat_lt, List, ◌∷◌, slice_index, sum_by}
+use Rattle.std.specs.Prelude.{ℕ, ◌≡◌, ◌-◌, Bool, true, false, not, ◌&&◌, nat_lt, List, ◌∷◌, slice_index, sum_by}
 use Rattle.std.specs.Prelude.{if◌then◌else◌}
 use Rattle.std.specs.List.{list_all, list_any, range_with_len}
 use Rattle.council_base.specs.declared.limits.TheConstants.{RULES}
@@ -30,11 +30,10 @@ is_able need row member =
 abbrev pub weigh_able : List ℕ → List ℕ → List (List ℕ) → ℕ → ℕ
 weigh_able need row members r = sum_by (λ member. if is_able need row member then slice_index member r else 0) members
 
--- misses with one more, for all sets that fit; the need itself does not meet it
+-- misses with one more, for all sets that fit
 pub record AddsMiss (what : What) (members : List (List ℕ)) (need miss : List ℕ) (old new : List (List ℕ)) : Type 0 where
   pub keeps : (set : List Bool) → fits what members need set ≡ true
       → misses_all (weigh members set) new ≡ (misses_all (weigh members set) old && not (meets (weigh members set) miss))
-  pub apart : meets (slice_index need) miss ≡ false
 
 -- a minimal set with the member misses the need without it
 abbrev pub spares_none : What → Bool → List (List ℕ) → List ℕ → List Bool → Bool
@@ -48,14 +47,11 @@ abbrev pub misses_left : What → List (List ℕ) → List ℕ → Bool → List
 misses_left what members member taken need misses set =
     spares_none what taken members need set && misses_all (weigh (member ∷ members) (taken ∷ set)) misses
 
--- the later misses say the same, for all sets that fit; and what weighs no more than the later need
--- misses all that is left
+-- the later misses say the same, for all sets that fit
 pub record IsLeft (what : What) (members : List (List ℕ)) (member : List ℕ) (taken : Bool) (need : List ℕ) (misses : List (List ℕ))
     (later_need : List ℕ) (later_misses : List (List ℕ)) : Type 0 where
   pub keeps : (set : List Bool) → fits what members later_need set ≡ true
       → misses_all (weigh members set) later_misses ≡ misses_left what members member taken need misses set
-  pub apart : (set : List Bool) → ((r : ℕ) → r < RULES → weigh members set r ≤ slice_index later_need r)
-      → misses_left what members member taken need misses set ≡ true
 
 -- no set that fits misses all that is left
 abbrev pub HasNoneLeft : What → List (List ℕ) → List ℕ → Bool → List ℕ → List (List ℕ) → List ℕ → Type 0

@@ -1,11 +1,11 @@
-use Rattle.mwc_states.proofs.Imports.{◌∙◌, ◌+◌, ℕ, List, [], drop, length, get_or, sum_by, ap, arith, map-append, take_rest}
+use Rattle.mwc_states.proofs.Imports.{◌∙◌, ◌+◌, ℕ, List, [], drop, get_or, sum_by, ap, arith, map-append, take_rest}
 use Rattle.mwc_states.proofs.Imports.{sum_by-take-drop, IsLevel}
 use Rattle.mwc_states.proofs.Building.{built-none, built-more, built-all}
 use Rattle.mwc_states.proofs.graph.build.Goals as goal
 
 pub loop-level-init : goal.loop-level-init
 loop-level-init g c = rw c.in_ok-levels.ensures.items
-    (built-none c.args.what c.args.members.now c.args.need.now c.in_ok-table.table _ c.in_ok-table.ensures c.requires.some c.requires.few (omega (arith, c.min-room.ensures)))
+    (rw c.in_ok-table.ensures (built-none c.args.what c.args.members.now c.args.need.now _ c.requires.some c.requires.few (omega (arith, c.min-room.ensures))))
 
 pub new-requires-clause-rules : goal.new-requires-clause-rules
 new-requires-clause-rules g c = c.requires.rules
@@ -22,10 +22,10 @@ loop-level-preserved g c =
     let members = c.args.members.now in
     let later = c.in_ok-later.ensures ∙ take_rest members (c.loop-level.level + 1) in
     let level : IsLevel c.args.what (get_or members c.loop-level.level []) (drop (c.loop-level.level + 1) members) c.loop-level.table
-    c.in-Some.links.items c.in-Some.next (length c.loop-level.table) = rw later at (rw c.in-Some.is at c.in_ok-links.ensures) in
+    c.in-Some.links.items c.in-Some.next = rw later at (rw c.in-Some.is at c.in_ok-links.ensures) in
     rw (c.in_ok-push.ensures.items, map-append) (built-more c.args.what members c.args.need.now _ c.loop-level.table c.in-Some.next c.in-Some.links.items
     c.loop-level.level c.loop-level.room _ c.loop-level-test.true c.loop-level.invariant level (omega (arith, c.if-len-room.false, c.len.ensures)) (omega arith))
 
-pub returns : goal.returns
-returns g c = built-all c.args.what c.args.members.now c.args.need.now _ c.loop-level.table c.loop-level.level c.loop-level.room
-    (omega (arith, c.loop-level-test.false, c.loop-level.auto.level-end)) c.loop-level.invariant
+pub returns-then-is_last : goal.returns-then-is_last
+returns-then-is_last g c = built-all c.args.what c.args.members.now c.args.need.now _ c.loop-level.table c.loop-level.level c.loop-level.room
+    (omega (arith, c.loop-level-test.false, c.loop-level.auto.level-end)) (c.is_last.ensures c.if-is_last.true) c.loop-level.invariant

@@ -1,5 +1,5 @@
-use Rattle.mwc_states.proofs.Imports.{IsLevel}
+use Rattle.mwc_states.specs.Inner.Tables.{AreDecided}
 use Rattle.mwc_states.proofs.level.decide_level.Given as goal
 
 abbrev pub invariant-loop-place : goal.invariant-loop-place
-invariant-loop-place l = IsLevel l.what l.member l.later.members.now l.table l.links.items l.next l.place
+invariant-loop-place l = AreDecided l.what l.member l.later.members.now l.table l.next l.place
