@@ -40,9 +40,9 @@ enum council_status {
  * call again with room for *length bytes.
  *
  * No pointer may be NULL, not even where its length is 0, and text and *length may overlap nothing else of the call.
- * A call takes from malloc up to 64 MB for a tally, else 8 to 16 bytes for each coalition, and for a while up to three
- * times what it puts into text; and 512 KB of stack. It may not be made from a signal handler, nor in the forked child of a
- * process with threads.
+ * A call takes from malloc a few hundred MB for a game of many states (450 were seen), and for a list 8 to 16 bytes for
+ * each coalition; for a while up to three times what it puts into text; and 512 KB of stack. It may not be made from a
+ * signal handler, nor in the forked child of a process with threads.
  */
 uint32_t council_report(const char *game, size_t game_length, const struct council_options *options,
 			char *text, size_t room, uint64_t *length);
@@ -50,8 +50,7 @@ uint32_t council_report(const char *game, size_t game_length, const struct counc
 /*
  * Does as council_report, and adds swings: the number of winning coalitions, and for each member its swings, its Banzhaf
  * index, Penrose's measure and its Shapley-Shubik index. If only is true, the report has nothing else of its members than
- * name and weight; no minimal winning coalition is found, and of the options only notation has an effect. A call may take
- * 500 MB.
+ * name and weight; no minimal winning coalition is found, and of the options only notation has an effect.
  */
 uint32_t council_swings_report(const char *game, size_t game_length, const struct council_options *options, bool only,
 			       char *text, size_t room, uint64_t *length);
