@@ -10,7 +10,7 @@ use power_index::Fraction;
 use std::alloc::Global;
 use swings::{banzhaf, shapley_shubik};
 
-/// The most states that are kept, some 300 MB.
+/// The most states that are kept, a few hundred MB.
 const ROOM: usize = 1 << 22;
 
 /// Returns the Banzhaf and the Shapley-Shubik index of a member.
