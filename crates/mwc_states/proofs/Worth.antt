@@ -1,9 +1,9 @@
 -- What choices are worth, and the sets of a graph that have a member.
-use Rattle.mwc_states.proofs.Imports.{◌≡◌, ◌∙◌, ℕ, zero, suc, ◌+◌, ◌-◌, ◌*◌, ◌^◌, ◌<◌, ◌≤◌, ◌&&◌, true, false, cond, leb, ltb, List, [], ◌∷◌}
-use Rattle.mwc_states.proofs.Imports.{length, drop, get_or, sym, ap, arith, nat_tests, drop-cons, drop_all, get_or_past, get_or-map, length-map, map}
+use Rattle.mwc_states.proofs.Imports.{◌++◌, ◌≡◌, ◌∙◌, ℕ, zero, suc, ◌+◌, ◌-◌, ◌*◌, ◌^◌, ◌<◌, ◌≤◌, ◌&&◌, true, false, cond, leb, ltb, List, [], ◌∷◌}
+use Rattle.mwc_states.proofs.Imports.{length, drop, get_or, sym, ap, arith, nat_tests, drop-cons, drop_all, get_or_past, get_or-map, get_or_append_left, get_or_push, length-map, map, map-append}
 use Rattle.mwc_states.proofs.Imports.{has, count_sets, accepts, over_choices, later, link_at, step, rows_at, count_at, AreLeading, AreCompleting, worth, cut}
-use Rattle.std.proofs.Common.{◌/◌, pow_mono, replicate, refl, Vec, Global}
-use Rattle.mwc_states.proofs.Imports.{get_or-zeros, get_or_default}
+use Rattle.std.proofs.Common.{◌/◌, pow_mono, refl, Vec, Global}
+use Rattle.mwc_states.proofs.Imports.{get_or_default}
 use Rattle.mwc_states.specs.Inner.Links.{IsGraph}
 use Rattle.mwc_states.specs.declared.choices.Choices.{Choices}
 use Rattle.mwc_states.proofs.SetCounts.{sets-none, sets-few, sets-step}
@@ -77,6 +77,36 @@ level-at levels i links lt is = record {
   is = ap (λ (v : Vec ℕ Global). v.items) is ∙ sym (get_or-map (λ v. v.items) levels i links [] lt);
 }
 
+-- the counts of a row
+pub row-of : (rows : List (Vec ℕ Global)) (k : ℕ) (row : Vec ℕ Global) → k < length rows → row ≡ get_or rows k row
+    → row.items ≡ get_or (map (λ r. r.items) rows) k []
+row-of rows k row lt is = ap (λ (v : Vec ℕ Global). v.items) is ∙ sym (get_or-map (λ v. v.items) rows k row [] lt)
+
+pub reads : (rows : List (Vec ℕ Global)) (k : ℕ) (row : Vec ℕ Global) (counts : List ℕ) → k < length rows → row ≡ get_or rows k row
+    → counts ≡ row.items → (s : ℕ) → get_or counts s 0 ≡ count_at (links_of rows) k s
+reads rows k row counts lt is value s = ap (λ (l : List ℕ). get_or l s 0) (value ∙ row-of rows k row lt is)
+
+pub reads-later : (rows : List (Vec ℕ Global)) (k : ℕ) (row : Vec ℕ Global) (counts : List ℕ) → k < length rows → row ≡ get_or rows k row
+    → counts ≡ row.items → (more s : ℕ) → later more (λ t. get_or counts t 0) s ≡ later more (count_at (links_of rows) k) s
+reads-later rows k row counts lt is value more s = ap (λ (l : List ℕ). later more (λ t. get_or l t 0) s) (value ∙ row-of rows k row lt is)
+
+-- of one row more
+pub pushed-old : (rows : List (Vec ℕ Global)) (row : Vec ℕ Global) (p s : ℕ) → p < length rows
+    → count_at (links_of (rows ++ row ∷ [])) p s ≡ count_at (links_of rows) p s
+pushed-old rows row p s lt =
+    ap (λ (ls : List (List ℕ)). count_at ls p s) (map-append (λ (v : Vec ℕ Global). v.items) rows (row ∷ []))
+    ∙ ap (λ (l : List ℕ). get_or l s 0) (get_or_append_left (links_of rows) (row.items ∷ []) [] p (omega (arith, lt, as-many rows)))
+
+pub pushed-new : (rows : List (Vec ℕ Global)) (row : Vec ℕ Global) (p s : ℕ) → length rows ≡ p
+    → count_at (links_of (rows ++ row ∷ [])) p s ≡ get_or row.items s 0
+pushed-new rows row p s is =
+    ap (λ (ls : List (List ℕ)). count_at ls p s) (map-append (λ (v : Vec ℕ Global). v.items) rows (row ∷ []))
+    ∙ ap (λ (l : List ℕ). get_or l s 0) (get_or_push (links_of rows) row.items [] p (omega (arith, is, as-many rows)))
+
+-- no size more
+pub later-none : (f : ℕ → ℕ) (s : ℕ) → later 0 f s ≡ f s
+later-none f s = grind (arith, nat_tests)
+
 module _ {levels : List (List ℕ)} {i : ℕ} {links : List ℕ} (graph : IsGraph levels) (h : IsLevel levels i links) where
   pub level-rows : length links / 2 ≡ rows_at levels i
   level-rows = ap (λ (l : List ℕ). length l / 2) (h.is ∙ get_or_default levels i [] (0 ∷ 0 ∷ 0 ∷ 0 ∷ []) h.within)
@@ -142,11 +172,10 @@ module _ {levels : List (List ℕ)} {i : ℕ} {links : List ℕ} (graph : IsGrap
       let up : 2 ^ (length levels - i) ≤ 2 ^ 40 = pow_mono {j = 40} (omega (arith, graph.few)) in
       omega (arith, up, sets-few (length levels - i) s (accepts (drop i levels) p))
 
-pub complete-last : (levels : List (Vec ℕ Global)) → AreCompleting (links_of levels) (length levels) (replicate 41 0 ∷ (1 ∷ replicate 40 0) ∷ [])
+pub complete-last : (levels : List (Vec ℕ Global)) → AreCompleting (links_of levels) (length levels) ([] ∷ (1 ∷ []) ∷ [])
 unfolding accepts count_sets
 complete-last levels = record {
   long = omega (arith, ap (λ (l : List ℕ). length l / 2) past);
-  wide = λ k lt. full k (omega (arith, lt, ap (λ (l : List ℕ). length l / 2) past));
   each = λ k s lt small. here k s (omega (arith, lt, ap (λ (l : List ℕ). length l / 2) past)) ∙ (λ t. count_sets (sym none t) (accepts (sym gone t) k) s);
 }
   where
@@ -159,16 +188,11 @@ complete-last levels = record {
     gone : drop (length levels) (links_of levels) ≡ []
     gone = drop_all _ (links_of levels) (omega (arith, as-many levels))
 
-    full : (k : ℕ) → k < 2 → length {A = ℕ} (get_or (replicate 41 0 ∷ (1 ∷ replicate 40 0) ∷ []) k []) ≡ 41
-    full zero lt = refl
-    full (suc zero) lt = refl
-    full (suc (suc k)) lt = absurd (omega arith)
-
-    here : (k s : ℕ) → k < 2 → count_at (replicate 41 0 ∷ (1 ∷ replicate 40 0) ∷ []) k s ≡ count_sets 0 (accepts [] k) s
+    here : (k s : ℕ) → k < 2 → count_at ([] ∷ (1 ∷ []) ∷ []) k s ≡ count_sets 0 (accepts [] k) s
     here zero zero lt = refl
-    here zero (suc s) lt = get_or-zeros 40 s
+    here zero (suc s) lt = refl
     here (suc zero) zero lt = refl
-    here (suc zero) (suc s) lt = get_or-zeros 40 s
+    here (suc zero) (suc s) lt = refl
     here (suc (suc k)) s lt = absurd (omega arith)
 
 pub all-sets : {levels : List (List ℕ)} {rows : List (List ℕ)} → 1 ≤ rows_at levels 0 → AreCompleting levels 0 rows → (s : ℕ) → s < 41

@@ -18,15 +18,30 @@ pub(crate) struct SetCounts {
 }
 
 /// Adds a multiple of counts by size, each for a size that is greater by `more`.
-fn add_times(sum: &mut SizeCounts, more: usize, times: u64, counts: &SizeCounts)
+fn add_times(sum: &mut SizeCounts, more: usize, times: u64, counts: &[u64])
     requires fits { (s : ℕ) → s < SIZES
         → slice_index sum.old s + times * later more (slice_index counts.now) s < 2 ^ 64 }
     ensures { (s : ℕ) → s < SIZES → slice_index sum.new s
         ≡ slice_index sum.old s + times * later more (slice_index counts.now) s }
 {
-    for size in more..limits::SIZES {
+    for size in more..limits::SIZES.min(more.saturating_add(counts.len())) {
         sum[size] += times * counts[size - more];
     }
+}
+
+/// Returns the counts by size up to the last that is not 0.
+fn list(alloc: Global, sizes: &SizeCounts) -> Result<Vec<u64>, Memory>
+    ensures { IfOk result (λ list. (s : ℕ) → slice_index list.items s ≡ slice_index sizes.now s) }
+{
+    let mut used = 0;
+    for size in 0..limits::SIZES {
+        if sizes[size] > 0 {
+            used = size + 1;
+        }
+    }
+    let mut list = Vec::with_capacity(alloc, used)?;
+    list.extend_from_slice(&sizes[..used])?;
+    Ok(list)
 }
 
 /// Counts the accepted sets that have the member of a level, by size.
@@ -34,12 +49,13 @@ fn count_with(
     levels: &[Links],
     level: usize,
     choices: &[Choices],
-    completing: &[SizeCounts],
+    completing: &[Vec<u64>],
 ) -> SizeCounts
     requires graph { IsGraph (map (λ links. links.items) levels.now) }
     requires level { level < length levels.now }
     requires choices { AreLeading (map (λ links. links.items) levels.now) level choices.now }
-    requires completing { AreCompleting (map (λ links. links.items) levels.now) (level + 1) completing.now }
+    requires completing { AreCompleting (map (λ links. links.items) levels.now) (level + 1)
+        (map (λ row. row.items) completing.now) }
     ensures { AreSizesOf (map (λ links. links.items) levels.now) (has level) result }
 {
     let links = &levels[level];
@@ -54,15 +70,14 @@ fn count_with(
 }
 
 /// Counts the sets that complete the rows after the last level, by size.
-fn complete_last(alloc: Global, levels: &[Links]) -> Result<Vec<SizeCounts>, Memory>
+fn complete_last(alloc: Global, levels: &[Links]) -> Result<Vec<Vec<u64>>, Memory>
     ensures { IfOk result (λ rows.
-        AreCompleting (map (λ links. links.items) levels.now) (length levels.now) rows.items) }
+        AreCompleting (map (λ links. links.items) levels.now) (length levels.now)
+        (map (λ row. row.items) rows.items)) }
 {
-    let mut empty = [0; limits::SIZES];
-    empty[0] = 1;
     let mut rows = Vec::with_capacity(alloc, 2)?;
-    rows.push([0; limits::SIZES])?;
-    rows.push(empty)?;
+    rows.push(Vec::new(alloc))?;
+    rows.push(vec![in alloc; 1]?)?;
     Ok(rows)
 }
 
@@ -71,19 +86,21 @@ fn complete(
     alloc: Global,
     levels: &[Links],
     level: usize,
-    next: &[SizeCounts],
-) -> Result<Vec<SizeCounts>, Memory>
+    next: &[Vec<u64>],
+) -> Result<Vec<Vec<u64>>, Memory>
     requires graph { IsGraph (map (λ links. links.items) levels.now) }
     requires level { level < length levels.now }
-    requires next { AreCompleting (map (λ links. links.items) levels.now) (level + 1) next.now }
-    ensures { IfOk result (λ rows. AreCompleting (map (λ links. links.items) levels.now) level rows.items) }
+    requires next { AreCompleting (map (λ links. links.items) levels.now) (level + 1)
+        (map (λ row. row.items) next.now) }
+    ensures { IfOk result (λ rows. AreCompleting (map (λ links. links.items) levels.now) level (map (λ row. row.items) rows.items)) }
 {
     let links = &levels[level];
     let mut rows = Vec::with_capacity(alloc, links.len() / 2)?;
     for row in 0..links.len() / 2 {
-        let mut sizes = next[link_at(links, row, 0) as usize];
+        let mut sizes = [0; limits::SIZES];
+        add_times(&mut sizes, 0, 1, &next[link_at(links, row, 0) as usize]);
         add_times(&mut sizes, 1, 1, &next[link_at(links, row, 1) as usize]);
-        rows.push(sizes)?;
+        rows.push(list(alloc, &sizes)?)?;
     }
     Ok(rows)
 }
@@ -95,12 +112,12 @@ fn count_from(
     level: usize,
     choices: &[Choices],
     each: &mut [SizeCounts; limits::MEMBERS],
-) -> Result<Vec<SizeCounts>, Memory>
+) -> Result<Vec<Vec<u64>>, Memory>
     requires graph { IsGraph (map (λ links. links.items) levels.now) }
     requires level { level ≤ length levels.now }
     requires choices { AreLeading (map (λ links. links.items) levels.now) level choices.now }
     ensures completing { IfOk result (λ rows.
-        AreCompleting (map (λ links. links.items) levels.now) level rows.items) }
+        AreCompleting (map (λ links. links.items) levels.now) level (map (λ row. row.items) rows.items)) }
     ensures each { IfOk result (λ _. (i : ℕ) → level ≤ i → i < length levels.now
         → AreSizesOf (map (λ links. links.items) levels.now) (has i) (slice_index_or each.new i [])) }
 {
@@ -131,6 +148,7 @@ pub(crate) fn count(alloc: Global, levels: &[Links]) -> Result<Box<SetCounts>, M
     let root = [Choices { cell: 0, count: 1 }];
     let mut each = [[0; limits::SIZES]; limits::MEMBERS];
     let completing = count_from(alloc, levels, 0, &root, &mut each)?;
-    let all = completing[0];
+    let mut all = [0; limits::SIZES];
+    add_times(&mut all, 0, 1, &completing[0]);
     Ok(Box::new(alloc, SetCounts { all, each })?)
 }

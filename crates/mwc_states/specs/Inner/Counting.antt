@@ -47,5 +47,4 @@ count_at rows k s = slice_index (slice_index_or rows k []) s
 -- how many sets of the members from i on complete each row of level i, by size
 pub record AreCompleting (levels : List (List ℕ)) (i : ℕ) (rows : List (List ℕ)) : Type 0 where
   pub long : length rows ≡ rows_at levels i
-  pub wide : (k : ℕ) → k < rows_at levels i → length (slice_index_or rows k []) ≡ SIZES
   pub each : (k s : ℕ) → k < rows_at levels i → s < SIZES → count_at rows k s ≡ count_sets (length levels - i) (accepts (drop i levels) k) s
