@@ -40,7 +40,7 @@ enum council_status {
  * call again with room for *length bytes.
  *
  * No pointer may be NULL, not even where its length is 0, and text and *length may overlap nothing else of the call.
- * A call takes from malloc a few hundred MB for a game of many states (450 were seen), and for a list 8 to 16 bytes for
+ * A call takes from malloc a few hundred MB for a game of many states (270 were seen), and for a list 8 to 16 bytes for
  * each coalition; for a while up to three times what it puts into text; and 512 KB of stack. It may not be made from a
  * signal handler, nor in the forked child of a process with threads.
  */

@@ -379,12 +379,12 @@ write_rules "$((total / 2 + 1)), 1" "${rows[@]}"
 counted "39 random weights of nine digits, and a vetoer" "$temp/rules.toml" 4183436737 4183436737 309465122
 limit=$seconds
 
-# ---- what memory a tally of one rule takes: a little for weights up to 1,000, and at most 400 MB
+# ---- what memory a tally of one rule takes: a little for weights up to 1,000, and at most 250 MB
 if needs python3 "the memory of tallies of one rule"; then
     if timeout "$seconds" python3 - "$program" "$temp" >"$temp/told" 2>&1 <<'END'
 import os, random, subprocess, sys
 rng = random.Random(7)
-for most, limit in [(1000, 32_000), (10**12, 400_000)]:
+for most, limit in [(1000, 32_000), (10**12, 250_000)]:
     weights = [rng.randrange(most // 2, most) + 1 for _ in range(40)]
     game = f"{sys.argv[2]}/heavy.txt"
     with open(game, "w", encoding="utf-8") as it:
