@@ -1,8 +1,8 @@
 //! Counts of the sets that a graph accepts.
-ghost use Rattle.std.specs.Prelude.{◌≡◌, ℕ, ◌+◌, ◌*◌, ◌<◌, ◌≤◌, ◌^◌, [], true, IfOk, length, map, slice_index, slice_index_or};
+ghost use Rattle.std.specs.Prelude.{◌≡◌, ℕ, ◌+◌, ◌/◌, ◌<◌, ◌≤◌, ◌^◌, [], true, All, IfOk, length, slice_index, slice_index_or};
 ghost use Rattle.council_base.specs.declared.limits.TheConstants.{SIZES};
-ghost use Rattle.mwc_states.specs.Inner.Counting.{AreCompleting, AreLeading, later};
-ghost use Rattle.mwc_states.specs.Inner.Links.{AreSizesOf, IsGraph};
+ghost use Rattle.mwc_states.specs.Inner.Counting.{AreCompleting, AreLeading, AreWithin, count_at, later, with_member, worth, worth_of};
+ghost use Rattle.mwc_states.specs.Inner.Links.{AreSizesOf, IsGraph, link_at, lists};
 ghost use Rattle.mwc_states.specs.Inner.Sets.{has};
 
 use crate::choices::{Choices, decide_all};
@@ -17,68 +17,130 @@ pub(crate) struct SetCounts {
     pub(crate) each: [SizeCounts; limits::MEMBERS],
 }
 
-/// Adds a multiple of counts by size, each for a size that is greater by `more`.
-fn add_times(sum: &mut SizeCounts, more: usize, times: u64, counts: &[u64])
-    requires fits { (s : ℕ) → s < SIZES
-        → slice_index sum.old s + times * later more (slice_index counts.now) s < 2 ^ 64 }
-    ensures { (s : ℕ) → s < SIZES → slice_index sum.new s
-        ≡ slice_index sum.old s + times * later more (slice_index counts.now) s }
+/// Returns the count of a row, or 0 if it is not there.
+#[inline]
+fn count_of(counts: &[u64], row: u32) -> u64
+    ensures { result ≡ slice_index counts.now row }
 {
-    for size in more..limits::SIZES.min(more.saturating_add(counts.len())) {
-        sum[size] += times * counts[size - more];
+    let row = row as usize;
+    if row < counts.len() { counts[row] } else { 0 }
+}
+
+/// Returns the counts of the rows for a size that is less by `more`, or none.
+fn counts_of(sizes: &[Vec<u64>], size: usize, more: usize) -> &[u64]
+    ensures { (k : ℕ) → slice_index result.now k ≡ later more (count_at (lists sizes.now) k) size }
+{
+    if more <= size && size - more < sizes.len() {
+        &sizes[size - more]
+    } else {
+        &[]
     }
 }
 
-/// Returns the counts by size up to the last that is not 0.
-fn list(alloc: Global, sizes: &SizeCounts) -> Result<Vec<u64>, Memory>
-    ensures { IfOk result (λ list. (s : ℕ) → slice_index list.items s ≡ slice_index sizes.now s) }
+/// Returns the counts of row 0 by size.
+fn sizes_of_root(sizes: &[Vec<u64>]) -> SizeCounts
+    ensures { (s : ℕ) → s < SIZES → slice_index result s ≡ count_at (lists sizes.now) 0 s }
 {
-    let mut used = 0;
+    let mut all = [0; limits::SIZES];
     for size in 0..limits::SIZES {
-        if sizes[size] > 0 {
-            used = size + 1;
-        }
+        all[size] = count_of(counts_of(sizes, size, 0), 0);
     }
-    let mut list = Vec::with_capacity(alloc, used)?;
-    list.extend_from_slice(&sizes[..used])?;
-    Ok(list)
+    all
+}
+
+/// Counts the choices of one size, each with each set that completes where it leads with a member.
+fn count_pairs(links: &Links, choices: &[Choices], completing: &[u64]) -> u64
+    requires within { All (λ some. some.row < length links.now.items / 2) choices.now }
+    requires fits { worth_of choices.now (λ row. slice_index completing.now (link_at links.now.items row 1)) < 2 ^ 64 }
+    ensures { result
+        ≡ worth_of choices.now (λ row. slice_index completing.now (link_at links.now.items row 1)) }
+{
+    let mut sum = 0;
+    for some in choices {
+        sum += some.count * count_of(completing, link_at(links, some.row as usize, 1));
+    }
+    sum
+}
+
+/// Counts the accepted sets of one size that have the member of a level.
+fn count_size_with(
+    links: &Links,
+    choices: &[Vec<Choices>],
+    completing: &[Vec<u64>],
+    size: usize,
+) -> u64
+    requires within { AreWithin (length links.now.items / 2) choices.now }
+    requires fits { worth choices.now (with_member links.now.items (lists completing.now) size) < 2 ^ 64 }
+    ensures { result ≡ worth choices.now (with_member links.now.items (lists completing.now) size) }
+{
+    let mut sum = 0;
+    for first in 0..choices.len() {
+        sum += count_pairs(links, &choices[first], counts_of(completing, size, first + 1));
+    }
+    sum
 }
 
 /// Counts the accepted sets that have the member of a level, by size.
 fn count_with(
     levels: &[Links],
     level: usize,
-    choices: &[Choices],
+    choices: &[Vec<Choices>],
     completing: &[Vec<u64>],
 ) -> SizeCounts
-    requires graph { IsGraph (map (λ links. links.items) levels.now) }
+    requires graph { IsGraph (lists levels.now) }
     requires level { level < length levels.now }
-    requires choices { AreLeading (map (λ links. links.items) levels.now) level choices.now }
-    requires completing { AreCompleting (map (λ links. links.items) levels.now) (level + 1)
-        (map (λ row. row.items) completing.now) }
-    ensures { AreSizesOf (map (λ links. links.items) levels.now) (has level) result }
+    requires choices { AreLeading (lists levels.now) level choices.now }
+    requires completing { AreCompleting (lists levels.now) (level + 1) (lists completing.now) }
+    ensures { AreSizesOf (lists levels.now) (has level) result }
 {
-    let links = &levels[level];
     let mut sizes = [0; limits::SIZES];
-    for some in choices {
-        let row = some.cell as usize / limits::SIZES;
-        let size = some.cell as usize % limits::SIZES;
-        let rest = &completing[link_at(links, row, 1) as usize];
-        add_times(&mut sizes, size + 1, some.count, rest);
+    for size in 0..limits::SIZES {
+        sizes[size] = count_size_with(&levels[level], choices, completing, size);
     }
     sizes
 }
 
 /// Counts the sets that complete the rows after the last level, by size.
 fn complete_last(alloc: Global, levels: &[Links]) -> Result<Vec<Vec<u64>>, Memory>
-    ensures { IfOk result (λ rows.
-        AreCompleting (map (λ links. links.items) levels.now) (length levels.now)
-        (map (λ row. row.items) rows.items)) }
+    ensures { IfOk result (λ sizes.
+        AreCompleting (lists levels.now) (length levels.now) (lists sizes.items)) }
 {
-    let mut rows = Vec::with_capacity(alloc, 2)?;
-    rows.push(Vec::new(alloc))?;
-    rows.push(vec![in alloc; 1]?)?;
-    Ok(rows)
+    let mut empty = Vec::new(alloc);
+    empty.push(0)?;
+    empty.push(1)?;
+    let mut sizes = Vec::new(alloc);
+    sizes.push(empty)?;
+    Ok(sizes)
+}
+
+/// Counts the sets of one size that complete each row of a level; lists none if all counts are 0.
+///
+/// They are the sets without the member of the level and those with it.
+fn complete_size(
+    alloc: Global,
+    links: &Links,
+    without: &[u64],
+    with: &[u64],
+) -> Result<Vec<u64>, Memory>
+    requires fits { (k : ℕ) → slice_index without.now (link_at links.now.items k 0)
+        + slice_index with.now (link_at links.now.items k 1) < 2 ^ 64 }
+    ensures { IfOk result (λ counts. (k : ℕ) → k < length links.now.items / 2
+        → slice_index counts.items k ≡ slice_index without.now (link_at links.now.items k 0)
+        + slice_index with.now (link_at links.now.items k 1)) }
+{
+    if without.is_empty() && with.is_empty() {
+        return Ok(Vec::new(alloc));
+    }
+    let rows = links.len() / 2;
+    let mut counts = Vec::with_capacity(alloc, rows)?;
+    for row in 0..rows {
+        let count = count_of(without, link_at(links, row, 0)) + count_of(with, link_at(links, row, 1));
+        counts.push(count)?;
+    }
+    if counts.iter().all(|count| *count == 0) {
+        return Ok(Vec::new(alloc));
+    }
+    Ok(counts)
 }
 
 /// Counts the sets that complete the rows of a level, by size, from those of the next one.
@@ -88,21 +150,18 @@ fn complete(
     level: usize,
     next: &[Vec<u64>],
 ) -> Result<Vec<Vec<u64>>, Memory>
-    requires graph { IsGraph (map (λ links. links.items) levels.now) }
+    requires graph { IsGraph (lists levels.now) }
     requires level { level < length levels.now }
-    requires next { AreCompleting (map (λ links. links.items) levels.now) (level + 1)
-        (map (λ row. row.items) next.now) }
-    ensures { IfOk result (λ rows. AreCompleting (map (λ links. links.items) levels.now) level (map (λ row. row.items) rows.items)) }
+    requires next { AreCompleting (lists levels.now) (level + 1) (lists next.now) }
+    ensures { IfOk result (λ sizes. AreCompleting (lists levels.now) level (lists sizes.items)) }
 {
     let links = &levels[level];
-    let mut rows = Vec::with_capacity(alloc, links.len() / 2)?;
-    for row in 0..links.len() / 2 {
-        let mut sizes = [0; limits::SIZES];
-        add_times(&mut sizes, 0, 1, &next[link_at(links, row, 0) as usize]);
-        add_times(&mut sizes, 1, 1, &next[link_at(links, row, 1) as usize]);
-        rows.push(list(alloc, &sizes)?)?;
+    let mut sizes = Vec::new(alloc);
+    for size in 0..next.len() + 1 {
+        let (without, with) = (counts_of(next, size, 0), counts_of(next, size, 1));
+        sizes.push(complete_size(alloc, links, without, with)?)?;
     }
-    Ok(rows)
+    Ok(sizes)
 }
 
 /// Counts the sets that complete the rows of a level, and the accepted ones with each later member.
@@ -110,16 +169,16 @@ fn count_from(
     alloc: Global,
     levels: &[Links],
     level: usize,
-    choices: &[Choices],
+    choices: &[Vec<Choices>],
     each: &mut [SizeCounts; limits::MEMBERS],
 ) -> Result<Vec<Vec<u64>>, Memory>
-    requires graph { IsGraph (map (λ links. links.items) levels.now) }
+    requires graph { IsGraph (lists levels.now) }
     requires level { level ≤ length levels.now }
-    requires choices { AreLeading (map (λ links. links.items) levels.now) level choices.now }
-    ensures completing { IfOk result (λ rows.
-        AreCompleting (map (λ links. links.items) levels.now) level (map (λ row. row.items) rows.items)) }
+    requires choices { AreLeading (lists levels.now) level choices.now }
+    ensures completing { IfOk result (λ sizes.
+        AreCompleting (lists levels.now) level (lists sizes.items)) }
     ensures each { IfOk result (λ _. (i : ℕ) → level ≤ i → i < length levels.now
-        → AreSizesOf (map (λ links. links.items) levels.now) (has i) (slice_index_or each.new i [])) }
+        → AreSizesOf (lists levels.now) (has i) (slice_index_or each.new i [])) }
 {
     if level == levels.len() {
         return complete_last(alloc, levels);
@@ -139,16 +198,15 @@ fn count_from(
 ///
 /// Returns `Memory` if an allocation was refused.
 pub(crate) fn count(alloc: Global, levels: &[Links]) -> Result<Box<SetCounts>, Memory>
-    requires { IsGraph (map (λ links. links.items) levels.now) }
-    ensures all { IfOk result (λ counts.
-        AreSizesOf (map (λ links. links.items) levels.now) (λ set. true) counts.value.all) }
+    requires { IsGraph (lists levels.now) }
+    ensures all { IfOk result (λ counts. AreSizesOf (lists levels.now) (λ set. true) counts.value.all) }
     ensures each { IfOk result (λ counts. (i : ℕ) → i < length levels.now
-        → AreSizesOf (map (λ links. links.items) levels.now) (has i) (slice_index_or counts.value.each i [])) }
+        → AreSizesOf (lists levels.now) (has i) (slice_index_or counts.value.each i [])) }
 {
-    let root = [Choices { cell: 0, count: 1 }];
+    let mut root = Vec::new(alloc);
+    root.push(Choices { row: 0, count: 1 })?;
     let mut each = [[0; limits::SIZES]; limits::MEMBERS];
-    let completing = count_from(alloc, levels, 0, &root, &mut each)?;
-    let mut all = [0; limits::SIZES];
-    add_times(&mut all, 0, 1, &completing[0]);
+    let completing = count_from(alloc, levels, 0, &[root], &mut each)?;
+    let all = sizes_of_root(&completing);
     Ok(Box::new(alloc, SetCounts { all, each })?)
 }

@@ -1,8 +1,13 @@
 -- The graph: for each level, where its states lead without its member and with it.
 use Rattle.std.specs.Prelude.{ℕ, nat_eq, ◌+◌, ◌*◌, ◌/◌, ◌<◌, ◌≤◌, ◌^◌, ◌≡◌, ◌&&◌, Bool, false, List, [], ◌∷◌, length, slice_index, slice_index_or}
-use Rattle.std.specs.Prelude.{if◌then◌else◌}
+use Rattle.std.specs.Prelude.{if◌then◌else◌, map, Vec}
+use Rattle.std.specs.Global.{Global}
 use Rattle.council_base.specs.declared.limits.TheConstants.{MEMBERS, SIZES}
 use Rattle.mwc_states.specs.Inner.Sets.{count_sets}
+
+-- the links of each level
+abbrev pub lists : List (Vec ℕ Global) → List (List ℕ)
+lists levels = map (λ links. links.items) levels
 
 -- where row p leads without the member (0) or with it (1)
 abbrev pub link_at : List ℕ → ℕ → ℕ → ℕ
