@@ -122,10 +122,9 @@ if needs rt "the kit of --version is the one at hand"; then
     fi
 fi
 
-# ---- the code in docs/LIBRARY.md is that of the crates, and docs/LAWS.md has their laws
+# ---- the code in docs/LIBRARY.md is that of the crates, and so are the laws
 if needs python3 "docs/LIBRARY.md has code of the crates"; then
     python3 "$top/tests/library.py" || failed "docs/LIBRARY.md has code of the crates" "tests/library.py stopped"
-    python3 "$top/tests/laws.py" || failed "docs/LAWS.md has the laws" "tests/laws.py stopped"
 fi
 
 # ---- the pictures of docs/ARCHITECTURE.md are those of crates.txt

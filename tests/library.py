@@ -41,6 +41,8 @@ for crate, path in re.findall(r"`(\w+)::([\w:]+)`", re.sub(r"```.*?```", "", pag
         items = "".join(read(os.path.relpath(it, TOP)) for it in glob.glob(f"{TOP}/crates/{crate}/src/*.rt"))
         missing += [] if re.search(rf"pub (?:extern \S+ )?(?:fn|struct) {item}\b", items) else [f"{crate}::{path}"]
 report(not missing, "docs/LIBRARY.md: each call exists", f"not there: {missing}")
+laws = {it for path in glob.glob(f"{TOP}/crates/*/src/laws.rt") for it in re.findall(r"^pub fn (\w+)", read(os.path.relpath(path, TOP)), re.M)}
+report(all(f"`{it}`" in page for it in laws), "docs/LIBRARY.md names each law", f"not {sorted(it for it in laws if f'`{it}`' not in page)}")
 used = re.search(r"```\nmy_indices: (.*)\n```", page).group(1).split()
 strange = [it for it in used if not os.path.isdir(f"{TOP}/crates/{it}")]
 report(not strange, "docs/LIBRARY.md: each crate of the line for crates.txt exists", f"not there: {strange}")

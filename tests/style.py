@@ -36,7 +36,7 @@ LIMITS = {
     "docs/DECISIONS.md": 1000,
     "docs/LIBRARY.md": 1400,
 }
-COMPUTED = ["docs/LAWS.md", "docs/TRUST.md"]
+COMPUTED = ["docs/TRUST.md"]
 # a pattern, how often a page may have it, and what to write instead
 WORN = [
     (r"in place of", 0, "instead of"),

@@ -3,7 +3,7 @@
 
     tools/reference.py FOLDER
 
-A page for each library, and an index with a search that needs no server. On a page stand the public items with their doc
+A page for each library, one of all laws, and an index with a search that needs no server. On a page stand the public items with their doc
 comments, signatures and clauses, as the sources have them, and then the definitions of specs/ that clauses may name. Each
 name of a clause or a definition is linked to its text. What is of the standard library has no link.
 """
@@ -258,8 +258,20 @@ def index(crates):
         rows.append(f'<li><a href="{crate}.html">{crate}</a>: {html.escape(first[1].replace(chr(10) + "//! ", " ") if first else "")}</li>')
     listed = json.dumps(sorted(names), ensure_ascii=False).replace("<", "\\u003c")
     body = (f'<h1>Libraries of council</h1><p><input id="search" placeholder="A call, a type or a definition" aria-label="Search"></p><ul id="found"></ul>'
-            f"<ul>{''.join(rows)}</ul><script>const ITEMS={listed};{SEARCH}</script>")
+            f'<ul>{"".join(rows)}<li><a href="laws.html">All laws</a></li></ul>'
+            f"<script>const ITEMS={listed};{SEARCH}</script>")
     return page("Libraries of council", body)
+
+
+def laws(crates, links):
+    """The laws of all libraries: what each says, and its clauses."""
+    out = ['<p><a href="index.html">All libraries</a></p><h1>Laws</h1><p>What the definitions say of each other.</p>']
+    for crate in crates:
+        for module, _, _, name, doc, text in items(crate):
+            if module == "laws":
+                imports = links.imports(read(f"{TOP}/crates/{crate}/src/laws.rt"))
+                out.append(f'<h3><a href="{crate}.html#{name}">{crate}::laws::{name}</a></h3>{prose(doc)}<pre>{links.mark(chr(10).join(text), imports)}</pre>')
+    return page("Laws", "\n".join(out))
 
 
 def main():
@@ -268,7 +280,7 @@ def main():
     crates = libraries()
     links = Links(crates)
     os.makedirs(sys.argv[1], exist_ok=True)
-    for name, text in [("index", index(crates)), *((it, page_of(it, links)) for it in crates)]:
+    for name, text in [("index", index(crates)), ("laws", laws(crates, links)), *((it, page_of(it, links)) for it in crates)]:
         with open(f"{sys.argv[1]}/{name}.html", "w", encoding="utf-8") as it:
             it.write(text)
 
