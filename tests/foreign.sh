@@ -113,16 +113,6 @@ equal_members 24 12 >"$temp/many.txt"
 same "more than a million" "$temp/many.txt" --most 1000000
 same "more than a million, with the most above" "$temp/many.txt" --most 4000000
 
-# ---- counted by states, as by the program: these 29 members of different weights have tens of
-# millions of coalitions, which a walk would count one by one. With states it takes a tenth of a
-# second, and it may take thirty times as long
-game_file 14200 {1000..1025} >"$temp/states.toml"
-printf '[[member]]\nname = "%s"\nweight = %s\n' AA 1026 BB 1027 CC 1028 >>"$temp/states.toml"
-whole=$limit
-limit=$((seconds / 20))
-same "29 members, counted by states" "$temp/states.toml" --tally
-limit=$whole
-
 # ---- counted by kinds, as by the program: these members of two kinds have 75,370,861,360
 # coalitions, for which a walk would take an hour
 {
@@ -147,13 +137,10 @@ for quota in 8 20; do
     equal_members 40 "$quota" >"$temp/equal.txt"
     same "40 equal members, quota $quota" "$temp/equal.txt" --most 4000000
     same "40 equal members, quota $quota, counted" "$temp/equal.txt" --tally
+    same "40 equal members, quota $quota, only swings" "$temp/equal.txt" --only-swings
 done
 limit=$seconds
 callers=(${all_callers[@]+"${all_callers[@]}"})
-
-# ---- a report of some 60 KB
-game_file 6 1 1 1 1 1 1 1 1 1 1 1 1 >"$temp/twelve.toml"
-same "a long report" "$temp/twelve.toml" --list --sizes --notation
 
 # ---- faults
 : >"$temp/empty"

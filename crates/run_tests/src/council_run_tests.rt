@@ -12,7 +12,7 @@ use council_game::GameFault;
 use council_run::{Cause, Options, RunFault, run, tally};
 use mwc_gather::GatherFault;
 use std::alloc::Global;
-use std::io::{self, ErrorKind, Write};
+use std::io::{self, ErrorKind, Read, Write};
 use std::process::Abort;
 use std::sync::Wait;
 use std::thread::Threads;
@@ -32,30 +32,40 @@ fn options(workers: u8, bits: u8) -> Options
     }
 }
 
-/// A writer of at most 100 bytes at once, which counts calls and bytes; the call `fails_at` fails.
+/// A reader of at most 7 bytes at once, and a writer of at most 100. Its call `fails_at` fails.
 #[derive(Drop)]
-struct Writer {
+struct Stream {
+    left: &'static [u8],
     fails_at: u64,
     calls: u64,
-    bytes: u64,
+    written: u64,
 }
 
-impl Writer {
-    /// Makes a writer whose call of this number, from 1, fails.
-    fn failing(fails_at: u64) -> Writer {
-        Writer {
+impl Stream {
+    /// Makes a stream of these bytes, whose call of this number, from 1, fails.
+    fn failing(left: &'static [u8], fails_at: u64) -> Stream {
+        Stream {
+            left,
             fails_at,
             calls: 0,
-            bytes: 0,
+            written: 0,
         }
     }
 }
 
-impl Write for Writer {
+impl Read for Stream {
+    fn read(&mut self, buf: &mut [u8]) -> io::Result<usize> {
+        self.flush()?;
+        let most = buf.len().min(7);
+        self.left.read(&mut buf[..most])
+    }
+}
+
+impl Write for Stream {
     fn write(&mut self, bytes: &[u8]) -> io::Result<usize> {
         self.flush()?;
         let count = bytes.len().min(100);
-        self.bytes = self.bytes.saturating_add(count as u64);
+        self.written = self.written.saturating_add(count as u64);
         Ok(count)
     }
 

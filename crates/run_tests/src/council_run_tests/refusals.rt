@@ -17,11 +17,11 @@ fn place_of(cause: Cause) -> &'static str {
 }
 
 /// Prints an answer: the report was written, or there was a refusal before the first byte.
-fn print_answer<R: Abort + Print>(rt: &R, answer: Result<u64, RunFault>, writer: &Writer) {
+fn print_answer<R: Abort + Print>(rt: &R, answer: Result<u64, RunFault>, writer: &Stream) {
     match answer {
         Ok(count) => {
             print_line(rt, "worked");
-            assert_same(rt, count, writer.bytes, "bytes");
+            assert_same(rt, count, writer.written, "bytes");
         }
         Err(fault) => {
             print_line(rt, place_of(fault.cause));
@@ -34,7 +34,7 @@ fn print_answer<R: Abort + Print>(rt: &R, answer: Result<u64, RunFault>, writer:
 fn runs<R: Abort + Print + Threads + Wait + Sync>(rt: &R, alloc: Global, file: &[u8]) {
     let mut reader = file;
     let options = options(3, 2);
-    let mut writer = Writer::failing(0);
+    let mut writer = Stream::failing(b"", 0);
     print_line(rt, "call");
     let answer = run(rt, alloc, &mut reader, &options, &NoGate, &mut writer);
     print_answer(rt, answer, &writer);
@@ -73,7 +73,7 @@ fn tallies_by_states(rt: HostRuntime) {
     let alloc = rt.alloc();
     let mut reader = TWO_RULES;
     let options = options(3, 2);
-    let mut writer = Writer::failing(0);
+    let mut writer = Stream::failing(b"", 0);
     print_line(&rt, "call");
     let answer = tally(&rt, alloc, &mut reader, &options, &NoGate, &mut writer);
     print_answer(&rt, answer, &writer);
