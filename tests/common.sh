@@ -146,6 +146,99 @@ member = [
 END
 }
 
+# write_rules QUOTAS WEIGHTS..: a game of these rules, the numbers of each with commas between them
+write_rules() {
+    local member=0 weights
+    {
+        echo "quotas = [$1]"
+        for weights in "${@:2}"; do
+            member=$((member + 1))
+            printf '[[member]]\nname = "%s"\nweights = [%s]\n' "$member" "$weights"
+        done
+    } >"$temp/rules.toml"
+}
+
+# repeat COUNT WORD: the word COUNT times
+repeat() {
+    local left
+    for ((left = $1; left > 0; left--)); do echo "$2"; done
+}
+
+# each_hard_game WORD..: writes games of several rules to $temp/rules.toml, one after the other, and
+# calls these words with the name of each. By a plain walk, or in another order, some take minutes.
+each_hard_game() {
+    local x rule rules member sum total weight needed votes quotas unit order president senate house directors seats
+    for directors in 23 39; do
+        mapfile -t votes < <(repeat "$directors" '1, 0')
+        write_rules '2, 1' '0, 1' "${votes[@]}"
+        "$@" "$directors directors and a chair"
+        mapfile -t votes < <(repeat "$directors" '0, 1')
+        write_rules '1, 2' '1, 0' "${votes[@]}"
+        "$@" "a chair and $directors directors"
+    done
+    for seats in 12 20; do
+        mapfile -t votes < <(repeat "$seats" '1, 0' && repeat "$seats" '0, 1')
+        write_rules '2, 2' "${votes[@]}"
+        "$@" "two houses of $seats"
+    done
+    # a president, a senate of nine and a house of seventeen, in each order of the rules
+    unit=('1, 0, 0' '0, 1, 0' '0, 0, 1')
+    for order in '0 1 2' '0 2 1' '1 0 2' '1 2 0' '2 0 1' '2 1 0'; do
+        read -r president senate house <<<"$order"
+        quotas=()
+        quotas[president]=1 quotas[senate]=5 quotas[house]=9
+        mapfile -t votes < <(repeat 1 "${unit[president]}" && repeat 9 "${unit[senate]}" && repeat 17 "${unit[house]}")
+        write_rules "${quotas[0]}, ${quotas[1]}, ${quotas[2]}" "${votes[@]}"
+        "$@" "a president, a senate and a house as rules $order"
+    done
+    # random weights up to 50 and zeros, and as quotas more than a third of what they add up to
+    for rules in 2 3 4; do
+        x=$rules
+        needed=
+        votes=()
+        for ((rule = 0; rule < rules; rule++)); do
+            sum=0
+            for ((member = 0; member < 26; member++)); do
+                x=$(((75 * x + 74) % 65537))
+                weight=$((x % 3 == 0 ? 0 : x % 50 + 1))
+                sum=$((sum + weight))
+                votes[member]+=${votes[member]:+, }$weight
+            done
+            needed+=${needed:+, }$((sum / 3 + 1))
+        done
+        write_rules "$needed" "${votes[@]}"
+        "$@" "26 random members and $rules rules"
+    done
+
+    # 34 members of nearly the same weight, and six of nearly none, five of whom the second rule
+    # needs: a walk in the order of the first rule takes more than a minute, and in that of
+    # contribution tenths of a second
+    x=7
+    total=0
+    votes=()
+    for ((member = 0; member < 40; member++)); do
+        x=$(((75 * x + 74) % 65537))
+        if [ "$member" -lt 34 ]; then
+            total=$((total + 1000 + x % 500))
+            votes+=("$((1000 + x % 500)), $((x % 3))")
+        else
+            votes+=("$((x % 4 + 1)), $((1000 + x % 50))")
+        fi
+    done
+    write_rules "$((total * 6 / 100)), 5100" "${votes[@]}"
+    "$@" "34 equals and six others"
+
+    # a house by weights and by how many they are, beside a senate; and one by two rules of weights,
+    # beside a senate and a president
+    mapfile -t votes < <(for it in 9 7 6 6 5 4 3 2 1; do echo "$it, 1, 0"; done && for it in 5 4 3 3 2 1; do echo "0, 0, $it"; done)
+    write_rules '22, 5, 10' "${votes[@]}"
+    "$@" "a house with heads and a senate"
+    mapfile -t votes < <(for it in '9, 1' '7, 2' '6, 4' '6, 6' '5, 7' '4, 3' '2, 8' '1, 9'; do echo "$it, 0, 0"; done &&
+        for it in 5 4 3 3 2 1; do echo "0, 0, $it, 0"; done && echo '0, 0, 0, 1')
+    write_rules '21, 20, 10, 1' "${votes[@]}"
+    "$@" "a house by two rules, a senate and a president"
+}
+
 # compile_preloaded NAME..: compiles preloaded/NAME.c to $temp/NAME.so, which is loaded before the C
 # library; if there is no compiler, the script ends here.
 compile_preloaded() {

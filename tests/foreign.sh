@@ -113,16 +113,6 @@ equal_members 24 12 >"$temp/many.txt"
 same "more than a million" "$temp/many.txt" --most 1000000
 same "more than a million, with the most above" "$temp/many.txt" --most 4000000
 
-# ---- counted by states, as by the program: these 29 members of different weights have tens of
-# millions of coalitions, which a walk would count one by one. With states it takes a tenth of a
-# second, and it may take thirty times as long
-game_file 14200 {1000..1025} >"$temp/states.toml"
-printf '[[member]]\nname = "%s"\nweight = %s\n' AA 1026 BB 1027 CC 1028 >>"$temp/states.toml"
-whole=$limit
-limit=$((seconds / 20))
-same "29 members, counted by states" "$temp/states.toml" --tally
-limit=$whole
-
 # ---- counted by kinds, as by the program: these members of two kinds have 75,370,861,360
 # coalitions, for which a walk would take an hour
 {
@@ -134,9 +124,23 @@ limit=$whole
 } >"$temp/kinds.toml"
 same "40 members of two kinds" "$temp/kinds.toml" --tally --sizes
 
-# ---- a report of some 60 KB
-game_file 6 1 1 1 1 1 1 1 1 1 1 1 1 >"$temp/twelve.toml"
-same "a long report" "$temp/twelve.toml" --list --sizes --notation
+# ---- hard games, listed and counted, from C. Each takes the program a second or two at most
+callers=()
+[ ! -x "$temp/report_c" ] || callers=(C)
+limit=$((seconds / 6))
+from_c() {
+    same "$1" "$temp/rules.toml" --sizes --most 4000000
+    same "$1, counted" "$temp/rules.toml" --tally --sizes
+}
+each_hard_game from_c
+for quota in 8 20; do
+    equal_members 40 "$quota" >"$temp/equal.txt"
+    same "40 equal members, quota $quota" "$temp/equal.txt" --most 4000000
+    same "40 equal members, quota $quota, counted" "$temp/equal.txt" --tally
+    same "40 equal members, quota $quota, only swings" "$temp/equal.txt" --only-swings
+done
+limit=$seconds
+callers=(${all_callers[@]+"${all_callers[@]}"})
 
 # ---- faults
 : >"$temp/empty"
@@ -196,12 +200,13 @@ for room in 0 1 10 $((whole - 1)) "$whole" $((whole + 1)); do
     done
 done
 
-# ---- a report of some 100 KB, and large buffers that are too small for it
-equal_members 14 7 >"$temp/fourteen.txt"
-run --list <"$temp/fourteen.txt"
-for room in 65535 65536 70000 $(($(wc -c <"$temp/out") - 1)); do
+# ---- a report of 1.8 MB, and large buffers: too small for it, just enough, and larger
+equal_members 18 9 >"$temp/eighteen.txt"
+run --list <"$temp/eighteen.txt"
+whole=$(wc -c <"$temp/out")
+for room in 65535 65536 70000 200000 250000 500000 1000000 $((whole - 1)) "$whole" 2000000; do
     for caller in ${callers[@]+"${callers[@]}"}; do
-        call "$caller" --list --room "$room" <"$temp/fourteen.txt"
+        call "$caller" --list --room "$room" <"$temp/eighteen.txt"
         fits "from $caller: a large buffer of $room bytes"
     done
 done

@@ -1,5 +1,5 @@
 #!/usr/bin/env python3
-"""A gate is passed at one place, and told of the worker that works.
+"""Calls that no contract can count: a gate is passed at one place, and std reads and writes at three.
 
     gate_source.py [CRATES]
 
@@ -10,7 +10,8 @@ function that sends a slice, and by `Guarded::pass`, for callers.
 No contract can count these calls, but whatever goes through that function passes once for each slice that it sends.
 
 And it looks for the calls that hand the number of a worker on to that function: a contract knows of it only from there
-on.
+on. Last, std's `read`, `write` and `flush` are each called by one function, which does nothing else, since std's contract
+of a call is also that of one that is tried again; and no other file names std's traits `Read` and `Write`.
 
 Prints `ok gate_source` or `FAILED gate_source: why`.
 """
@@ -27,9 +28,19 @@ WANTED = {
     ("mwc_gather/src/send.rt", "send_slice_in_rows::<WordByWord, _, _, _>(rt, guarded, bits, slice, worker, left, buffer, out, pair,"),
     ("mwc_gather/src/worker.rt", "let sent = send_slice_in_rows::<RowByRow, _, _, _>(rt,"),
     ("mwc_gather/src/worker.rt", "run_worker(rt, &job, worker, &mut row, out, tasks, pair)"),
+    ("council_base/src/source.rt", "use std::io::Read;"),
+    ("council_base/src/source.rt", "fn read_once(&mut self, buffer: &mut [u8]) -> io::Result<usize> { self.read(buffer) }"),
+    ("council_base/src/sink.rt", "use std::io::Write;"),
+    ("council_base/src/sink.rt", "fn write_once(&mut self, bytes: &[u8]) -> io::Result<usize> { self.write(bytes) }"),
+    ("council_base/src/sink.rt", "fn flush_once(&mut self) -> io::Result<()> { self.flush() }"),
+    # a writer of its own
+    ("council_c/src/page.rt", "use std::io::Write;"),
     ("mwc_gather/src/worker_handle.rt", "{ run_worker(rt, &own, worker, row.as_mut_slice(), out, list, pair) };"),
 }
 PASSES = re.compile(r"::(?:pass|announce|admit)\b|\.(?:pass|announce|admit)\((?!\w+\))|\brun_worker\(|\bsend_slice_in_rows::")
+# std's reads and writes, and its traits, without which no code has them
+READS = re.compile(r"\bself\.(?:read|write|flush)\(")
+TRAITS = re.compile(r"\bio::(?:\{[^}]*\b)?(?:Read\b|Write\b|\*)")
 
 
 def main(words):
@@ -42,11 +53,12 @@ def main(words):
             continue
         with open(path, encoding="utf-8") as it:
             lines = [line.split("//")[0].strip() for line in it]
-        for code, after in zip(lines, [*lines[1:], ""]):
+        for before, code, after in zip(["", *lines], lines, [*lines[1:], ""]):
             # arguments that have no room beside the call are in the next line
             whole = code + after if code.endswith("(") else code
             found += [(name, whole)] * len(PASSES.findall(code))
-    faults = [f"a gate is passed, or a worker handed on, in {name}: {code}" for name, code in found if (name, code) not in WANTED]
+            found += [(name, f"{before} {code} {after}")] * len(READS.findall(code)) + [(name, code)] * len(TRAITS.findall(code))
+    faults = [f"such a call is in {name} too: {code}" for name, code in found if (name, code) not in WANTED]
     faults += [f"{name} has this {found.count((name, code))} times, and not once: {code}" for name, code in sorted(WANTED) if found.count((name, code)) != 1]
     for fault in faults:
         print(f"FAILED gate_source: {fault}")

@@ -42,96 +42,18 @@ equal 39 40 39
 limit=$seconds
 
 # ---- games of several rules: the same bytes as a run
-# write_rules QUOTAS WEIGHTS..: a game of these rules, the numbers of each with commas between them
-write_rules() {
-    local member=0 weights
-    {
-        echo "quotas = [$1]"
-        for weights in "${@:2}"; do
-            member=$((member + 1))
-            printf '[[member]]\nname = "%s"\nweights = [%s]\n' "$member" "$weights"
-        done
-    } >"$temp/rules.toml"
-}
-# same_as_run NAME QUOTAS WEIGHTS..: of a game of these rules
+# same_as_run NAME: of the game in $temp/rules.toml
 same_as_run() {
-    local name=$1
-    write_rules "${@:2}"
     run "$temp/rules.toml" --sizes --most 4000000
-    if succeeded "a run of $name"; then
+    if succeeded "a run of $1"; then
         cp "$temp/out" "$temp/wanted"
         run --tally --sizes "$temp/rules.toml"
-        printed "--tally of $name" "$temp/wanted"
+        printed "--tally of $1" "$temp/wanted"
     fi
 }
-# repeat COUNT WORD: the word COUNT times
-repeat() {
-    local left
-    for ((left = $1; left > 0; left--)); do echo "$2"; done
-}
-for directors in 23 39; do
-    mapfile -t votes < <(repeat "$directors" '1, 0')
-    same_as_run "$directors directors and a chair" '2, 1' '0, 1' "${votes[@]}"
-    mapfile -t votes < <(repeat "$directors" '0, 1')
-    same_as_run "a chair and $directors directors" '1, 2' '1, 0' "${votes[@]}"
-done
-for seats in 12 20; do
-    mapfile -t votes < <(repeat "$seats" '1, 0' && repeat "$seats" '0, 1')
-    same_as_run "two houses of $seats" '2, 2' "${votes[@]}"
-done
-# a president, a senate of nine and a house of seventeen, in each order of the rules
-unit=('1, 0, 0' '0, 1, 0' '0, 0, 1')
-for order in '0 1 2' '0 2 1' '1 0 2' '1 2 0' '2 0 1' '2 1 0'; do
-    read -r president senate house <<<"$order"
-    quotas=()
-    quotas[president]=1 quotas[senate]=5 quotas[house]=9
-    mapfile -t votes < <(repeat 1 "${unit[president]}" && repeat 9 "${unit[senate]}" && repeat 17 "${unit[house]}")
-    same_as_run "a president, a senate and a house as rules $order" "${quotas[0]}, ${quotas[1]}, ${quotas[2]}" "${votes[@]}"
-done
-# random weights up to 50 and zeros, and as quotas more than a third of what they add up to
-for rules in 2 3 4; do
-    x=$rules
-    needed=
-    votes=()
-    for ((rule = 0; rule < rules; rule++)); do
-        sum=0
-        for ((member = 0; member < 26; member++)); do
-            x=$(((75 * x + 74) % 65537))
-            weight=$((x % 3 == 0 ? 0 : x % 50 + 1))
-            sum=$((sum + weight))
-            votes[member]+=${votes[member]:+, }$weight
-        done
-        needed+=${needed:+, }$((sum / 3 + 1))
-    done
-    same_as_run "26 random members and $rules rules" "$needed" "${votes[@]}"
-done
-
-# 34 members of nearly the same weight, and six of nearly none, five of whom the second rule needs:
-# a walk in the order of the first rule takes more than a minute, and in that of contribution tenths
-# of a second
-x=7
-total=0
-votes=()
-for ((member = 0; member < 40; member++)); do
-    x=$(((75 * x + 74) % 65537))
-    if [ "$member" -lt 34 ]; then
-        total=$((total + 1000 + x % 500))
-        votes+=("$((1000 + x % 500)), $((x % 3))")
-    else
-        votes+=("$((x % 4 + 1)), $((1000 + x % 50))")
-    fi
-done
 limit=$((seconds / 6))
-same_as_run "34 equals and six others" "$((total * 6 / 100)), 5100" "${votes[@]}"
+each_hard_game same_as_run
 limit=$seconds
-
-# a house by weights and by how many they are, beside a senate; and one by two rules of weights,
-# beside a senate and a president
-mapfile -t votes < <(for it in 9 7 6 6 5 4 3 2 1; do echo "$it, 1, 0"; done && for it in 5 4 3 3 2 1; do echo "0, 0, $it"; done)
-same_as_run "a house with heads and a senate" '22, 5, 10' "${votes[@]}"
-mapfile -t votes < <(for it in '9, 1' '7, 2' '6, 4' '6, 6' '5, 7' '4, 3' '2, 8' '1, 9'; do echo "$it, 0, 0"; done &&
-    for it in 5 4 3 3 2 1; do echo "0, 0, $it, 0"; done && echo '0, 0, 0, 1')
-same_as_run "a house by two rules, a senate and a president" '21, 20, 10, 1' "${votes[@]}"
 
 # minimal_of NAME QUOTAS WEIGHTS..: how many coalitions the tally of a game of these rules has
 minimal_of() {

@@ -9,7 +9,7 @@ ghost use Rattle.council_run.specs.Columns.{limit_with, report_of};
 ghost use Rattle.council_run.specs.Run.{IsOutcome};
 ghost use Rattle.council_run.specs.Plans.{is_too_many, lines_of_plan};
 
-use council_base::{Gate, Plan, Recorder, Sink, Source, sanitize};
+use council_base::{Gate, Plan, Recorder, Sink, Source, limits, sanitize};
 use council_explain::{explain, remark_on_quotas, remark_on_thousands};
 use council_file::parse_game;
 use council_game::GameFault;
@@ -189,8 +189,12 @@ fn run_on<R: AllocGlobal + Print + Eprint + Clock + Threads + Wait + Sync, I: So
     terminal: bool,
     reader: &mut I,
 ) -> ExitCode {
-    let alloc = rt.alloc();
-    let mut reader = Recorder::new(alloc, reader, arguments.explain || terminal);
+    let mut bytes = None;
+    if arguments.explain || terminal {
+        // memory: without room nothing is recorded, and the run goes on
+        bytes = Vec::with_capacity(rt.alloc(), limits::FILE_BYTES + 1).ok();
+    }
+    let mut reader = Recorder::new(reader, bytes);
     let slices = slices_of(arguments);
     let progress = Progress::new(rt, terminal, slices);
     let mut writer = Wiping {

@@ -1,9 +1,8 @@
 //! A reader that records what a run reads, for an explanation.
-ghost use Rattle.std.specs.Prelude.{◌≡◌, Some, None, [], if◌then◌else◌, option_map};
+ghost use Rattle.std.specs.Prelude.{◌≡◌, option_map};
 ghost use Rattle.council_base.specs.Inner.Recorder.{bytes_read, KeepsAll};
 
 use crate::Source;
-use std::alloc::Global;
 use std::io;
 
 /// A reader that gives what another gives, and records it if it is asked to.
@@ -12,17 +11,18 @@ use std::io;
 #[derive(Drop)]
 pub struct Recorder<'a, I> {
     reader: &'a mut I,
-    /// What it gave; `None` if it records nothing, or an allocation was refused.
+    /// What it gave; `None` if it records nothing, or there was no room.
     bytes: Option<Vec<u8>>,
 }
 
 impl<'a, I: Source> Recorder<'a, I> {
-    /// Returns a reader that records what it reads if `keeps` is true.
-    pub fn new(alloc: Global, reader: &'a mut I, keeps: bool) -> Recorder<'a, I>
+    /// Returns a reader that appends what it reads to these bytes, if there are any.
+    ///
+    /// It forgets nothing that fits into the capacity that they have.
+    pub fn new(reader: &'a mut I, bytes: Option<Vec<u8>>) -> Recorder<'a, I>
         ensures inside { result.reader.now ≡ reader.old }
-        ensures kept { option_map (λ v. v.items) result.bytes ≡ (if keeps then Some [] else None) }
+        ensures kept { result.bytes ≡ bytes }
     {
-        let bytes = if keeps { Some(Vec::new(alloc)) } else { None };
         Recorder { reader, bytes }
     }
 
@@ -42,8 +42,7 @@ impl<'a, I: Source> Source for Recorder<'a, I> {
 
     ghost is_read = { λ old buffer result new filled.
         I.is_read old.reader.now buffer result new.reader.now filled
-        × KeepsAll (option_map (λ v. v.items) old.bytes) (bytes_read result filled)
-        (option_map (λ v. v.items) new.bytes) };
+        × KeepsAll old.bytes (bytes_read result filled) new.bytes };
 
     fn read_once(&mut self, buffer: &mut [u8]) -> io::Result<usize> {
         let count = self.reader.read_once(buffer)?;

@@ -46,6 +46,8 @@ impl<W: Write> Sink for W {
 
     ghost is_flush = { λ old _ new. Keeps (W.contents old) (W.contents new) };
 
+    // std's contracts also fit calls that are tried again: tests/gate_source.py compares these two
+    // functions with their texts.
     fn write_once(&mut self, bytes: &[u8]) -> io::Result<usize> {
         self.write(bytes)
     }

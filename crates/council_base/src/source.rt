@@ -36,6 +36,8 @@ impl<I: Read> Source for I {
     ghost is_read = { λ old buffer result new filled. ReadsAtMost result filled
         × ReadConsumes (I.remaining old) (I.remaining new) result filled };
 
+    // std's contract of `read` also fits a read that is tried again: tests/gate_source.py compares
+    // this function with its text.
     fn read_once(&mut self, buffer: &mut [u8]) -> io::Result<usize> {
         self.read(buffer)
     }

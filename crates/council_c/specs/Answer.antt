@@ -1,14 +1,15 @@
 -- What a call answers.
-use Rattle.std.specs.Prelude.{◌≡◌, ℕ, List, ◌++◌, length, take, drop, ◌⊎◌, true, false, Ok, Option}
+use Rattle.std.specs.Prelude.{◌≡◌, ℕ, List, ◌++◌, length, take, drop, ◌⊎◌, true, false, Ok, Err, Option, ⊤, codes}
+use Rattle.std.specs.Fmt.Cut.{IsTextOrCut}
 use Rattle.council_game.specs.declared.fault.GameFault.TheVariants as game
 use Rattle.council_game.specs.Game.{GameView}
-use Rattle.council_base.specs.declared.report_lines.ReportLines.{ReportLines}
 use Rattle.council_run.specs.Columns.{ShowsSwings, report_of}
 use Rattle.council_run.specs.declared.columns.Columns.{Columns}
-use Rattle.council_run.specs.Run.{Holds, IsWithin, Stops}
-use Rattle.council_run.specs.Status.{status_of}
+use Rattle.council_run.specs.Run.{Holds, IsWithin}
+use Rattle.council_run.specs.Status.{status_of, text_of}
 use Rattle.council_run.specs.declared.fault.Cause.{Cause}
 use Rattle.council_run.specs.declared.fault.Cause.TheVariants as cause
+use Rattle.mwc_gather.specs.declared.fault.GatherFault.TheVariants as gather
 use Rattle.council_c.specs.declared.fault.Fault.{Fault}
 use Rattle.council_c.specs.declared.fault.Fault.TheVariants as fault
 use Rattle.council_c.specs.declared.options.CouncilOptions.{CouncilOptions}
@@ -28,22 +29,34 @@ abbrev pub Reports : Columns → CouncilOptions → List ℕ → List ℕ → Li
 Reports columns o bytes before after len =
     (are_wrong o ≡ false) × FillsBy (report_of columns (lines_of_call o)) (limit_of columns o) bytes before after len
 
--- a run on these bytes stops so, before anything was written; a read or a write that fails is no
--- cause, and too many states are one only if swings are shown
-abbrev pub StopsOn : Columns → ReportLines → Option ℕ → List ℕ → Cause → Type 0
-StopsOn columns lines limit bytes (cause.Game game.Read) = ⊥
-StopsOn columns lines limit bytes cause.States = ShowsSwings columns
-StopsOn columns lines limit bytes why = Stops (report_of columns lines) limit (Holds bytes) (λ _ _. ⊥) (Unit {0}) why 0
+-- The bytes hold this fault, or a game of which no report was made. No read, write, thread or ring
+-- is a cause, and too many states are one only if swings are shown.
+abbrev pub StopsOn : Columns → Option ℕ → List ℕ → Cause → Type 0
+StopsOn columns limit bytes (cause.Game game.Read) = ⊥
+StopsOn columns limit bytes (cause.Game game.Memory) = ⊤
+StopsOn columns limit bytes (cause.Game fault) = Holds bytes (Err fault)
+StopsOn columns limit bytes (cause.Gather gather.TooMany) = (g : GameView) × Holds bytes (Ok g) × (IsWithin limit g → ⊥)
+StopsOn columns limit bytes (cause.Gather fault) = ⊥
+StopsOn columns limit bytes cause.Write = ⊥
+StopsOn columns limit bytes cause.Memory = (g : GameView) × Holds bytes (Ok g)
+StopsOn columns limit bytes cause.States = ShowsSwings columns × ((g : GameView) × Holds bytes (Ok g))
 
 -- Why there is none: the options are wrong, or they are right and a run on these bytes stops so.
 abbrev pub StopsCall : Columns → CouncilOptions → List ℕ → Fault → Type 0
 StopsCall columns o bytes fault.Options = are_wrong o ≡ true
 StopsCall columns o bytes (fault.Run why) =
-    (are_wrong o ≡ false) × StopsOn columns (lines_of_call o) (limit_of columns o) bytes why
+    (are_wrong o ≡ false) × StopsOn columns (limit_of columns o) bytes why
 
--- the buffer shows some text, and `len` is its length
-abbrev pub Tells : List ℕ → List ℕ → ℕ → Type 0
-Tells before after len = (words : List ℕ) × (len ≡ length words) × Shows words before after
+-- what a fault says
+abbrev pub text_of_call : Fault → List ℕ
+text_of_call fault.Options = codes "bad options"
+text_of_call (fault.Run why) = text_of why
+
+-- The buffer shows what the fault says, and `len` is its length. If it could not be formatted, it
+-- ends in three dots.
+abbrev pub Tells : Fault → List ℕ → List ℕ → ℕ → Type 0
+Tells why before after len =
+    (text : List ℕ) × IsTextOrCut 100 (text_of_call why) text × (len ≡ length text) × Shows text before after
 
 -- the status, as the program ends with it
 abbrev pub status_of_call : Fault → ℕ
@@ -55,4 +68,4 @@ status_of_call (fault.Run why) = status_of why
 abbrev pub Answers : Columns → CouncilOptions → List ℕ → List ℕ → List ℕ → ℕ → ℕ → Type 0
 Answers columns o bytes before after len status =
     ((status ≡ 0) × Reports columns o bytes before after len)
-    ⊎ ((why : Fault) × StopsCall columns o bytes why × (status ≡ status_of_call why) × Tells before after len)
+    ⊎ ((why : Fault) × StopsCall columns o bytes why × (status ≡ status_of_call why) × Tells why before after len)

@@ -1,25 +1,32 @@
 //! Why there is no report.
-ghost use Rattle.std.specs.Prelude.{◌≡◌};
-ghost use Rattle.council_c.specs.Answer.{Tells, status_of_call};
+ghost use Rattle.std.specs.Prelude.{◌≡◌, Some};
+ghost use Rattle.council_c.specs.Answer.{Tells, status_of_call, text_of_call};
 
 use crate::put::put;
-use arrayvec::ArrayString;
 use council_run::{Cause, RunFault, status};
-use std::fmt::Write;
+use std::fmt;
+use std::fmt::InlineText;
 use thiserror::Error;
-
-/// The most bytes of the text of a fault.
-const WORDS: usize = 100;
 
 /// Why there is no report, with the texts of the program.
 #[derive(Clone, Copy, Debug, Error)]
 pub enum Fault {
     /// No call takes the options.
-    #[error("bad options")]
     Options,
     /// The run stopped.
-    #[error(transparent)]
     Run(Cause),
+}
+
+/// The text of each fault. (By hand: docs/DECISIONS.md says why.)
+impl fmt::Display for Fault {
+    ghost output = { λ fault. Some (text_of_call fault) };
+
+    fn fmt<W: fmt::Write>(&self, f: &mut fmt::Formatter<W>) -> fmt::Result {
+        match *self {
+            Fault::Options => f.write_str("bad options"),
+            Fault::Run(cause) => cause.fmt(f),
+        }
+    }
 }
 
 impl Fault {
@@ -35,11 +42,11 @@ impl Fault {
 
     /// Puts its text into a buffer, as much as fits, and returns how long the text is.
     pub(crate) fn put_words(self, room: &mut [u8]) -> u64
-        ensures { Tells room.old room.new result }
+        ensures { Tells self room.old room.new result }
     {
-        let mut words: ArrayString<WORDS> = ArrayString::new();
-        let _ = write!(words, "{self}");
-        put(words.as_str().as_bytes(), room);
-        words.len() as u64
+        let text = InlineText::<100>::of(self);
+        let bytes = text.as_str().as_bytes();
+        put(bytes, room);
+        bytes.len() as u64
     }
 }

@@ -92,7 +92,7 @@ fn put_game(
     requires { options.now.list ≡ (lines_of_plan plan options.now).list }
     ensures ok { IfOk result (FillsBy (report_of columns (lines_of options.now)) (limit_with columns plan options.now.most false)
         bytes.now room.old room.new) }
-    ensures err { IfErr result (λ fault. StopsOn columns (lines_of options.now)
+    ensures err { IfErr result (λ fault. StopsOn columns
         (limit_with columns plan options.now.most (is_too_many result)) bytes.now fault.cause) }
     ensures kept { OnErr result (room.new ≡ room.old) }
 {

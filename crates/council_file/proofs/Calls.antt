@@ -1,9 +1,9 @@
 -- The reads of a game file, one after the other.
-use Rattle.std.proofs.Common.{◌≡◌, ◌<◌, ◌≤◌, ◌++◌, ℕ, List, [], Option, Result, Ok, Err, length, take, subst, sym, ap, ◌∙◌, append-nil}
+use Rattle.std.proofs.Common.{◌≡◌, ◌<◌, ◌≤◌, ◌++◌, ℕ, List, [], Option, Result, Ok, Err, length, take, subst, sym, ap, ◌∙◌, append-nil, inl}
 use Rattle.std.specs.declared.io.Error.{Error}
 use Rattle.council_game.specs.declared.fault.GameFault.{GameFault, TheVariants.Read, TheVariants.Memory}
 use Rattle.council_file.specs.{Inner.Reads.Given, Inner.Reads.IsStop, Reads.Reading, Reads.Reads}
-use Rattle.council_file.specs.Reads.{gave, ended, failed}
+use Rattle.council_file.specs.Reads.{gave, ended, refused, failed}
 
 module _ {R : Type 0} (is_read : R → List ℕ → Result ℕ Error → R → List ℕ → Type 0) where
   pub reading-more : (r s last : R) (old new : List ℕ) (n : ℕ) (end : Result (List ℕ) GameFault) → length old ≤ 65536 → 0 < n
@@ -23,5 +23,5 @@ module _ {R : Type 0} (is_read : R → List ℕ → Result ℕ Error → R → L
       → ((end : Result (List ℕ) GameFault) (last : R) → Reading is_read r bytes end last → Reading is_read first [] end last)
       → IsStop is_read r s fault → Reads left is_read first s (Err fault)
   reading-stops left first r s bytes Read few goes-on h = goes-on (Err Read) s (failed r s bytes h.0 h.1 h.2 few h.3)
-  reading-stops left first r s bytes Memory few goes-on h = tt
+  reading-stops left first r s bytes Memory few goes-on h = inl (goes-on (Err Memory) s (refused r s bytes h.0 h.1 h.2 few h.3))
   reading-stops left first r s bytes fault few goes-on h = absurd h

@@ -28,14 +28,19 @@ pub data Reading {R : Type 0} (is_read : R → List ℕ → Result ℕ Error →
       → 0 < length filled → Reading is_read r bytes (Ok bytes) s
   -- they are more than a game file may have
   too_long : (r : R) (bytes : List ℕ) → FILE_BYTES < length bytes → Reading is_read r bytes (Ok bytes) r
+  -- there was no memory for the bytes of a read
+  refused : (r s : R) (bytes buffer filled : List ℕ) (n : ℕ) → length bytes ≤ FILE_BYTES
+      → is_read r buffer (Ok n) s filled → Reading is_read r bytes (Err Memory) s
   failed : (r s : R) (bytes buffer filled : List ℕ) (e : Error) → length bytes ≤ FILE_BYTES
       → is_read r buffer (Err e) s filled → Reading is_read r bytes (Err Read) s
 
 -- The game of the bytes that the reader gave, or their first fault; or a read failed, or memory ran
--- out. `left` has the bytes that a reader has left, if they are known.
+-- out, for the bytes or then for the game. `left` has the bytes that a reader has left, if they are
+-- known.
 abbrev pub Reads : {R : Type 0} → (R → Option (List ℕ)) → (R → List ℕ → Result ℕ Error → R → List ℕ → Type 0) → R → R
     → Result GameView GameFault → Type 0
-Reads left is_read first last (Err Memory) = Unit {0}
+Reads left is_read first last (Err Memory) =
+    Reading is_read first [] (Err Memory) last ⊎ ((bytes : List ℕ) × Reading is_read first [] (Ok bytes) last)
 Reads left is_read first last (Err Read) = Reading is_read first [] (Err Read) last
 Reads left is_read first last answer =
     (bytes : List ℕ) × Gave (left first) (left last) bytes × Reading is_read first [] (Ok bytes) last × (game_of bytes ≡ answer)

@@ -1,7 +1,7 @@
 //! Why a game was refused.
-ghost use Rattle.std.specs.Prelude.{◌≡◌};
+ghost use Rattle.std.specs.Prelude.{◌≡◌, Some};
 ghost use Rattle.council_game.specs.declared.fault.GameFault.TheVariants.{Memory};
-ghost use Rattle.council_game.specs.Faults.{number_of};
+ghost use Rattle.council_game.specs.Faults.{number_of, text_of};
 
 use crate::Memory;
 use std::alloc::{AllocError, AllocFailed};
@@ -71,24 +71,25 @@ impl GameFault {
 
 /// The text of each fault. (By hand: docs/DECISIONS.md says why.)
 impl fmt::Display for GameFault {
+    ghost output = { λ fault. Some (text_of fault) };
+
     fn fmt<W: fmt::Write>(&self, f: &mut fmt::Formatter<W>) -> fmt::Result {
-        let text = match *self {
-            GameFault::Read => "the game file cannot be read",
-            GameFault::TooLong => "the game file is longer than 65536 bytes",
-            GameFault::Text => "the game file is not TOML",
-            GameFault::UnknownKey => "unknown key",
-            GameFault::Title => "bad title",
-            GameFault::Quota => "bad quota",
-            GameFault::Members => "bad member list",
-            GameFault::QuotaRange => "quota out of range",
-            GameFault::Bracket => "bad bracket text",
-            GameFault::Rules => "bad rules",
-            GameFault::Memory => "out of memory",
-            GameFault::Name { member } => return write!(f, "bad name of member {member}"),
-            GameFault::SameName { member } => return write!(f, "member {member} repeats a name"),
-            GameFault::Weight { member } => return write!(f, "bad weight of member {member}"),
-        };
-        f.write_str(text)
+        match *self {
+            GameFault::Read => f.write_str("the game file cannot be read"),
+            GameFault::TooLong => f.write_str("the game file is longer than 65536 bytes"),
+            GameFault::Text => f.write_str("the game file is not TOML"),
+            GameFault::UnknownKey => f.write_str("unknown key"),
+            GameFault::Title => f.write_str("bad title"),
+            GameFault::Quota => f.write_str("bad quota"),
+            GameFault::Members => f.write_str("bad member list"),
+            GameFault::Name { member } => write!(f, "bad name of member {member}"),
+            GameFault::SameName { member } => write!(f, "member {member} repeats a name"),
+            GameFault::Weight { member } => write!(f, "bad weight of member {member}"),
+            GameFault::QuotaRange => f.write_str("quota out of range"),
+            GameFault::Bracket => f.write_str("bad bracket text"),
+            GameFault::Rules => f.write_str("bad rules"),
+            GameFault::Memory => f.write_str("out of memory"),
+        }
     }
 }
 

@@ -3,7 +3,6 @@ use Rattle.std.proofs.Common.{◌≡◌, ℕ, List, Option, Result, Ok, Err, Som
 use Rattle.council_base.specs.declared.report_lines.ReportLines.{ReportLines}
 use Rattle.council_game.specs.Game.{GameView}
 use Rattle.council_game.specs.declared.fault.GameFault.{GameFault}
-use Rattle.council_game.specs.declared.fault.GameFault.TheVariants as game
 use Rattle.council_report.specs.declared.fault.ReportFault.{ReportFault}
 use Rattle.council_report.specs.declared.fault.ReportFault.TheVariants as report
 use Rattle.mwc_gather.specs.declared.fault.GatherFault.TheVariants as gather
@@ -49,16 +48,22 @@ no-finding columns limit g cause.States h = absurd h
 
 module _ (text : GameView → List ℕ) (limit : Option ℕ) (Read : Result GameView GameFault → Type 0)
     (Write : List ℕ → Result ℕ ReportFault → Type 0) (Kept : Type 0) where
-  -- the game has a fault
-  pub stops-game : (fault : GameFault) → Kept → Read (Err fault) → Stops text limit Read Write Kept (cause.Game fault) 0
-  stops-game game.Memory kept read = (refl, kept)
-  stops-game fault kept read = (refl, kept, read)
+  -- what it shows was not found
+  pub stops-found : (columns : Columns) (g : GameView) (why : Cause) (n : ℕ) → n ≡ 0 → Kept → Read (Ok g) → IsNoFinding columns limit g why
+      → Stops text limit Read Write Kept why n
+  stops-found columns g (cause.Game fault) n none kept read h = absurd h
+  stops-found columns g (cause.Gather gather.TooMany) n none kept read h = (none, kept, (g, read, h))
+  stops-found columns g (cause.Gather fault) n none kept read h = (none, kept, (g, read))
+  stops-found columns g cause.Write n none kept read h = absurd h
+  stops-found columns g cause.Memory n none kept read h = (none, kept, (g, read))
+  stops-found columns g cause.States n none kept read h = (none, kept, (g, read))
 
   -- its report was not written
   pub stops-report : (g : GameView) (why : ReportFault) (e : RunFault) → (why ≡ report.Memory → e ≡ record { cause = cause.Memory; written = 0 })
       → ((n : ℕ) → why ≡ report.Write n → e ≡ record { cause = cause.Write; written = n }) → (Write (text g) (Err report.Memory) → Kept)
       → Read (Ok g) → IsWithin limit g → Write (text g) (Err why) → Stops text limit Read Write Kept e.cause e.written
   stops-report g report.Memory e memory write kept read few h =
-      subst (λ (e : RunFault). Stops text limit Read Write Kept e.cause e.written) (sym (memory refl)) (refl, kept h)
+      subst (λ (e : RunFault). Stops text limit Read Write Kept e.cause e.written) (sym (memory refl))
+      (refl, kept h, (g, read))
   stops-report g (report.Write n) e memory write kept read few h =
       subst (λ (e : RunFault). Stops text limit Read Write Kept e.cause e.written) (sym (write n refl)) (g, read, few, h)

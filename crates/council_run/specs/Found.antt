@@ -4,6 +4,7 @@ use Rattle.std.specs.List.{flat_map, range_with_len}
 use Rattle.council_base.specs.declared.report_lines.ReportLines.{ReportLines}
 use Rattle.council_game.specs.Game.{GameView, votes_of}
 use Rattle.council_game.specs.Votes.{minimal_coalitions}
+use Rattle.mwc_gather.specs.declared.fault.GatherFault.{GatherFault}
 use Rattle.mwc_gather.specs.declared.fault.GatherFault.TheVariants as gather
 use Rattle.mwc_gather.specs.declared.gathered.Gathered.{Gathered}
 use Rattle.mwc_gather.specs.Parts.{HasPieces}
@@ -45,6 +46,11 @@ IsNotFound limit g cause.Memory = ⊤
 abbrev pub Finds : Option ℕ → ReportLines → GameView → Result Found RunFault → Type 0
 Finds limit lines g (Ok found) = IsWithin limit g × IsFound g lines found
 Finds limit lines g (Err fault) = IsNotFound limit g fault.cause × (fault.written ≡ 0)
+
+-- a fault of the gathering is only this one
+abbrev pub GatherFaultIs : {A : Type 0} → GatherFault → Result A RunFault → Type 0
+GatherFaultIs why (Ok x) = ⊤
+GatherFaultIs why (Err fault) = (other : GatherFault) → fault.cause ≡ cause.Gather other → other ≡ why
 
 -- Workers that count stop only if memory runs out, or if one of them could not be started.
 abbrev pub IsWorkersFault : RunFault → Type 0

@@ -1,7 +1,6 @@
 -- What a run reads, writes and returns.
 use Rattle.std.specs.Prelude.{◌≡◌, ◌≤◌, ℕ, List, length, Option, IfSome, Result, Ok, Err}
 use Rattle.council_game.specs.declared.fault.GameFault.{GameFault}
-use Rattle.council_game.specs.declared.fault.GameFault.TheVariants as game
 use Rattle.council_game.specs.Votes.{minimal_coalitions}
 use Rattle.council_game.specs.Game.{GameView, votes_of}
 use Rattle.council_file.specs.File.{game_of}
@@ -28,13 +27,12 @@ IsWithin limit g = IfSome limit (λ most. count_of g ≤ most)
 -- those that were read; `Write` says what writing a text does, and `Kept` that nothing was written.
 abbrev pub Stops : (GameView → List ℕ) → Option ℕ → (Result GameView GameFault → Type 0) → (List ℕ → Result ℕ ReportFault → Type 0)
     → Type 0 → Cause → ℕ → Type 0
-Stops text limit Read Write Kept (cause.Game game.Memory) written = (written ≡ 0) × Kept
 Stops text limit Read Write Kept (cause.Game fault) written = (written ≡ 0) × Kept × Read (Err fault)
 Stops text limit Read Write Kept (cause.Gather gather.TooMany) written =
     (written ≡ 0) × Kept × ((g : GameView) × Read (Ok g) × (IsWithin limit g → ⊥))
 Stops text limit Read Write Kept cause.Write written =
     (g : GameView) × Read (Ok g) × IsWithin limit g × Write (text g) (Err (report.Write written))
-Stops text limit Read Write Kept why written = (written ≡ 0) × Kept
+Stops text limit Read Write Kept why written = (written ≡ 0) × Kept × ((g : GameView) × Read (Ok g))
 
 -- A run that succeeds wrote the text of the game that it read, and nothing else; the game is within
 -- its limit.

@@ -1,5 +1,7 @@
--- The status that the program ends with.
-use Rattle.std.specs.Prelude.{ℕ}
+-- The status that the program ends with, and why in words.
+use Rattle.std.specs.Prelude.{ℕ, List, codes}
+use Rattle.council_game.specs.Faults.{text_of as text_of_game}
+use Rattle.mwc_gather.specs.Faults.{text_of as text_of_gather}
 use Rattle.council_game.specs.declared.fault.GameFault.TheVariants as game
 use Rattle.mwc_gather.specs.declared.fault.GatherFault.TheVariants as gather
 use Rattle.council_run.specs.declared.fault.Cause.{Cause}
@@ -22,3 +24,11 @@ number_of (cause.Gather fault) = 2
 number_of cause.Write = 3
 number_of cause.Memory = 4
 number_of cause.States = 5
+
+-- what a cause says
+abbrev pub text_of : Cause → List ℕ
+text_of (cause.Game fault) = text_of_game fault
+text_of (cause.Gather fault) = text_of_gather fault
+text_of cause.Write = codes "output failed"
+text_of cause.Memory = codes "out of memory"
+text_of cause.States = codes "too many states for the swings"

@@ -2,8 +2,9 @@
 //! worker threads or by one walk.
 ghost use Rattle.std.specs.Prelude.{◌≡◌, ◌⊎◌, IfErr, IfOk, IfSome, None, false};
 ghost use Rattle.council_base.specs.declared.report_lines.ReportLines.{ReportLines};
-ghost use Rattle.council_run.specs.Found.{Finds, IsWorkersFault};
+ghost use Rattle.council_run.specs.Found.{Finds, GatherFaultIs, IsWorkersFault};
 ghost use Rattle.council_run.specs.declared.fault.Cause.TheVariants as cause;
+ghost use Rattle.mwc_gather.specs.declared.fault.GatherFault.TheVariants as gather;
 ghost use Rattle.power_index.specs.Tables.{AreCountsOfGame};
 ghost use Rattle.swings.specs.Swings.{AreWinningCounts};
 
@@ -165,7 +166,8 @@ pub fn count_by_workers<T: Threads + Wait + Sync, G: Gate + Sync>(
 ///
 /// Out of memory.
 pub fn count_by_walk(alloc: Global, game: &Game) -> Result<Found, RunFault>
-    ensures { (lines : ReportLines) → lines.list ≡ false → Finds None lines game.now result }
+    ensures finds { (lines : ReportLines) → lines.list ≡ false → Finds None lines game.now result }
+    ensures many { GatherFaultIs gather.TooMany result }
 {
     let counts = match count_states(alloc, game, MOST_STATES, &NoGate)? {
         Some(counts) => counts,

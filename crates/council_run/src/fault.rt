@@ -1,35 +1,31 @@
 //! Why a run stopped.
-ghost use Rattle.std.specs.Prelude.{◌≡◌, ℕ};
+ghost use Rattle.std.specs.Prelude.{◌≡◌, ℕ, Some};
 ghost use Rattle.council_report.specs.declared.fault.ReportFault.TheVariants as report;
 ghost use Rattle.mwc_gather.specs.declared.fault.GatherFault.TheVariants as gather;
 ghost use Rattle.mwc_tally.specs.declared.fault.TallyFault.TheVariants as tally;
 ghost use Rattle.council_run.specs.declared.fault.Cause.TheVariants as cause;
 ghost use Rattle.council_run.specs.Plans.{is_cause_many};
-ghost use Rattle.council_run.specs.Status.{number_of, status_of};
+ghost use Rattle.council_run.specs.Status.{number_of, status_of, text_of};
 
 use council_game::{GameFault, Memory};
 use council_report::ReportFault;
 use mwc_gather::GatherFault;
 use mwc_tally::TallyFault;
+use std::fmt;
 use thiserror::Error;
 
 /// Why a run stopped.
 #[derive(Clone, Copy, Debug, Error, PartialEq, Eq)]
 pub enum Cause {
     /// The file has no game, or could not be read.
-    #[error(transparent)]
     Game(GameFault),
     /// The minimal winning coalitions could not be gathered, or are more than a run keeps.
-    #[error(transparent)]
     Gather(GatherFault),
     /// The writer failed.
-    #[error("output failed")]
     Write,
     /// A growth was refused.
-    #[error("out of memory")]
     Memory,
     /// The swings of the game take more than `MOST_STATES` states.
-    #[error("too many states for the swings")]
     States,
 }
 
@@ -52,6 +48,21 @@ impl Cause {
             Cause::Write => 3,
             Cause::Memory => 4,
             Cause::States => 5,
+        }
+    }
+}
+
+/// The text of each cause. (By hand: docs/DECISIONS.md says why.)
+impl fmt::Display for Cause {
+    ghost output = { λ cause. Some (text_of cause) };
+
+    fn fmt<W: fmt::Write>(&self, f: &mut fmt::Formatter<W>) -> fmt::Result {
+        match *self {
+            Cause::Game(fault) => fault.fmt(f),
+            Cause::Gather(fault) => fault.fmt(f),
+            Cause::Write => f.write_str("output failed"),
+            Cause::Memory => f.write_str("out of memory"),
+            Cause::States => f.write_str("too many states for the swings"),
         }
     }
 }

@@ -4,8 +4,9 @@ ghost use Rattle.council_base.specs.declared.report_lines.ReportLines.{ReportLin
 ghost use Rattle.council_report.specs.Outcome.{Writes};
 ghost use Rattle.council_run.specs.Columns.{limit_with, report_of};
 ghost use Rattle.council_run.specs.Findings.{AreFindings, FindsAll, columns_of};
-ghost use Rattle.council_run.specs.Found.{Finds};
+ghost use Rattle.council_run.specs.Found.{Finds, GatherFaultIs};
 ghost use Rattle.council_run.specs.Plans.{is_too_many, limit_of, lines_of_plan};
+ghost use Rattle.mwc_gather.specs.declared.fault.GatherFault.TheVariants as gather;
 
 use crate::columns::Columns;
 use crate::counting::{count_by_walk, find_swings};
@@ -63,8 +64,9 @@ fn find_by_walk(
     options: &Options,
     plan: Plan,
 ) -> Result<Found, RunFault>
-    ensures { (lines : ReportLines) → lines.list ≡ (lines_of_plan plan options.now).list
+    ensures finds { (lines : ReportLines) → lines.list ≡ (lines_of_plan plan options.now).list
         → Finds (limit_of plan options.now.most (is_too_many result)) lines game.now result }
+    ensures many { GatherFaultIs gather.TooMany result }
 {
     match plan {
         Plan::Count => count_by_walk(alloc, game),
@@ -87,8 +89,9 @@ pub fn find_in_one_thread(
     plan: Plan,
     columns: Columns,
 ) -> Result<Findings, RunFault>
-    ensures { (lines : ReportLines) → lines.list ≡ (lines_of_plan plan options.now).list
+    ensures finds { (lines : ReportLines) → lines.list ≡ (lines_of_plan plan options.now).list
         → FindsAll columns (limit_with columns plan options.now.most (is_too_many result)) lines game.now result }
+    ensures many { GatherFaultIs gather.TooMany result }
 {
     match columns {
         Columns::Minimal => {

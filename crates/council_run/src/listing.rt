@@ -4,7 +4,7 @@ ghost use Rattle.council_base.specs.declared.limits.TheConstants.{WORKERS};
 ghost use Rattle.council_base.specs.declared.report_lines.ReportLines.{ReportLines};
 ghost use Rattle.council_game.specs.Contribution.{by_contribution};
 ghost use Rattle.council_game.specs.Game.{GameView};
-ghost use Rattle.council_run.specs.Found.{AreListed, Finds, HoldAll, IsNotFound};
+ghost use Rattle.council_run.specs.Found.{AreListed, Finds, GatherFaultIs, HoldAll, IsNotFound};
 ghost use Rattle.council_run.specs.Run.{IsWithin};
 ghost use Rattle.power_index.specs.Tables.{AreCountsOfGame, Tables, table_total};
 
@@ -75,6 +75,7 @@ fn has_more(counted: &Option<Box<Counts>>, most: u32) -> bool
 fn count_few(alloc: Global, game: &Game, most: u32) -> Result<Option<Box<Counts>>, RunFault>
     ensures counts { IfOk result (λ o. IfSome o (λ counts. AreCountsOfGame game.now counts.value)) }
     ensures fails { IfErr result (λ fault. IsNotFound (Some most) game.now fault.cause × (fault.written ≡ 0)) }
+    ensures many { GatherFaultIs GatherFault.TooMany result }
 {
     let counted = count_states(alloc, game, FEW_STATES, &NoGate)?;
     if has_more(&counted, most) {
@@ -145,7 +146,8 @@ pub fn list_by_workers<T: Threads + Wait + Sync, G: Gate + Sync>(
 ///
 /// Too many coalitions, or out of memory.
 pub fn list_by_walk(alloc: Global, game: &Game, most: u32, list: bool) -> Result<Found, RunFault>
-    ensures { (lines : ReportLines) → lines.list ≡ list → Finds (Some most) lines game.now result }
+    ensures finds { (lines : ReportLines) → lines.list ≡ list → Finds (Some most) lines game.now result }
+    ensures many { GatherFaultIs GatherFault.TooMany result }
 {
     count_few(alloc, game, most)?;
     minimal_coalitions_can_be_counted();

@@ -7,12 +7,11 @@ ghost use Rattle.council_report.specs.Outcome.{Writes};
 ghost use Rattle.council_report.specs.Report.{report};
 ghost use Rattle.council_run.specs.Columns.{ShowsSwings, limit_with, report_of};
 ghost use Rattle.council_run.specs.Findings.{FindsAll};
-ghost use Rattle.council_run.specs.Found.{Finds, IsWorkersFault};
+ghost use Rattle.council_run.specs.Found.{Finds, GatherFaultIs, IsWorkersFault};
 ghost use Rattle.council_run.specs.Plans.{is_too_many, limit_of, lines_of_plan};
 ghost use Rattle.council_run.specs.Run.{IsOutcome};
 ghost use Rattle.council_run.specs.declared.fault.Cause.TheVariants as cause;
 ghost use Rattle.council_base.specs.declared.plan.Plan.TheVariants as plans;
-ghost use Rattle.mwc_gather.specs.declared.fault.GatherFault.{GatherFault};
 ghost use Rattle.mwc_gather.specs.declared.fault.GatherFault.TheVariants as gather;
 
 use crate::columns::Columns;
@@ -87,8 +86,7 @@ fn find_all<T: Threads + Wait + Sync, G: Gate + Sync>(
 ) -> Result<Findings, RunFault>
     ensures finds { (lines : ReportLines) → lines.list ≡ (lines_of_plan plan options.now).list
         → FindsAll columns (limit_with columns plan options.now.most (is_too_many result)) lines game.now result }
-    ensures threads { plan ≡ plans.Count → IfErr result (λ fault. (why : GatherFault) →
-        fault.cause ≡ cause.Gather why → why ≡ gather.Start) }
+    ensures threads { plan ≡ plans.Count → GatherFaultIs gather.Start result }
 {
     match columns {
         Columns::Minimal => {
@@ -151,8 +149,7 @@ pub fn run_by<T: Threads + Wait + Sync, R: Source, W: Sink, G: Gate + Sync>(
         (Reads R.left R.is_read reader.old reader.new)
         (λ text. Writes W.held W.is_write W.is_flush text writer.old writer.new)
         (writer.new ≡ writer.old) result }
-    ensures threads { plan ≡ plans.Count → IfErr result (λ fault. (why : GatherFault) →
-        fault.cause ≡ cause.Gather why → why ≡ gather.Start) }
+    ensures threads { plan ≡ plans.Count → GatherFaultIs gather.Start result }
     ensures states { IfErr result (λ fault. fault.cause ≡ cause.States → ShowsSwings columns) }
 {
     let game = read_game(alloc, reader)?;
@@ -217,8 +214,7 @@ pub fn tally<T: Threads + Wait + Sync, R: Source, W: Sink, G: Gate + Sync>(
         (Reads R.left R.is_read reader.old reader.new)
         (λ text. Writes W.held W.is_write W.is_flush text writer.old writer.new)
         (writer.new ≡ writer.old) result }
-    ensures threads { IfErr result (λ fault. (why : GatherFault) →
-        fault.cause ≡ cause.Gather why → why ≡ gather.Start) }
+    ensures threads { GatherFaultIs gather.Start result }
     ensures states { IfErr result (λ fault. fault.cause ≢ cause.States) }
 {
     let columns = Columns::Minimal;

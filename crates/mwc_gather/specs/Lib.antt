@@ -7,4 +7,5 @@ pub mod Pieces
 pub mod Parts
 pub mod Sending
 pub mod Gathering
+pub mod Faults
 pub mod Inner

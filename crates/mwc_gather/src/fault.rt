@@ -1,9 +1,11 @@
 //! Why nothing was gathered.
-ghost use Rattle.std.specs.Prelude.{◌≡◌};
+ghost use Rattle.std.specs.Prelude.{◌≡◌, Some};
+ghost use Rattle.mwc_gather.specs.Faults.{text_of};
 ghost use Rattle.mwc_gather.specs.Inner.Fault.{first_of};
 ghost use Rattle.mwc_gather.specs.declared.fault.GatherFault.TheVariants.{Memory};
 
 use std::alloc::AllocError;
+use std::fmt;
 use thiserror::Error;
 
 /// Why nothing was gathered.
@@ -12,17 +14,27 @@ use thiserror::Error;
 #[derive(Clone, Copy, Debug, Eq, Error, PartialEq)]
 pub enum GatherFault {
     /// The game has more minimal winning coalitions than were asked for.
-    #[error("too many minimal winning coalitions")]
     TooMany,
     /// A thread could not be started, whatever the cause.
-    #[error("a worker could not be started")]
     Start,
     /// An allocation was refused.
-    #[error("out of memory")]
     Memory,
     /// A ring could not be finished.
-    #[error("a ring could not be finished")]
     Ring,
+}
+
+/// The text of each fault. (By hand: docs/DECISIONS.md says why.)
+impl fmt::Display for GatherFault {
+    ghost output = { λ fault. Some (text_of fault) };
+
+    fn fmt<W: fmt::Write>(&self, f: &mut fmt::Formatter<W>) -> fmt::Result {
+        match *self {
+            GatherFault::TooMany => f.write_str("too many minimal winning coalitions"),
+            GatherFault::Start => f.write_str("a worker could not be started"),
+            GatherFault::Memory => f.write_str("out of memory"),
+            GatherFault::Ring => f.write_str("a ring could not be finished"),
+        }
+    }
 }
 
 impl From<AllocError> for GatherFault {

@@ -19,8 +19,8 @@ pub record Given {R : Type 0} (is_read : R → List ℕ → Result ℕ Error →
   pub room : 0 < length filled
   pub bytes : new ≡ old ++ take n filled
 
--- A read failed, or there was no memory for what it gave.
+-- a read failed, or there was no memory for what it gave
 abbrev pub IsStop : {R : Type 0} → (R → List ℕ → Result ℕ Error → R → List ℕ → Type 0) → R → R → GameFault → Type 0
 IsStop is_read r s Read = (buffer : List ℕ) × (filled : List ℕ) × (e : Error) × is_read r buffer (Err e) s filled
-IsStop is_read r s Memory = Unit {0}
+IsStop is_read r s Memory = (buffer : List ℕ) × (filled : List ℕ) × (n : ℕ) × is_read r buffer (Ok n) s filled
 IsStop is_read r s fault = ⊥

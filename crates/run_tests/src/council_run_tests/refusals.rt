@@ -3,26 +3,7 @@
 use super::*;
 use crate::helpers::print_line;
 use mwc_gather::NoGate;
-use std::io::{self, Print, Write};
-
-/// A writer that takes all, and counts the calls and the bytes.
-#[derive(Drop)]
-struct Counter {
-    calls: u64,
-    bytes: u64,
-}
-
-impl Write for Counter {
-    fn write(&mut self, bytes: &[u8]) -> io::Result<usize> {
-        self.calls = self.calls.saturating_add(1);
-        self.bytes = self.bytes.saturating_add(bytes.len() as u64);
-        Ok(bytes.len())
-    }
-
-    fn flush(&mut self) -> io::Result<()> {
-        Ok(())
-    }
-}
+use std::io::Print;
 
 /// Where a run that was refused something found no room.
 fn place_of(cause: Cause) -> &'static str {
@@ -36,11 +17,11 @@ fn place_of(cause: Cause) -> &'static str {
 }
 
 /// Prints an answer: the report was written, or there was a refusal before the first byte.
-fn print_answer<R: Abort + Print>(rt: &R, answer: Result<u64, RunFault>, writer: &Counter) {
+fn print_answer<R: Abort + Print>(rt: &R, answer: Result<u64, RunFault>, writer: &Stream) {
     match answer {
         Ok(count) => {
             print_line(rt, "worked");
-            assert_same(rt, count, writer.bytes, "bytes");
+            assert_same(rt, count, writer.written, "bytes");
         }
         Err(fault) => {
             print_line(rt, place_of(fault.cause));
@@ -53,7 +34,7 @@ fn print_answer<R: Abort + Print>(rt: &R, answer: Result<u64, RunFault>, writer:
 fn runs<R: Abort + Print + Threads + Wait + Sync>(rt: &R, alloc: Global, file: &[u8]) {
     let mut reader = file;
     let options = options(3, 2);
-    let mut writer = Counter { calls: 0, bytes: 0 };
+    let mut writer = Stream::failing(b"", 0);
     print_line(rt, "call");
     let answer = run(rt, alloc, &mut reader, &options, &NoGate, &mut writer);
     print_answer(rt, answer, &writer);
@@ -92,7 +73,7 @@ fn tallies_by_states(rt: HostRuntime) {
     let alloc = rt.alloc();
     let mut reader = TWO_RULES;
     let options = options(3, 2);
-    let mut writer = Counter { calls: 0, bytes: 0 };
+    let mut writer = Stream::failing(b"", 0);
     print_line(&rt, "call");
     let answer = tally(&rt, alloc, &mut reader, &options, &NoGate, &mut writer);
     print_answer(&rt, answer, &writer);

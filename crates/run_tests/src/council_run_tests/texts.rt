@@ -1,4 +1,4 @@
-//! What those faults say that no case of `tests/cases` can bring about.
+//! What those faults say whose text no contract gives, and no case of `tests/cases` brings about.
 use super::*;
 use council_game::Memory;
 use council_report::ReportFault;
@@ -16,17 +16,6 @@ fn says<T: Display + Drop>(rt: &impl Abort, alloc: Global, fault: T, wanted: &st
 fn texts(rt: HostRuntime) {
     let alloc = rt.alloc();
     let (memory, start) = ("out of memory", "a worker could not be started");
-    let ring = "a ring could not be finished";
-    for (cause, wanted) in [
-        (Cause::Game(GameFault::Memory), memory),
-        (Cause::Gather(GatherFault::Start), start),
-        (Cause::Gather(GatherFault::Memory), memory),
-        (Cause::Gather(GatherFault::Ring), ring),
-        (Cause::Write, "output failed"),
-        (Cause::Memory, memory),
-    ] {
-        says(&rt, alloc, cause, wanted);
-    }
     says(&rt, alloc, Memory, memory);
     says(&rt, alloc, Refused::Closed(1u8), "the pipe is closed");
     says(&rt, alloc, Refused::Full(1u8), "the pipe is full");
@@ -40,5 +29,5 @@ fn texts(rt: HostRuntime) {
         ReportFault::Write { written: 7 },
         "output failed",
     );
-    says(&rt, alloc, Unfinished, ring);
+    says(&rt, alloc, Unfinished, "a ring could not be finished");
 }

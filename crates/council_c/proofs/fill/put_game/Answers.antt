@@ -11,20 +11,20 @@ use Rattle.council_c.proofs.fill.put_game.Goals as goal
 
 pub put_report-requires : goal.put_report-requires
 put_report-requires c =
-    (c.in_ok-found.ensures c.lines.result (ap (λ (l : ReportLines). l.list) c.lines.ensures ∙ c.requires)).2
+    (c.in_ok-found.ensures.finds c.lines.result (ap (λ (l : ReportLines). l.list) c.lines.ensures ∙ c.requires)).2
 
 pub returns-in_err-found-clause-err : goal.returns-in_err-found-clause-err
 returns-in_err-found-clause-err c =
     let fault = c.in_err-found.field-0.0 in
     let limit = limit_with c.args.columns c.args.plan c.args.options.now.most (is_cause_many fault.cause) in
     let failed = err_from_is_err_and c.from_residual-in_err-found.result c.from_residual-in_err-found.ensures.1 in
-    let finds = c.in_err-found.ensures (lines_of c.args.options.now) c.requires in
-    rw (failed.1, failed.2) (stops-on c.args.columns (lines_of c.args.options.now) limit c.args.bytes.now
-    c.in_ok-game.game fault.cause c.in_ok-game.ensures.game finds.0)
+    let finds = c.in_err-found.ensures.finds (lines_of c.args.options.now) c.requires in
+    rw (failed.1, failed.2) (stops-on c.args.columns limit c.args.bytes.now c.in_ok-game.game fault.cause c.in_ok-game.ensures.game finds.0
+    c.in_err-found.ensures.many)
 
 pub returns-clause-ok : goal.returns-clause-ok
 returns-clause-ok c =
-    let finds = c.in_ok-found.ensures (lines_of c.args.options.now) c.requires in
+    let finds = c.in_ok-found.ensures.finds (lines_of c.args.options.now) c.requires in
     let game = c.in_ok-game.game in
     let long = rw c.lines.ensures at c.in_ok-put_report.ensures.length in
     let shown = rw c.lines.ensures at c.in_ok-put_report.ensures.text in (

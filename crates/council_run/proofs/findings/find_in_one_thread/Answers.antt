@@ -5,26 +5,26 @@ use Rattle.council_run.specs.Plans.{is_cause_many, limit_of}
 use Rattle.council_run.specs.declared.columns.Columns.TheVariants as columns
 use Rattle.council_run.proofs.findings.find_in_one_thread.Goals as goal
 
-pub returns-in_err-found-in-Minimal : goal.returns-in_err-found-in-Minimal
-returns-in_err-found-in-Minimal c = rw c.in-Minimal.is (λ lines same.
+pub returns-in_err-found-in-Minimal-clause-finds : goal.returns-in_err-found-in-Minimal-clause-finds
+returns-in_err-found-in-Minimal-clause-finds c = rw c.in-Minimal.is (λ lines same.
     let fault = c.in_err-found-in-Minimal.field-0.0 in
     let limit = limit_of c.args.plan c.args.options.now.most (is_cause_many fault.cause) in
     let failed = err_from_is_err_and c.from_residual.result c.from_residual.ensures.1 in
-    let finds = c.in_err-found-in-Minimal.ensures lines same in
+    let finds = c.in_err-found-in-Minimal.ensures.finds lines same in
     rw (failed.1, failed.2) (no-finding columns.Minimal limit c.args.game.now fault.cause finds.0, finds.1))
 
-pub returns-in_err-found-in-Both : goal.returns-in_err-found-in-Both
-returns-in_err-found-in-Both c = rw c.in-Both.is (λ lines same.
+pub returns-in_err-found-in-Both-clause-finds : goal.returns-in_err-found-in-Both-clause-finds
+returns-in_err-found-in-Both-clause-finds c = rw c.in-Both.is (λ lines same.
     let fault = c.in_err-found-in-Both.field-0.0 in
     let limit = limit_of c.args.plan c.args.options.now.most (is_cause_many fault.cause) in
     let failed = err_from_is_err_and c.from_residual-in_err-found-in-Both.result c.from_residual-in_err-found-in-Both.ensures.1 in
-    let finds = c.in_err-found-in-Both.ensures lines same in
+    let finds = c.in_err-found-in-Both.ensures.finds lines same in
     rw (failed.1, failed.2) (no-finding columns.Both limit c.args.game.now fault.cause finds.0, finds.1))
 
-pub returns-in_ok-found-in-Minimal : goal.returns-in_ok-found-in-Minimal
-returns-in_ok-found-in-Minimal c = rw c.in-Minimal.is (λ lines same.
-    let finds = c.in_ok-found-in-Minimal.ensures lines same in (finds.0, refl, finds.1))
+pub returns-in_ok-found-in-Minimal-clause-finds : goal.returns-in_ok-found-in-Minimal-clause-finds
+returns-in_ok-found-in-Minimal-clause-finds c = rw c.in-Minimal.is (λ lines same.
+    let finds = c.in_ok-found-in-Minimal.ensures.finds lines same in (finds.0, refl, finds.1))
 
-pub returns-in_ok-found-in-Both : goal.returns-in_ok-found-in-Both
-returns-in_ok-found-in-Both c = rw c.in-Both.is (λ lines same.
-    let finds = c.in_ok-found-in-Both.ensures lines same in (finds.0, refl, (finds.1, c.in_ok-swings-in-Both.ensures.counts)))
+pub returns-in_ok-found-in-Both-clause-finds : goal.returns-in_ok-found-in-Both-clause-finds
+returns-in_ok-found-in-Both-clause-finds c = rw c.in-Both.is (λ lines same.
+    let finds = c.in_ok-found-in-Both.ensures.finds lines same in (finds.0, refl, (finds.1, c.in_ok-swings-in-Both.ensures.counts)))

@@ -6,8 +6,7 @@ use Rattle.council_report.specs.Outcome.{Writes}
 use Rattle.council_run.specs.Columns.{limit_with, report_of}
 use Rattle.council_run.specs.Findings.{IsNoFinding, columns_of}
 use Rattle.council_run.specs.declared.{columns.Columns.Columns, fault.Cause.Cause}
-use Rattle.council_run.proofs.Outcomes.{is-not-many, stops-game, stops-report}
-use Rattle.council_run.proofs.Shared.Finding.{stops-found}
+use Rattle.council_run.proofs.Outcomes.{is-not-many, stops-found, stops-report}
 use Rattle.council_run.specs.Plans.{is_cause_many, lines_of_plan}
 use Rattle.council_run.specs.Run.{IsOutcome, Stops}
 use Rattle.council_run.proofs.runs.run_by.Goals as goal
@@ -17,13 +16,8 @@ write-requires g c = (c.in_ok-found.ensures.finds c.lines_of.result (ap (λ (l :
 
 pub returns-in_err-game-clause-outcome : goal.returns-in_err-game-clause-outcome
 returns-in_err-game-clause-outcome g c =
-    let text = report_of c.args.columns (lines_of_plan c.args.plan c.args.options.now) in
-    let limit : Option ℕ = limit_with c.args.columns c.args.plan c.args.options.now.most false in
-    let Read = Reads g.R.Source.left g.R.Source.is_read c.args.reader.now c.read_game.new.reader in
-    let Write = λ (text : List ℕ). Writes g.W.Sink.held g.W.Sink.is_write g.W.Sink.is_flush text c.args.writer.now c.args.writer.now in
     let failed = err_from_is_err_and c.from_residual.result c.from_residual.ensures.1 in
-    rw (failed.1, failed.2) (stops-game text limit Read Write (c.args.writer.now ≡ c.args.writer.now)
-    c.in_err-game.field-0.0 refl c.in_err-game.ensures)
+    rw (failed.1, failed.2) (refl, refl, c.in_err-game.ensures)
 
 pub returns-in_err-found-clause-outcome : goal.returns-in_err-found-clause-outcome
 returns-in_err-found-clause-outcome g c =

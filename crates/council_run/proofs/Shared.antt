@@ -1,2 +1,0 @@
--- What other crates may cite.
-pub mod Finding
