@@ -33,13 +33,11 @@ equal() {
     } >"$temp/wanted"
     printed "--tally of 40 equal members, quota $1" "$temp/wanted"
 }
-# counted by states these take milliseconds; one by one some would take minutes
-limit=$((seconds / 6))
+# (one by one, some would take hours)
 equal 7 18643560 3262623
 equal 8 76904685 15380937
 equal 20 137846528820 68923264410
 equal 39 40 39
-limit=$seconds
 
 # ---- games of several rules: the same bytes as a run
 # write_rules QUOTAS WEIGHTS..: a game of these rules, the numbers of each with commas between them
@@ -121,9 +119,7 @@ for ((member = 0; member < 40; member++)); do
         votes+=("$((x % 4 + 1)), $((1000 + x % 50))")
     fi
 done
-limit=$((seconds / 6))
 same_as_run "34 equals and six others" "$((total * 6 / 100)), 5100" "${votes[@]}"
-limit=$seconds
 
 # a house by weights and by how many they are, beside a senate; and one by two rules of weights,
 # beside a senate and a president
@@ -211,17 +207,16 @@ assert status == 0, status
 with open(sys.argv[3], "rb") as out:
     report = out.read()
 assert report.startswith(b"members\t40\n") and b"minimal\t76904685\n" in report, report[:80]
-progress, wiped, remark = run.told.partition(b"\r\x1b[K")
-numbers = [int(it) for it in re.findall(rb"\rcouncil: ([0-9]+) of 40 members decided", run.told)]
+numbers = [int(it) for it in re.findall(rb"council: ([0-9]+) of 40 members decided", run.told)]
 assert numbers and numbers == list(range(numbers[0], 41)), numbers
-assert run.told.endswith(b"\r\x1b[Kcouncil: each quota is at most half of its total, so two coalitions without a common member could win\r\n"), run.told[-200:]
+assert run.told.endswith(b"\x1b[A\r\x1b[Kcouncil: each quota is at most half of its total, so two coalitions without a common member could win\r\n"), run.told[-200:]
 END
     then ok "a long tally on a terminal"; else failed "a long tally on a terminal" "$(tail -n 1 "$temp/told")"; fi
     # a first slice of 225,792,840 coalitions: they are shown before it is done
     if timeout "$seconds" python3 - "$program" "$temp/any-20.toml" "$clock" >"$temp/told" 2>&1 <<'END'
 import re, sys
 from terminal import Run
-line = re.compile(rb"\rcouncil: ([0-9,]+) coalitions found, 0 of 256 slices done")
+line = re.compile(rb"council: ([0-9,]+) coalitions found, 0 of 256 slices done")
 run = Run([sys.argv[1], "--tally", "--workers", "1", sys.argv[2]], clock=sys.argv[3])
 run.read_until(lambda told: len(set(line.findall(told))) >= 2)
 run.kill()
@@ -233,42 +228,38 @@ END
     compile_preloaded few_threads
     THREADS=1 LD_PRELOAD=$temp/few_threads.so run --tally --workers 2 --bits 10 "$temp/any-20.toml"
     refused "a long tally of which one worker starts" 5 "a worker could not be started"
-    # one of two workers runs out of memory, and the other one takes no further slice: the first
-    # takes seconds, and all of them minutes
+    # one of two workers runs out of memory in its first slice, and the other one takes no further
+    # slice: all of them would take minutes
     compile_preloaded refuse
-    if timeout "$((5 * seconds))" python3 - "$program" "$temp" "$seconds" >"$temp/told" 2>&1 <<'END'
-import os, select, subprocess, sys, time
-program, folder, seconds = sys.argv[1:]
+    if timeout "$((5 * seconds))" python3 - "$program" "$temp" "$clock" >"$temp/told" 2>&1 <<'END'
+import os, re, subprocess, sys
+from terminal import Run
+program, folder, clock = sys.argv[1:]
 refuse, few = f"{folder}/refuse.so", f"{folder}/few_threads.so"
-def start(loaded, at):
-    environment = {**os.environ, "LD_PRELOAD": loaded, "REFUSE_AT": str(at), "THREADS": "0"}
-    words = [program, "--tally", "--workers", "2", "--bits", "10", f"{folder}/any-11.toml"]
-    return subprocess.Popen(words, env=environment, stderr=subprocess.PIPE)
-# how many allocations there are before the first worker starts, and how long that takes
-begun = time.monotonic()
-start(f"{refuse}:{few}", 1 << 20).communicate()
-before_workers = time.monotonic() - begun
+words = [program, "--tally", "--workers", "2", "--bits", "10", f"{folder}/any-11.toml"]
+# how many allocations there are before the first worker starts
 before, after = 0, 1 << 13
 while after - before > 1:
     at = (before + after) // 2
-    if b"refuse: " in start(f"{refuse}:{few}", at).communicate()[1]:
+    environment = {**os.environ, "LD_PRELOAD": f"{refuse}:{few}", "REFUSE_AT": str(at), "THREADS": "0"}
+    if b"refuse: " in subprocess.run(words, env=environment, stderr=subprocess.PIPE).stderr:
         before = at
     else:
         after = at
 ended = 0
 for at in range(before + 1, before + 5):
-    run = start(refuse, at)
-    try:
-        # later allocations are those of workers that have done their first slices
-        if not select.select([run.stderr], [], [], 2 + before_workers)[0]:
-            break
-        _, told = run.communicate(timeout=int(seconds))
-    finally:
+    os.environ["REFUSE_AT"] = str(at)
+    run = Run(words, clock=f"{refuse}:{clock}")
+    run.read_until(lambda told: b"refuse: " in told or b"1 of 1024 slices done" in told)
+    if b"refuse: " not in run.told:
+        # this allocation is one of workers that have done their first slices
         run.kill()
+        break
+    status = run.read_all()
     ended += 1
     # (a thread takes memory as it starts)
-    faults = b"council: out of memory\n", b"council: a worker could not be started\n"
-    assert run.returncode == 5 and told.endswith(faults), (at, run.returncode, told)
+    faults = b"council: out of memory\r\n", b"council: a worker could not be started\r\n"
+    assert status == 5 and run.told.endswith(faults) and not re.search(b" [1-9][0-9]* of 1024 ", run.told), (at, status, run.told[-200:])
 assert ended > 1, ended
 END
     then ok "a long tally that runs out of memory"; else failed "a long tally that runs out of memory" "$(tail -n 1 "$temp/told")"; fi
@@ -284,7 +275,7 @@ with open("/dev/full", "wb") as full:
 status = run.read_all()
 assert status == 5, status
 assert b"members decided" in run.told, run.told[:60]
-assert run.told.endswith(b"\r\x1b[Kcouncil: output failed\r\n"), run.told[-80:]
+assert run.told.endswith(b"\x1b[A\r\x1b[Kcouncil: output failed\r\n"), run.told[-80:]
 END
     then ok "$name"; else failed "$name" "$(tail -n 1 "$temp/told")"; fi
     run --tally --workers 1 "$temp/any-8.toml"
@@ -333,7 +324,6 @@ bracket() {
     printf -v rest ', %s' "${weights[@]}"
     echo "[$1; ${rest#, }]" >"$temp/half.txt"
 }
-limit=$((seconds / 6))
 random 40 10000
 bracket $((total / 2 + 1))
 counted "40 random weights up to 10,000" "$temp/half.txt" 15039403489 7555130199 7579772719
@@ -377,7 +367,6 @@ rows=("${weights[0]}, 1")
 for weight in "${weights[@]:1}"; do rows+=("$weight, 0"); done
 write_rules "$((total / 2 + 1)), 1" "${rows[@]}"
 counted "39 random weights of nine digits, and a vetoer" "$temp/rules.toml" 4183436737 4183436737 309465122
-limit=$seconds
 
 # ---- what memory a tally of one rule takes: a little for weights up to 1,000, and at most 250 MB
 if needs python3 "the memory of tallies of one rule"; then
