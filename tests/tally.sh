@@ -289,18 +289,9 @@ bracket() {
     printf -v rest ', %s' "${weights[@]}"
     echo "[$1; ${rest#, }]" >"$temp/half.txt"
 }
-random 40 10000
-bracket $((total / 2 + 1))
-counted "40 random weights up to 10,000" "$temp/half.txt" 15039403489 7555130199 7579772719
-random 40 100000
-bracket $((total / 2 + 1))
-counted "40 random weights up to 100,000" "$temp/half.txt" 6084939789 3064740073 3084293898
 random 40 1000000000000
 bracket $((total / 2 + 1))
 counted "40 random weights up to 10^12" "$temp/half.txt" 4373613453 2195520996 1959310211
-shares 36
-bracket $((total / 2 + 1))
-counted "36 holders of shares" "$temp/half.txt" 983479665 512653271 477218840
 shares 40
 bracket $((total / 2 + 1))
 counted "40 holders of shares" "$temp/half.txt" 14116527153 7324830562 6871940874

@@ -37,26 +37,6 @@ for ((workers = 2; workers <= 16; workers++)); do
 done
 if [ -z "$why" ] && grep -q "^minimal	393212$" "$temp/chunks.tsv"; then ok "$name"; else failed "$name" "$why"; fi
 
-# slow_game QUOTAS MEMBERS: a game that takes long. The last quota is of the first twelve members,
-# the second one of the others, and the first of all. The last member has little weight, and only
-# under the second rule, so no price shows it. The weights differ a little, so there are more states
-# than are counted before a list.
-slow_game() {
-    local member x=7 weights
-    echo "quotas = [$1]"
-    for ((member = 1; member <= $2; member++)); do
-        x=$(((75 * x + 74) % 65537))
-        if [ "$member" -le 12 ]; then
-            weights="$((1000000 + x % 997)), 0, $((1000000 + x % 991))"
-        elif [ "$member" -lt "$2" ]; then
-            weights="$((1000000 + x % 997)), $((1000000 + x % 991)), 0"
-        else
-            weights="0, 1, 0"
-        fi
-        printf '[[member]]\nname = "%s"\nweights = [%s]\n' "$member" "$weights"
-    done
-}
-
 # ---- on a terminal: how far a run has come, and that a game is read from standard input
 if needs python3 "a long run on a terminal" "a long slice on a terminal" "a barren run on a terminal" "a late fault on a terminal" "a late report on a terminal" "a game from a terminal"; then
     # the clock goes on by a tenth of a second at each look: the program looks at each slice that it
@@ -101,9 +81,16 @@ assert all(here <= there <= here + 2**20 for here, there in zip(numbers, numbers
 END
     then ok "a long slice on a terminal"; else failed "a long slice on a terminal" "$(tail -n 1 "$temp/told")"; fi
     # a game that takes hours: 21 of 39 members must agree, 6 of the first twelve and 15 of the
-    # others, so a coalition with a seventh of the twelve is never minimal. The run is ended once it
-    # was told of four times, before it has found a coalition
-    slow_game '21000000, 15000000, 6000000' 40 >"$temp/barren.toml"
+    # others, so a coalition with a seventh of the twelve is never minimal. The last member has little
+    # weight, and only under the second rule, so no price shows it. Weights differ a little, so there
+    # are more states than are counted before a list. The run is ended when it was told of four times
+    python3 - >"$temp/barren.toml" <<'END'
+print("quotas = [21000000, 15000000, 6000000]")
+for member in range(40):
+    one, other = (10**6 + member**2 * it % 997 for it in (7, 11))
+    weights = [one, 0, other] if member < 12 else [one, other, 0] if member < 39 else [0, 1, 0]
+    print(f'[[member]]\nname = "{member}"\nweights = {weights}')
+END
     if timeout "$seconds" python3 - "$program" "$temp/barren.toml" "$clock" >"$temp/told" 2>&1 <<'END'
 import re, sys
 from terminal import Run, show
