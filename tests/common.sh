@@ -23,8 +23,8 @@ done
 
 # The seconds that one run may take before it is taken for a hang: 60, ten times what the longest
 # takes, or on a slower or busier machine as many more times as one example takes longer there than
-# a tenth of a second. A script of short runs says fewer by `limit`. One script after the other may
-# be told by SECONDS_EACH, which says the seconds.
+# a tenth of a second. One script after the other may be told by SECONDS_EACH, which says the
+# seconds.
 if [ -z "${SECONDS_EACH:-}" ]; then
     begun=$(date +%s%N)
     timeout 600 "$program" --workers 1 "$top/examples/eu-1995.toml" >/dev/null 2>&1 </dev/null
@@ -33,7 +33,6 @@ if [ -z "${SECONDS_EACH:-}" ]; then
     export SECONDS_EACH
 fi
 seconds=$SECONDS_EACH
-limit=$seconds
 
 ok() {
     echo "ok $1"
@@ -61,7 +60,7 @@ needs() {
 # Runs the program on the words, with the standard input of this call, and keeps its status, its
 # standard output and its standard error.
 run() {
-    timeout "$limit" "$program" "$@" >"$temp/out" 2>"$temp/err"
+    timeout "$seconds" "$program" "$@" >"$temp/out" 2>"$temp/err"
     status=$?
 }
 

@@ -264,16 +264,6 @@ random() {
         total=$((total + weight % $2 + 1))
     done
 }
-# shares HOLDERS: of the first 10^9, and of each other as much less as its rank
-shares() {
-    local rank
-    weights=()
-    total=0
-    for ((rank = 1; rank <= $1; rank++)); do
-        weights+=($((1000000000 / rank)))
-        total=$((total + 1000000000 / rank))
-    done
-}
 # counted NAME FILE MINIMAL FIRST LAST: how many there are, and how many have the first member and
 # the last
 counted() {
@@ -292,7 +282,9 @@ bracket() {
 random 40 1000000000000
 bracket $((total / 2 + 1))
 counted "40 random weights up to 10^12" "$temp/half.txt" 4373613453 2195520996 1959310211
-shares 40
+# of the first 10^9, and of each other as much less as its rank
+weights=() total=0
+for rank in {1..40}; do weights+=($((1000000000 / rank))) && total=$((total + 1000000000 / rank)); done
 bracket $((total / 2 + 1))
 counted "40 holders of shares" "$temp/half.txt" 14116527153 7324830562 6871940874
 random 36 100000000

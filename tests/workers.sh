@@ -81,9 +81,10 @@ assert all(here <= there <= here + 2**20 for here, there in zip(numbers, numbers
 END
     then ok "a long slice on a terminal"; else failed "a long slice on a terminal" "$(tail -n 1 "$temp/told")"; fi
     # a game that takes hours: 21 of 39 members must agree, 6 of the first twelve and 15 of the
-    # others, so a coalition with a seventh of the twelve is never minimal. The last member has little
-    # weight, and only under the second rule, so no price shows it. Weights differ a little, so there
-    # are more states than are counted before a list. The run is ended when it was told of four times
+    # others, so a coalition with a seventh of the twelve is never minimal. The last member has
+    # little weight, and only under the second rule, so no price shows it. Weights differ a little,
+    # so there are more states than are counted before a list. The run is ended when it was told of
+    # four times
     python3 - >"$temp/barren.toml" <<'END'
 print("quotas = [21000000, 15000000, 6000000]")
 for member in range(40):
