@@ -236,11 +236,6 @@ mkdir $doc/older; echo old >$doc/OLD; echo old >$doc/older/it
 install c; [ ! -e $doc/OLD ]; [ ! -e $doc/older ]
 install --uninstall c; [ ! -e $doc ]; [ -z "$(find c -type f)" ]
 END
-holds "an install that fails half-way is taken out" <<'END'
-mkdir -p d/share/man; echo other >d/share/man/man1
-fails man1 install d; [ -e d/bin/council ]
-install --uninstall d; has d share share/man share/man/man1
-END
 for size in 0 8; do
     holds "a disk that is full after $size KiB" <<END
 full $size; install e; install --uninstall e; has e
