@@ -236,18 +236,34 @@ mkdir $doc/older; echo old >$doc/OLD; echo old >$doc/older/it
 install c; [ ! -e $doc/OLD ]; [ ! -e $doc/older ]
 install --uninstall c; [ ! -e $doc ]; [ -z "$(find c -type f)" ]
 END
-holds "an install that fails half-way is taken out" <<'END'
-mkdir -p d/share/man; echo other >d/share/man/man1
-fails man1 install d; [ -e d/bin/council ]
-install --uninstall d; has d share share/man share/man/man1
-END
 for size in 0 8; do
     holds "a disk that is full after $size KiB" <<END
 full $size; install e; install --uninstall e; has e
-full $size; [ ! -e e/share/doc/council/FILES ] || install --uninstall e; [ -z "\$(find e -type f)" ]
-rm -r e; install e; full $size; install e; install --uninstall e; has e
+full $size; install --uninstall e; has e
+install e; full $size; install --uninstall e; has e
 END
 done
+holds "an install that is killed is taken out" <<'END'
+mkdir tools
+for step in mkdir cp chmod mv; do
+    # the command, and then the end of whoever called it, except for the folder PREFIX itself
+    printf '#!/bin/sh\n/bin/%s "$@"; [ "$1" = -p ] || kill -9 $PPID\n' $step >tools/$step
+    chmod 755 tools/$step
+    if PATH=$HOME/tools:$PATH install m; then false; fi
+    rm tools/$step
+    [ -n "$(find m -mindepth 1)" ]; install --uninstall m; has m
+done
+END
+holds "several installs at once" <<'END'
+for _ in 1 2 3; do install n & done
+for job in $(jobs -p); do wait $job; done
+[ -x n/bin/council ]; install --uninstall n; has n
+END
+holds "a standard output that is closed or full" <<'END'
+install o >&-; install o | true; [ "${PIPESTATUS[0]}" -eq 0 ]
+[ ! -e /dev/full ] || install o >/dev/full
+[ -x o/bin/council ]; install --uninstall o >&-; has o
+END
 holds "lines of FILES that are not its own are ignored" <<'END'
 install f; mkdir g; echo >g/it; echo >f/bin/other
 files=f/share/doc/council/FILES
@@ -266,9 +282,8 @@ holds "a DESTDIR that does not begin with /" <<'END'
 DESTDIR=i install /usr; [ -x i/usr/bin/council ]; [ -s i/usr/share/doc/council/docs/GUIDE.md ]
 DESTDIR=i/ install --uninstall /usr/; has i usr
 END
-holds "no PREFIX and no HOME" <<'END'
-export -n HOME
-fails 'name a PREFIX' install ''; fails 'name a PREFIX' install
+holds "an empty PREFIX, and no HOME" <<'END'
+fails 'name a PREFIX' install ''; export -n HOME; fails 'name a PREFIX' install
 fails 'name a PREFIX' install --uninstall
 END
 holds "a PREFIX with / at the end" <<'END'

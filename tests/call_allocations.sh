@@ -21,15 +21,16 @@ tests_of() {
     done
 }
 
-# are_built CRATE: whether the built tests of the crate are there, and no source of them or of the
-# libraries of their line in crates.txt is newer.
+# are_built CRATE: whether no source of the built tests of the crate, or of the libraries of their
+# line in crates.txt, is newer. If they are not there, which `tools/build.py` leaves so, the script
+# ends.
 are_built() {
     local own tests name newer
     own=$(tests_of "$1")
     tests=$crates/$own/out/${own}_tests
     if [ ! -x "$tests" ]; then
-        failed "the tests of $1" "there is no $tests: \`rt test\` in crates/$own makes it"
-        return 1
+        skipped "$(basename "$0")" "there is no $tests: \`rt test\` in crates/$own makes it"
+        exit 0
     fi
     for name in "$own" $(sed -n "s/^$own\( [^:]*\)\{0,1\}: *//p" "$top/crates.txt"); do
         [ -d "$crates/$name/src" ] || continue

@@ -23,8 +23,8 @@ done
 
 # The seconds that one run may take before it is taken for a hang: 60, ten times what the longest
 # takes, or on a slower or busier machine as many more times as one example takes longer there than
-# a tenth of a second. A script of short runs says fewer by `limit`. One script after the other may
-# be told by SECONDS_EACH, which says the seconds.
+# a tenth of a second. One script after the other may be told by SECONDS_EACH, which says the
+# seconds.
 if [ -z "${SECONDS_EACH:-}" ]; then
     begun=$(date +%s%N)
     timeout 600 "$program" --workers 1 "$top/examples/eu-1995.toml" >/dev/null 2>&1 </dev/null
@@ -33,7 +33,6 @@ if [ -z "${SECONDS_EACH:-}" ]; then
     export SECONDS_EACH
 fi
 seconds=$SECONDS_EACH
-limit=$seconds
 
 ok() {
     echo "ok $1"
@@ -61,7 +60,7 @@ needs() {
 # Runs the program on the words, with the standard input of this call, and keeps its status, its
 # standard output and its standard error.
 run() {
-    timeout "$limit" "$program" "$@" >"$temp/out" 2>"$temp/err"
+    timeout "$seconds" "$program" "$@" >"$temp/out" 2>"$temp/err"
     status=$?
 }
 
@@ -227,16 +226,6 @@ each_hard_game() {
     done
     write_rules "$((total * 6 / 100)), 5100" "${votes[@]}"
     "$@" "34 equals and six others"
-
-    # a house by weights and by how many they are, beside a senate; and one by two rules of weights,
-    # beside a senate and a president
-    mapfile -t votes < <(for it in 9 7 6 6 5 4 3 2 1; do echo "$it, 1, 0"; done && for it in 5 4 3 3 2 1; do echo "0, 0, $it"; done)
-    write_rules '22, 5, 10' "${votes[@]}"
-    "$@" "a house with heads and a senate"
-    mapfile -t votes < <(for it in '9, 1' '7, 2' '6, 4' '6, 6' '5, 7' '4, 3' '2, 8' '1, 9'; do echo "$it, 0, 0"; done &&
-        for it in 5 4 3 3 2 1; do echo "0, 0, $it, 0"; done && echo '0, 0, 0, 1')
-    write_rules '21, 20, 10, 1' "${votes[@]}"
-    "$@" "a house by two rules, a senate and a president"
 }
 
 # compile_preloaded NAME..: compiles preloaded/NAME.c to $temp/NAME.so, which is loaded before the C

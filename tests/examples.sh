@@ -3,8 +3,7 @@
 # game of docs/statutes gives the report of tests/oracle.py, and a document names it.
 . "$(dirname "$0")/common.sh"
 
-# these take less than a second; counted one by one some would take minutes
-limit=$((seconds / 6))
+# (counted one by one, some would take minutes)
 for game in "$top"/examples/*.toml "$top"/examples/*.txt; do
     report=${game%.toml}.tsv
     name=$(basename "$game")
@@ -13,7 +12,6 @@ for game in "$top"/examples/*.toml "$top"/examples/*.txt; do
     run --tally <"$game"
     printed "example $name on standard input, --tally" "$report"
 done
-limit=$seconds
 
 for game in "$top"/docs/statutes/*; do
     name=docs/statutes/$(basename "$game")

@@ -64,7 +64,7 @@ call() {
     Python) set -- python3 "$here/report.py" "$temp/libcouncil.so" "$@" ;;
     Rust) set -- "$temp/report_rs" "$@" ;;
     esac
-    timeout "$limit" "$@" >"$temp/its" 2>"$temp/its.err"
+    timeout "$seconds" "$@" >"$temp/its" 2>"$temp/its.err"
     its=$?
 }
 
@@ -113,7 +113,7 @@ equal_members 24 12 >"$temp/many.txt"
 same "more than a million" "$temp/many.txt" --most 1000000
 same "more than a million, with the most above" "$temp/many.txt" --most 4000000
 
-# ---- counted by kinds, as by the program: these members of two kinds have 75,370,861,360
+# ---- counted by states, as by the program: these members of two kinds have 75,370,861,360
 # coalitions, for which a walk would take an hour
 {
     echo 'quotas = [41, 41, 31]'
@@ -215,7 +215,7 @@ done
 name="from C: a buffer of 1 GB where there is no other"
 if [ -x "$temp/report_c" ] && (ulimit -v 1500000) 2>/dev/null; then
     run --list <"$top/examples/board.toml"
-    (ulimit -v 1500000 && exec timeout "$limit" "$temp/report_c" --list --room 1000000000) >"$temp/its" 2>"$temp/its.err" <"$top/examples/board.toml"
+    (ulimit -v 1500000 && exec timeout "$seconds" "$temp/report_c" --list --room 1000000000) >"$temp/its" 2>"$temp/its.err" <"$top/examples/board.toml"
     its=$?
     fits "$name"
 fi
@@ -243,7 +243,7 @@ fi
 name="from threads of C"
 if command -v cc >/dev/null; then
     if cc -std=c99 -D_POSIX_C_SOURCE=200809L -O2 -Wall -Wextra -Werror -pedantic -pthread -I"$top/include" -o "$temp/threads" "$here/threads.c" "$library" 2>"$temp/cc"; then
-        timeout "$limit" "$temp/threads" "$top"/examples/{board,eec-1958,ec-1973,ec-1981,ec-1986,holler-1982,un-security-council,ca-amendment}.toml "$temp/bracket.txt" "$temp/many.txt" >"$temp/its" 2>&1
+        timeout "$seconds" "$temp/threads" "$top"/examples/{board,eec-1958,ec-1973,ec-1981,ec-1986,holler-1982,un-security-council,ca-amendment}.toml "$temp/bracket.txt" "$temp/many.txt" >"$temp/its" 2>&1
         its=$?
         if [ "$its" -eq 0 ]; then ok "$name"; else failed "$name" "status $its: $(head -n 1 "$temp/its")"; fi
     else
@@ -266,7 +266,7 @@ if [ -x "$temp/report_c" ]; then
         for ((number = 1; number <= 20000; number += number < 300 ? 1 : 17)); do
             : >"$temp/said"
             # shellcheck disable=SC2086
-            REFUSE_AT=$number REFUSE_TO=9 LD_PRELOAD=$temp/refuse.so timeout "$limit" "$temp/report_c" $words \
+            REFUSE_AT=$number REFUSE_TO=9 LD_PRELOAD=$temp/refuse.so timeout "$seconds" "$temp/report_c" $words \
                 >"$temp/its" 2>"$temp/its.err" 9>"$temp/said" <"$game"
             its=$?
             [ -s "$temp/said" ] || break

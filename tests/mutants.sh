@@ -15,6 +15,7 @@
 # It needs python3 and the toolchain's rt, and the libraries below each crate as `rt check` leaves
 # them.
 set -u
+export LC_ALL=C
 top=$(cd "$(dirname "${BASH_SOURCE[0]}")/.." && pwd)
 fit=no
 some=0

@@ -6,6 +6,7 @@
 """
 import os
 import pty
+import re
 import subprocess
 import sys
 
@@ -44,7 +45,31 @@ class Run:
 
     def kill(self):
         self.process.kill()
-        self.process.wait()
+        self.read_all()
+
+
+def show(told, width):
+    """The lines that a terminal of this width shows after these bytes, the last one with the cursor."""
+    lines, at, column, wraps = [b""], 0, 0, True
+    for it in re.findall(rb"\x1b\[\??\d*[A-Za-z]|[^\x1b]", told):
+        if it == b"\x1b[A":
+            at -= 1
+        elif it == b"\x1b[K":
+            lines[at] = lines[at][:column]
+        elif it in (b"\x1b[?7l", b"\x1b[?7h"):
+            wraps = it.endswith(b"h")
+        elif it == b"\r":
+            column = 0
+        elif it == b"\n":
+            at += 1
+        else:
+            if column == width:
+                at, column = (at + 1, 0) if wraps else (at, column - 1)
+            lines += [b""] * (at + 1 - len(lines))
+            lines[at] = lines[at][:column] + it + lines[at][column + 1 :]
+            column += 1
+        lines += [b""] * (at + 1 - len(lines))
+    return lines[: at + 1]
 
 
 def type_in(words, typed):

@@ -129,25 +129,17 @@ fn words_that_were_put_in_wake_the_other_side(rt: HostRuntime) {
 }
 
 /// Waits until the thread sleeps, or is about to.
-fn waits_until_asleep(waker: &Waker) -> bool {
-    for _ in 0..1_000_000_000u32 {
-        if is_asleep(waker) {
-            return true;
-        }
+fn wait_until_asleep(waker: &Waker) {
+    while !is_asleep(waker) {
         hint::spin_loop();
     }
-    false
 }
 
 /// Waits until the thread has slept some twenty times.
-pub(crate) fn sleeps_often(waker: &Waker) -> bool {
-    for _ in 0..200_000_000u32 {
-        if waker.looks.load(Ordering::Relaxed) <= 64 {
-            return true;
-        }
+pub(crate) fn wait_for_sleeps(waker: &Waker) {
+    while waker.looks.load(Ordering::Relaxed) > 64 {
         hint::spin_loop();
     }
-    false
 }
 
 /// Notes whether the gatherer was awake when a worker began its slice.
@@ -180,7 +172,7 @@ fn a_worker_sleeps_and_wakes_the_gatherer(rt: HostRuntime) {
     let rt = &rt;
     thread::scope(thread::scope_env(), rt, |scope| {
         let mut handle = WorkerHandle::open(scope, rt, alloc, &job, 3, &wakers).expect(rt, "a worker");
-        assert!(rt; waits_until_asleep(&wakers.workers[3]));
+        wait_until_asleep(&wakers.workers[3]);
         looks_before_sleep(rt, &mut Backoff::new(), &wakers.gatherer);
         handle.assign(rt, 0, wakers.pair(3));
         handle.dismiss(rt, wakers.pair(3));
@@ -198,13 +190,12 @@ use crate::channels::new_row;
 use crate::guarded::Guarded;
 use crate::job::Job;
 use crate::marks::Marks;
-use crate::waiting::tests::{equal_game, is_asleep, looks_before_sleep, sleeps_often};
+use crate::waiting::tests::{equal_game, is_asleep, looks_before_sleep, wait_for_sleeps};
 use crate::waiting::{Backoff, Waker, Wakers};
 use crate::worker_handle::WorkerHandle;
 use council_base::{Gate, NoGate};
 use std::process::Abort;
-use std::sync::atomic::{AtomicBool, Ordering};
-use std::{hint, thread};
+use std::thread;
 
 #[test]
 fn a_worker_whose_ring_is_full_sleeps_until_words_are_taken(rt: HostRuntime) {
@@ -231,7 +222,7 @@ fn a_worker_whose_ring_is_full_sleeps_until_words_are_taken(rt: HostRuntime) {
         let mut row = new_row(alloc).expect(rt, "a row");
         let row = row.as_mut_slice();
         assert!(rt; !scheduler.serve(rt, &mut handles[0], 3, row, others.pair(5)));
-        assert!(rt; sleeps_often(&wakers.workers[3]));
+        wait_for_sleeps(&wakers.workers[3]);
         looks_before_sleep(rt, &mut Backoff::new(), worker);
         assert!(rt; scheduler.serve(rt, &mut handles[0], 3, row, others.pair(5)));
         assert!(rt; !handles[0].idle && !is_asleep(worker));
@@ -245,12 +236,11 @@ fn a_worker_whose_ring_is_full_sleeps_until_words_are_taken(rt: HostRuntime) {
 #[derive(Drop)]
 struct AfterSleep<'a> {
     gatherer: &'a Waker,
-    slept: AtomicBool,
 }
 
 impl Gate for AfterSleep<'_> {
     fn pass(&self, _worker: u8, _slice: u16) {
-        self.slept.store(sleeps_often(self.gatherer), Ordering::SeqCst);
+        wait_for_sleeps(self.gatherer);
     }
 }
 
@@ -261,7 +251,6 @@ fn a_gatherer_sleeps_while_no_word_arrives(rt: HostRuntime) {
     let wakers = Wakers::new();
     let gate = AfterSleep {
         gatherer: &wakers.gatherer,
-        slept: AtomicBool::new(false),
     };
     let job = Job {
         guarded: Guarded::new(&game, &gate),
@@ -281,7 +270,6 @@ fn a_gatherer_sleeps_while_no_word_arrives(rt: HostRuntime) {
         let [handle] = handles;
         assert!(rt; handle.finish(rt).is_ok());
     });
-    assert!(rt; gate.slept.load(Ordering::SeqCst));
 }
 END
 printf '\n#[cfg(test)]\npub(crate) mod tests;\n' >>"$own/src/waiting.rt"

@@ -37,28 +37,8 @@ for ((workers = 2; workers <= 16; workers++)); do
 done
 if [ -z "$why" ] && grep -q "^minimal	393212$" "$temp/chunks.tsv"; then ok "$name"; else failed "$name" "$why"; fi
 
-# slow_game QUOTAS MEMBERS: a game that takes long. The last quota is of the first twelve members,
-# the second one of the others, and the first of all. The last member has little weight, and only
-# under the second rule, so no price shows it. The weights differ a little, so there are more states
-# than are counted before a list.
-slow_game() {
-    local member x=7 weights
-    echo "quotas = [$1]"
-    for ((member = 1; member <= $2; member++)); do
-        x=$(((75 * x + 74) % 65537))
-        if [ "$member" -le 12 ]; then
-            weights="$((1000000 + x % 997)), 0, $((1000000 + x % 991))"
-        elif [ "$member" -lt "$2" ]; then
-            weights="$((1000000 + x % 997)), $((1000000 + x % 991)), 0"
-        else
-            weights="0, 1, 0"
-        fi
-        printf '[[member]]\nname = "%s"\nweights = [%s]\n' "$member" "$weights"
-    done
-}
-
 # ---- on a terminal: how far a run has come, and that a game is read from standard input
-if needs python3 "a long run on a terminal" "a long slice on a terminal" "a barren run on a terminal" "a late coalition on a terminal" "a late fault on a terminal" "a late report on a terminal" "a game from a terminal"; then
+if needs python3 "a long run on a terminal" "a long slice on a terminal" "a barren run on a terminal" "a late fault on a terminal" "a late report on a terminal" "a game from a terminal"; then
     # the clock goes on by a tenth of a second at each look: the program looks at each slice that it
     # takes and each 1,048,576 prefixes, and shows nothing before more than a second has passed
     compile_preloaded clock
@@ -78,7 +58,7 @@ from terminal import Run
 run = Run([sys.argv[1], "--workers", "16", "--bits", "10", "--most", "4000000", "--list", "--sizes", "--notation", "--explain", sys.argv[2]], clock=sys.argv[3])
 status = run.read_all()
 assert status == 0, status
-lines = re.findall(rb"\rcouncil: ([0-9,]+) coalitions found, ([0-9]+) of 1024 slices done", run.told)
+lines = re.findall(rb"council: ([0-9,]+) coalitions found, ([0-9]+) of 1024 slices done", run.told)
 assert len(lines) >= 2, run.told
 for column in (0, 1):
     numbers = [int(it[column].replace(b",", b"")) for it in lines]
@@ -94,20 +74,28 @@ from terminal import Run
 run = Run([sys.argv[1], "--workers", "1", "--bits", "0", "--most", "4000000", sys.argv[2]], clock=sys.argv[3], tenths=10)
 status = run.read_all()
 assert status == 0, status
-lines = re.findall(rb"\rcouncil: ([0-9,]+) coalitions found, 0 of 1 slices done(?=\r)", run.told)
+lines = re.findall(rb"council: ([0-9,]+) coalitions found, 0 of 1 slices done(?=\x1b)", run.told)
 numbers = [int(it.replace(b",", b"")) for it in lines]
 assert len(numbers) >= 2 and numbers[-1] == 3838380, numbers
 assert all(here <= there <= here + 2**20 for here, there in zip(numbers, numbers[1:])), numbers
 END
     then ok "a long slice on a terminal"; else failed "a long slice on a terminal" "$(tail -n 1 "$temp/told")"; fi
     # a game that takes hours: 21 of 39 members must agree, 6 of the first twelve and 15 of the
-    # others, so a coalition with a seventh of the twelve is never minimal. The run is ended once it
-    # was told of four times, before it has found a coalition
-    slow_game '21000000, 15000000, 6000000' 40 >"$temp/barren.toml"
+    # others, so a coalition with a seventh of the twelve is never minimal. The last member has
+    # little weight, and only under the second rule, so no price shows it. Weights differ a little,
+    # so there are more states than are counted before a list. The run is ended when it was told of
+    # four times
+    python3 - >"$temp/barren.toml" <<'END'
+print("quotas = [21000000, 15000000, 6000000]")
+for member in range(40):
+    one, other = (10**6 + member**2 * it % 997 for it in (7, 11))
+    weights = [one, 0, other] if member < 12 else [one, other, 0] if member < 39 else [0, 1, 0]
+    print(f'[[member]]\nname = "{member}"\nweights = {weights}')
+END
     if timeout "$seconds" python3 - "$program" "$temp/barren.toml" "$clock" >"$temp/told" 2>&1 <<'END'
 import re, sys
-from terminal import Run
-line = rb"\rcouncil: 0 coalitions found, 0 of 1 slices done, ([0-9,]+) prefixes examined(?=\r)"
+from terminal import Run, show
+line = rb"council: 0 coalitions found, 0 of 1 slices done, ([0-9,]+) prefixes examined(?=\x1b)"
 run = Run([sys.argv[1], "--workers", "1", "--bits", "0", sys.argv[2]], clock=sys.argv[3])
 run.read_until(lambda told: len(re.findall(line, told)) >= 3)
 run.kill()
@@ -115,22 +103,10 @@ run.kill()
 # these 1.1 seconds have passed
 numbers = [int(it.replace(b",", b"")) for it in re.findall(line, run.told)]
 assert numbers[:3] == [2**20 * it for it in (10, 11, 12)], numbers
-assert run.told.startswith(b"\rcouncil: 0 coalitions found"), run.told[:80]
+# a whole line is left, which a narrow terminal does not wrap: its last letter is at the edge
+assert show(run.told, 40) == [b"council: 0 coalitions found, 0 of 1 slid", b""], show(run.told, 40)
 END
     then ok "a barren run on a terminal"; else failed "a barren run on a terminal" "$(tail -n 1 "$temp/told")"; fi
-    # 6 of 12 and 12 of 22 members must agree, and nothing is found for some seconds: the line that
-    # tells of prefixes is wiped before the first one that does not, which is shorter
-    slow_game '18000000, 12000000, 6000000' 35 >"$temp/found.toml"
-    if timeout "$seconds" python3 - "$program" "$temp/found.toml" "$clock" >"$temp/told" 2>&1 <<'END'
-import re, sys
-from terminal import Run
-run = Run([sys.argv[1], "--workers", "1", "--bits", "0", "--most", "4000000", sys.argv[2]], clock=sys.argv[3])
-while not re.search(rb"council: [1-9]", run.told) and run.read():
-    pass
-run.kill()
-assert not re.search(rb"prefixes examined\rcouncil: [1-9]", run.told), run.told[-160:]
-END
-    then ok "a late coalition on a terminal"; else failed "a late coalition on a terminal" "$(tail -n 1 "$temp/told")"; fi
     # a game of 3,838,380 coalitions and many states where one fewer is asked for: the line is wiped
     # before the fault
     {
@@ -148,7 +124,7 @@ run = Run([sys.argv[1], "--workers", "1", "--bits", "10", "--most", "3838379", s
 status = run.read_all()
 assert status == 4, status
 assert b"slices done" in run.told, run.told[:60]
-assert run.told.endswith(b"\r\x1b[Kcouncil: too many minimal winning coalitions\r\n  --tally counts any number of them\r\n"), run.told[-120:]
+assert run.told.endswith(b"\x1b[A\r\x1b[Kcouncil: too many minimal winning coalitions\r\n  --tally counts any number of them\r\n"), run.told[-120:]
 END
     then ok "a late fault on a terminal"; else failed "a late fault on a terminal" "$(tail -n 1 "$temp/told")"; fi
     # a list of 1 MB: once they are shown, each slice is, one after the other; the line is wiped
@@ -162,22 +138,20 @@ END
     } | sed 's/$/\r/' >"$temp/report"
     if timeout "$seconds" python3 - "$program" "$temp/twenty.txt" "$temp/report" "$clock" >"$temp/told" 2>&1 <<'END'
 import re, sys
-from terminal import Run
+from terminal import Run, show
 run = Run([sys.argv[1], "--workers", "1", "--bits", "10", "--list", sys.argv[2]], both=True, clock=sys.argv[4])
 status = run.read_all()
 assert status == 0, status
 with open(sys.argv[3], "rb") as it:
     report = it.read()
 assert b"minimal\t38760\r\n" in report, report[:80]
-# (a longer line tells of the first slices, which hold no coalition, and it is wiped at the first)
-barren = re.match(rb"(\rcouncil: 0 coalitions found, [0-9]+ of 1024 slices done(, [0-9,]+ prefixes examined)?)+\r\x1b\[K", run.told)
-line, wiped, shown = run.told[barren.end() if barren else 0 :].partition(b"\r\x1b[K")
+line, wiped, shown = run.told.partition(b"\x1b[A\r\x1b[K")
 assert shown == report, run.told[-200:]
-told = re.findall(rb"\rcouncil: ([0-9,]+) coalitions found, ([0-9]+) of 1024 slices done", line)
+told = re.findall(rb"council: ([0-9,]+) coalitions found, ([0-9]+) of 1024 slices done", line)
 numbers = [int(it[1]) for it in told]
 assert len(numbers) > 1 and numbers[-1] == 1023, numbers
 assert all(there - here in (0, 1) for here, there in zip(numbers, numbers[1:])), numbers
-assert line == b"".join(b"\rcouncil: %s coalitions found, %s of 1024 slices done" % it for it in told), line[:80]
+assert show(line, 80) == [b"council: %s coalitions found, %s of 1024 slices done" % told[-1], b""], show(line, 80)
 END
     then ok "a late report on a terminal"; else failed "a late report on a terminal" "$(tail -n 1 "$temp/told")"; fi
     if timeout "$seconds" python3 - "$program" "$top/examples/board.toml" >"$temp/told" 2>&1 <<'END'

@@ -516,7 +516,8 @@ def wait_for_others():
 def build(names, goal, lines, keeps, held, sources):
     """Proves the libraries, and builds the program or the library for other languages; the status. These crates are held
     until then."""
-    told = Told(names, goal, lines, costs([*names, goal]))
+    proved = [it for it in names if (stamp := stamp_of(it)) and text_of(f"{TOP}/crates/{it}/out/rlib/stamp") == stamp]
+    told = Told(names, goal, lines, {**costs([*names, goal]), **dict.fromkeys(proved, 0)})
     if not prove_all(names, lines, prove_and_keep if keeps else prove_once, told):
         return 1
     told.begin(goal)

@@ -1,12 +1,15 @@
 #!/usr/bin/env python3
 """council-tools sweep: a rule's quota from one number to another, its table and its picture."""
+import io
+import itertools
 import os
 import pty
 import random
 import re
+import select
 import subprocess
 import sys
-import time
+from unittest import mock
 from xml.etree import ElementTree
 
 from cases import HOSTILE, LOW, PROGRAM, TEMP, TOOLS, TOP, Run, Tests, hostile_game, main, put, report
@@ -15,7 +18,7 @@ from council.game import write_game
 from council.reports import Report, cut_off, write_fraction
 from council.tools.command import find_index
 from council.tools.drawing import measure
-from council.tools.sweep import spread
+from council.tools.sweep import Progress, spread
 
 COUNCIL = f"{TOP}/examples/eec-1958.toml"
 FUND = '# Rule 1: "Share held", percent, 2 decimals\n' + write_game("ABC", [8500], [[1650], [4025], [4325]])
@@ -136,17 +139,27 @@ class Terminals(Tests):
         self.assertEqual(os.read(leader, 4096).decode().split("\t")[-5], "A 2JB")
 
     def test_rows_come_as_they_are_computed(self):
-        slow = put("slow", f'#!/bin/sh\nsleep 0.2\nexec "{PROGRAM}" "$@"\n')
+        # each report waits for a line from here: that of the game, of the last quota, of the first
+        os.mkfifo(f"{TEMP}/turns")
+        turns = os.open(f"{TEMP}/turns", os.O_RDWR)
+        slow = put("slow", f'#!/bin/sh\nread -r _ <"{TEMP}/turns"\nexec "{PROGRAM}" "$@"\n')
         os.chmod(slow, 0o755)
-        leader, follower = pty.openpty()
-        begun = time.monotonic()
-        child = subprocess.Popen([sys.executable, TOOLS, "sweep", "--program", slow, COUNCIL, "--from", "10"], stdout=subprocess.PIPE, stderr=follower, env={**os.environ, "PYTHONUNBUFFERED": ""})
-        child.stdout.readline(), child.stdout.readline()
-        early = time.monotonic() - begun
-        self.assertEqual(child.communicate()[0].count(b"\n"), 8 * 6 - 1)
-        self.assertLess(early, time.monotonic() - begun - 1)
-        shown = os.read(leader, 4096).decode()
-        self.assertTrue(re.search(r"\rcouncil-tools sweep: \d of 8 quotas, some \d s left\x1b\[K", shown) and shown.endswith("\r\x1b[K"), shown)
+        child = subprocess.Popen([sys.executable, TOOLS, "sweep", "--program", slow, COUNCIL, "--from", "10"], stdout=subprocess.PIPE, env={**os.environ, "PYTHONUNBUFFERED": ""})
+        os.write(turns, b"\n" * 3)
+        came = select.select([child.stdout], [], [], 60)[0]
+        early = os.read(child.stdout.fileno(), 1 << 16) if came else b""
+        os.write(turns, b"\n" * 6)
+        self.assertEqual((early.count(b"\n"), child.communicate()[0].count(b"\n")), (1 + 6, 7 * 6))
+        os.close(turns)
+
+    def test_progress(self):
+        shown = mock.Mock(wraps=io.StringIO(), **{"isatty.return_value": True})
+        with mock.patch("time.monotonic", side_effect=itertools.count()), mock.patch("sys.stderr", shown), mock.patch("sys.stdout", io.StringIO()):
+            it = Progress(8)
+            for _ in range(3):
+                it.step()
+            it.end()
+        self.assertEqual(shown.getvalue(), "".join(f"\rcouncil-tools sweep: {text}\x1b[K" for text in ("2 of 8 quotas, some 6 s left", "3 of 8 quotas, some 5 s left")) + "\r\x1b[K")
 
 
 main("sweep")

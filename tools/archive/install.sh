@@ -10,21 +10,22 @@
 # package for R to share/doc/council.
 #
 # The list share/doc/council/FILES names every file that was installed and, with a / at the end,
-# every folder that was made, the last first. It is written before each step, so --uninstall also
-# takes out an install that stopped half-way. An install takes out an earlier one first. A folder
-# where a file should be is reported, and stays.
+# every folder that was made. While it is written or worked off, it is PREFIX/.council-files. Each
+# step is noted before it is made, so --uninstall also takes out an install that stopped half-way.
+# An install takes out an earlier one first, and waits for one that is under way. A folder where a
+# file should be is reported, and stays.
 set -eu
+# a standard output that nobody reads is no failure
+trap '' PIPE
 # what is installed is for all users
 umask 022
 here=$(CDPATH='' cd -P -- "$(dirname -- "$0")" >/dev/null && pwd -P)
 doc=share/doc/council
-newline='
-'
 
 # Prints a line in which a blank replaces each letter that could move a terminal.
 say() {
     c1="$(printf '\302')[$(printf '\200')-$(printf '\237')]"
-    printf '%s\n' "$(printf '%s' "$1" | LC_ALL=C tr '\001-\037\177' ' ' | LC_ALL=C sed "s/$c1/ /g")"
+    printf '%s\n' "$(printf '%s' "$1" | LC_ALL=C tr '\001-\037\177' ' ' | LC_ALL=C sed "s/$c1/ /g")" 2>/dev/null || :
 }
 
 stop() {
@@ -52,14 +53,16 @@ case $#${1-} in
     exit 2
     ;;
 esac
-[ -n "${1-}${HOME-}" ] || stop "name a PREFIX, since HOME is not set"
-set_path "${1:-${HOME-}/.local}"
+[ $# -eq 1 ] || set -- "${HOME:+$HOME/.local}"
+[ -n "$1" ] || stop "name a PREFIX: it is empty, or HOME is not set"
+set_path "$1"
 prefix=$path
 root=$prefix
 if [ -n "${DESTDIR-}" ]; then
     set_path "$DESTDIR"
     root=$path$prefix
 fi
+list=$root/.council-files
 
 is_folder() {
     [ -d "$1" ] && ! [ -L "$1" ]
@@ -77,48 +80,36 @@ is_own() {
     esac
 }
 
-# Removes those of these folders that are empty; $listed then has the others.
-remove_folders() {
-    listed=
-    while IFS= read -r line; do
-        if [ -n "$line" ] && ! rmdir "$root/$line" 2>/dev/null && is_folder "$root/$line"; then
-            listed=$listed$line$newline
-        fi
-    done <<END
-$1
-END
+# Waits until no other run of this script works in $root (without `flock`, it does not wait), and
+# returns whether something is installed there, or was begun.
+has_install() {
+    exec 9<"$root/"
+    flock 9 2>/dev/null || :
+    [ ! -f "$root/$doc/FILES" ] || mv -f "$root/$doc/FILES" "$list" || exit
+    [ -f "$list" ]
 }
 
-# Takes out what FILES names, itself the last of the files, and then the folders.
+# Takes out what the list names: the files, the folders that are then empty, and itself.
 take_out() {
-    old=$(cat "$root/$doc/FILES")
-    folders=
     while IFS= read -r line; do
-        if ! is_own "$line" || [ "$line" = "$doc/FILES" ]; then
+        if ! is_own "$line" || [ "$line" != "${line%/}" ]; then
             continue
+        elif is_folder "$root/$line"; then
+            say "install.sh: $root/$line is a folder, and stays" >&2
+        else
+            rm -f "$root/$line"
         fi
-        case $line in
-        */) folders=$folders$line$newline ;;
-        *)
-            if is_folder "$root/$line"; then
-                say "install.sh: $root/$line is a folder, and stays" >&2
-            else
-                rm -f "$root/$line"
-            fi
-            ;;
-        esac
-    done <<END
-$old
-END
-    rm -f "$root/$doc/FILES"
+    done <"$list"
     # (an earlier version listed no folders)
     find "$root/$doc" -depth -type d -exec rmdir {} \; 2>/dev/null || :
-    remove_folders "$folders"
+    LC_ALL=C sort -r "$list" | while IFS= read -r line; do
+        if is_own "$line" && [ "$line" != "${line%/}" ]; then rmdir "$root/$line" 2>/dev/null || :; fi
+    done
+    rm -f "$list"
 }
 
-listed=
 if [ -n "$uninstall" ]; then
-    [ -f "$root/$doc/FILES" ] || stop "nothing is installed in $root"
+    if ! [ -d "$root" ] || ! has_install; then stop "nothing is installed in $root"; fi
     take_out
     say "council was taken out of $root"
     exit
@@ -154,15 +145,12 @@ done <<END
 $files
 $doc/FILES $doc/FILES 644
 END
-if [ -f "$root/$doc/FILES" ]; then take_out; fi
+mkdir -p "$root"
+if has_install; then take_out; fi
 
-# Adds a line at the top of FILES, in one step.
+# Notes a file, or a folder, before it is made.
 note() {
-    listed=$1$newline$listed
-    if [ -d "$root/$doc" ]; then
-        printf '%s' "$listed" >"$root/$doc/FILES.new"
-        mv -f "$root/$doc/FILES.new" "$root/$doc/FILES"
-    fi
+    printf '%s\n' "$1" >>"$list"
 }
 
 # Makes a folder below $root, and those above it.
@@ -171,23 +159,11 @@ make_folder() {
     case $1 in
     */*) make_folder "${1%/*}" ;;
     esac
-    mkdir "$root/$1"
     note "$1/"
+    mkdir "$root/$1"
 }
 
-# Leaves no folder if not even FILES could be written.
-end() {
-    rm -f "$root/$doc/FILES.new"
-    [ -f "$root/$doc/FILES" ] || remove_folders "$listed"
-}
-
-trap end EXIT
-trap 'exit 130' INT
-trap 'exit 143' TERM
-trap 'exit 129' HUP
-mkdir -p "$root"
 make_folder "$doc"
-note "$doc/FILES"
 while read -r file place mode; do
     make_folder "${place%/*}"
     note "$place"
@@ -198,6 +174,8 @@ while read -r file place mode; do
 done <<END
 $files
 END
+note "$doc/FILES"
+mv -f "$list" "$root/$doc/FILES"
 say "council is installed: $root/bin/council"
 case :$PATH: in
 *:"$prefix/bin":*) ;;

@@ -20,6 +20,7 @@ use council_run::{
 use council_words::{Arguments, collect_words, parse_arguments};
 use mwc_gather::GatherFault;
 use mwc_walk::slice_count;
+use std::alloc::Global;
 use std::io::IsTerminal;
 use std::process::ExitCode;
 use std::rt::Files;
@@ -83,6 +84,63 @@ fn print_remarks(rt: &(impl Eprint + AllocGlobal), bytes: &[u8]) {
     {
         let _ = eprintln!(rt; "council: {remark}");
     }
+}
+
+/// What is said of a name that `is_misshown`.
+const MISSHOWN: &str = "has characters that move a terminal or show nothing";
+
+/// Returns whether a terminal may not show a text letter by letter: some move it or show nothing.
+fn is_misshown(alloc: Global, text: &str) -> bool {
+    format!(in alloc; "{}", sanitize(text, text.len())).is_ok_and(|shown| shown.as_str() != text)
+}
+
+/// Says on standard error which names a terminal may not show as they are.
+fn remark_on_names(rt: &(impl Eprint + AllocGlobal), bytes: &[u8]) {
+    let Ok(game) = parse_game(rt.alloc(), bytes) else {
+        return;
+    };
+    if game
+        .title()
+        .is_some_and(|title| is_misshown(rt.alloc(), title))
+    {
+        let _ = eprintln!(rt; "council: the title {MISSHOWN}");
+    }
+    for member in 0..game.members() {
+        if is_misshown(rt.alloc(), game.name(member)) {
+            let _ = eprintln!(rt; "council: the name of member {} {MISSHOWN}", member + 1);
+        }
+    }
+}
+
+/// A reader that remarks on the names of a game on a terminal, when all of it was read.
+///
+/// A read of it is one read of the reader inside, with the same bytes and the same result.
+#[derive(Drop)]
+struct Remarking<'a, 'b, R, I> {
+    rt: &'a R,
+    terminal: bool,
+    reader: Recorder<'b, I>,
+}
+
+impl<'a, 'b, R: Eprint + AllocGlobal, I: Source> Source for Remarking<'a, 'b, R, I> {
+    ghost left = { λ it. I.left it.reader.reader.now };
+
+    ghost is_read = { λ old buffer result new filled.
+        I.is_read old.reader.reader.now buffer result new.reader.reader.now filled };
+
+    fn read_once(&mut self, buffer: &mut [u8]) -> io::Result<usize> {
+        let count = self.reader.read_once(buffer)?;
+        if count == 0
+            && self.terminal
+            && let Some(bytes) = self.reader.bytes()
+        {
+            remark_on_names(self.rt, bytes);
+        }
+        Ok(count)
+    }
+
+    ghost reads = { λ old new buffer filled result is.
+        I.reads old.reader.reader.now new.reader.reader.now buffer filled result is };
 }
 
 /// The longest path that is shown, in characters.
@@ -194,7 +252,11 @@ fn run_on<R: AllocGlobal + Print + Eprint + Clock + Threads + Wait + Sync, I: So
         // memory: without room nothing is recorded, and the run goes on
         bytes = Vec::with_capacity(rt.alloc(), limits::FILE_BYTES + 1).ok();
     }
-    let mut reader = Recorder::new(reader, bytes);
+    let mut reader = Remarking {
+        rt,
+        terminal,
+        reader: Recorder::new(reader, bytes),
+    };
     let slices = slices_of(arguments);
     let progress = Progress::new(rt, terminal, slices);
     let mut writer = Wiping {
@@ -204,7 +266,7 @@ fn run_on<R: AllocGlobal + Print + Eprint + Clock + Threads + Wait + Sync, I: So
     let columns = columns_of(arguments);
     let outcome = execute(rt, arguments, columns, &mut reader, &progress, &mut writer);
     progress.wipe();
-    report_outcome(rt, arguments, terminal, outcome, reader.bytes())
+    report_outcome(rt, arguments, terminal, outcome, reader.reader.bytes())
 }
 
 /// Runs on the file, or on standard input if none is named.

@@ -2,6 +2,7 @@
 use crate::thousands::Thousands;
 use crate::wiping::Wipe;
 use council_base::Gate;
+use std::fmt::Display;
 use std::sync::{Mutex, Wait};
 use std::time::{Clock, Duration};
 
@@ -67,29 +68,41 @@ impl<'a, R: Eprint + Clock + Wait> Progress<'a, R> {
     /// Wipes the line, if it was written.
     pub fn wipe(&self) {
         let mut done = self.done.lock(self.rt);
-        self.wipe_shown(&mut done);
-    }
-
-    fn wipe_shown(&self, done: &mut Done) {
         if done.is_shown {
             done.is_shown = false;
-            let _ = eprint!(self.rt; "\r\x1b[K");
+            let _ = eprint!(self.rt; "\x1b[A\r\x1b[K");
         }
     }
 
-    /// Writes the line anew.
+    /// Writes the line anew, over the one before.
+    ///
+    /// It does not wrap (`?7l`), however narrow the terminal is. The cursor waits below it, so an
+    /// interrupt leaves a whole line.
+    fn write(&self, done: &mut Done, line: impl Display + Drop) {
+        let up = if done.is_shown { "\x1b[A" } else { "" };
+        done.is_shown = true;
+        let _ = eprint!(self.rt; "{up}\r\x1b[?7lcouncil: {line}\x1b[K\x1b[?7h\n");
+    }
+
+    /// Writes what is done, if it has taken long.
     fn show(&self, done: &mut Done) {
         if !self.is_long() {
             return;
         }
-        done.is_shown = true;
-        let (found, slices) = (Thousands(done.found), self.slices);
-        let _ = eprint!(self.rt;
-            "\rcouncil: {found} coalitions found, {} of {slices} slices done",
-            done.slices
-        );
+        let (found, prefixes) = (Thousands(done.found), Thousands(done.prefixes));
+        let (some, all) = (done.slices, self.slices);
         if done.found == 0 && done.prefixes > 0 {
-            let _ = eprint!(self.rt; ", {} prefixes examined", Thousands(done.prefixes));
+            self.write(
+                done,
+                format_args!(
+                    "0 coalitions found, {some} of {all} slices done, {prefixes} prefixes examined"
+                ),
+            );
+        } else {
+            self.write(
+                done,
+                format_args!("{found} coalitions found, {some} of {all} slices done"),
+            );
         }
     }
 }
@@ -118,10 +131,6 @@ impl<'a, R: Eprint + Clock + Wait> Gate for Progress<'a, R> {
 
     fn inform(&self, prefixes: u64, found: u64) {
         let mut done = self.done.lock(self.rt);
-        if done.found == 0 && found > 0 && done.prefixes > 0 {
-            // the line without the prefixes is shorter
-            self.wipe_shown(&mut done);
-        }
         done.found = done.found.wrapping_add(found);
         done.prefixes = done.prefixes.wrapping_add(prefixes);
         self.show(&mut done);
@@ -130,8 +139,10 @@ impl<'a, R: Eprint + Clock + Wait> Gate for Progress<'a, R> {
     fn decide(&self, decided: u8, members: u8) {
         if self.is_long() {
             let mut done = self.done.lock(self.rt);
-            done.is_shown = true;
-            let _ = eprint!(self.rt; "\rcouncil: {decided} of {members} members decided\x1b[K");
+            self.write(
+                &mut done,
+                format_args!("{decided} of {members} members decided"),
+            );
         }
     }
 }

@@ -107,7 +107,7 @@ def read_number(text: str) -> int:
 
 def read_numbers(text: str) -> tuple[int, ...]:
     """Reads a field that has one number for each rule, with / between them."""
-    return tuple(map(read_number, text.split("/")))
+    return tuple(map(read_number, text.split("/"))) if "/" in text else (read_number(text),)
 
 
 def write_fraction(value: Fraction) -> str:
@@ -148,7 +148,7 @@ def read_member(name: str, weights: str, *fields: str) -> Member:
 
 def read_coalition(size: str, weights: str, *names: str) -> Coalition:
     """Reads the fields of a line `coalition`."""
-    if read_number(size) != len(names):
+    if size != str(len(names)):
         raise ValueError(size)
     return Coalition(names, read_numbers(weights))
 

@@ -19,7 +19,7 @@ file, --game FILE, weights of a table are in their unit, and have its name.
 from __future__ import annotations
 
 import argparse
-import itertools
+import functools
 import json
 import re
 import shutil
@@ -204,24 +204,20 @@ def describe(report: Report, indices: Sequence[Index], places: Optional[int]) ->
 
 
 def write_json(lines: Iterable[str], words: argparse.Namespace) -> None:
-    """Writes a report as JSON. Its coalitions, which may be millions and come before the members,
-    wait in a temporary file."""
-
-    def text(value: object) -> str:
-        return json.dumps(value, indent=1, ensure_ascii=False)
-
-    between = itertools.chain(["\n  "], itertools.repeat(",\n  "))
+    """Writes a report as JSON, with a line for each coalition. These may be millions and come before
+    the members, so they wait in a temporary file."""
+    quote_name = functools.lru_cache(functools.partial(json.dumps, ensure_ascii=False))
     with tempfile.TemporaryFile("w+", encoding="utf-8") as coalitions:
 
         def take(it: Coalition) -> None:
-            coalitions.write(next(between) + text({"members": it.members, "weights": it.weights}).replace("\n", "\n  "))
+            coalitions.write(f',\n  {{"members": [{", ".join(map(quote_name, it.members))}], "weights": {list(it.weights)}}}')
 
         report = Report(lines, take)
         warn_of_low_quotas(report.quotas, report.totals)
-        head = text(describe(report, choose_indices([report], words.index), words.decimals))
+        head = json.dumps(describe(report, choose_indices([report], words.index), words.decimals), indent=1, ensure_ascii=False)
         if report.listed:
             sys.stdout.write(head[: -len("\n}")] + ',\n "coalitions": [')
-            coalitions.seek(0)
+            coalitions.seek(1)
             shutil.copyfileobj(coalitions, sys.stdout)
             head = "\n ]\n}"
         print(head)
