@@ -21,7 +21,6 @@ complete -c council-tools -n '__fish_seen_subcommand_from from-table' -l all-row
 complete -c council-tools -n '__fish_seen_subcommand_from from-table' -l sum -d 'add the weights of rows that have the same name'
 complete -c council-tools -n '__fish_seen_subcommand_from from-table' -l of -x -a '100 sum' -d 'what a share is of, if percentages do not add up to 100'
 complete -c council-tools -n '__fish_seen_subcommand_from from-table' -l decimal -x -a '. ,' -d 'the decimal sign, if the table does not tell'
-complete -c council-tools -n '__fish_seen_subcommand_from from-table' -l round -x -a '0 1 2 3 4 5 6 7 8 9 10 11 12' -d 'round weights to N decimals, a half upwards'
 complete -c council-tools -n '__fish_seen_subcommand_from from-table' -l encoding -x -d 'the encoding of the table, as cp1252; else UTF-8 or UTF-16'
 complete -c council-tools -n '__fish_seen_subcommand_from from-table' -l quiet -d 'do not say on standard error what was read'
 complete -c council-tools -n '__fish_seen_subcommand_from table' -l help -d 'show this help message and exit'
