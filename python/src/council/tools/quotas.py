@@ -22,7 +22,7 @@ class Number:
         digits = self.text[:-1].strip(BLANKS) if self.percent else self.text
         if re.match(rf"\d{{1,3}}([{BLANKS}'’]\d{{3}})+([.,]|$)", digits):
             digits = re.sub(rf"[{BLANKS}'’]", "", digits)
-        # its value by each decimal sign with which it is a number; the other sign separates thousands
+        # its value by each decimal sign that makes it a number; the other sign separates thousands
         self.values: dict[str, Fraction] = {}
         for sign in OTHER:
             match = re.fullmatch(rf"(\d*|[1-9]\d{{0,2}}(?:[{OTHER[sign]}]\d{{3}})+)(?:[{sign}](\d+))?(?:[eE]([+-]?\d{{1,3}}))?", digits, re.A)
@@ -81,7 +81,7 @@ class Quota:
             raise Fault(f"the quota {quote(self.text)} is no number with {quote(decimal)} before its decimals", 2)
         value = self.number.values[decimal]
         if 0 < value < 1 and not self.number.percent:
-            # with 0.85 each member would win alone
+            # 0.85 votes would let each member win
             share = f"{'heads:' * self.heads}{'>' * self.more}{write_plain(value * 100, count_decimals(value * 100))}%"
             raise Fault(f"the quota {quote(self.text)} is less than 1: write {share if not self.more else quote_for_shell(share)} for a share of all", 2)
         return (value / 100, True) if self.number.percent else (value, False)
