@@ -176,7 +176,7 @@ class Refused(Cases):
             (["12"], EEC + "Summa,17\n", 'line 8, "Summa", may be a total'), (["12"], EEC + "Razem,19\n", "line 8"), (["12"], EEC + "Quota,12\n", "line 8"), (["12"], EEC + "Blocking minority,6\n", "line 8"), (["12"], EEC + "Average,2.8\n", "line 8"),
             (["12"], EEC + "Treaty of Rome, 1957\n", "line 8"), (["12"], EEC + "Source: Treaty, 1957\nNote: weights, 4\n", "line 8", "line 9"), (["12"], EEC + "Note: as of, 1\n", "a note"), (["12"], "Member,Votes\nYear,1958\n" + EEC[13:], "line 2"),
             (["12"], "Member,Votes\nTotal,5\n" + EEC[13:], "may be a total"), (["6"], "Col,x,y\nn,1,2\nA,4,50\nB,3,45\nC,2,49\n", "column 2"), (["6", "heads:2", "--weight", "x"], "Col,x,y\nn,1,2\nA,4,50\nB,3,45\nC,2,49\n", "numbers of the columns"),
-            (["heads:2"], "who,votes\nA,4\nB,3\nx,7\n", "is the sum of all others"), (["4"], "who,votes\nA,3\nB,3\n", "is the sum of all others"), (["51"], "who,votes\nA,50\nB,49\nC,1\n", "is the sum of all others"), (["40"], "who,votes\nA,40\nB,30\nC,29\nD,10\n", "the weight of the quota"),
+            (["70%"], "who,votes\nx,32\ny,24\nA,9\nB,8\nC,6\nD,5\nE,3\nF,1\n", "line 2"), (["70%"], "who,votes\nA,5\nB,6\nC,7\nD,8\nE,9\nx,27\n", "is far heavier"), (["heads:2"], "who,votes\nA,4\nB,3\nx,7\n", "is the sum of all others"), (["4"], "who,votes\nA,3\nB,3\n", "is the sum of all others"), (["51"], "who,votes\nA,50\nB,49\nC,1\n", "is the sum of all others"), (["40"], "who,votes\nA,40\nB,30\nC,29\nD,10\n", "the weight of the quota"),
             ([">50%"], "who,share\nA,30%\nB,20%\nC,12%\n", "adds up to 62 instead of 100", "--of sum"), ([">50"], "who,share\nA,30%\nB,20%\nC,12%\n", "--of 100"), (["60"], "who,share (%)\nA,33\nB,33\nC,33\n", "--of"), (["60"], "who,share\nA,33.01\nB,33.01\nC,33.01\n", "99.03"), ([">50%"], "who,share\nA,.30\nB,.42\nC,.21\n", "0.93 instead of 1"),
             ([">50%"], "who,share\nA,50%\nB,30%\nC,20%\nx,100%\n", "adds up to 200"),
         ])
@@ -201,9 +201,8 @@ class Refused(Cases):
             (["1", "--heading", "1", "--no-heading"], EEC, "not allowed with"), (["1", "--what"], EEC, "unrecognized"), (["12", f"{TEMP}/none.csv"], EEC, "none.csv: No such file"), (["12", TEMP], EEC, "Is a directory"), (["9", "--title", "t" * 201], EEC, "the title"),
         ])
         path = put("table.csv", EEC)
-        for words in ["12", path], [path, "12"]:
-            self.assertEqual(Run("from-table", *words).out, read("12", table=EEC).out)
-        self.assertEqual(Run("from-table", "12", path, apart=True).out, read("12", table=EEC).out)
+        for words, apart in (["12", path], True), ([path, "12"], False):
+            self.assertEqual(Run("from-table", *words, apart=apart).out, read("12", table=EEC).out)
 
 
 class Numbers(Cases):
@@ -225,8 +224,8 @@ class Numbers(Cases):
             ("5.", None, None), ("-5", None, None), ("\u0663", None, None), ("1,00,000", None, None), ("1.000.00", None, None), ("1,000.5,5", None, None), ("0" * 40 + "5", None, None), ("9007199254740993", 9007199254740993, 9007199254740993),
         ]:
             it = Number(f" {text}\t")
-            self.assertEqual([it.values.get(sign) for sign in ".,"], [None if each is None else Fraction(each) for each in (point, comma)], text)
-            self.assertEqual(it.percent, text.endswith("%"))
+            wanted = {sign: Fraction(each) for sign, each in ((".", point), (",", comma)) if each is not None}
+            self.assertEqual((it.values, it.percent), (wanted, text.endswith("%")), text)
 
     def test_sums_by_their_definition(self):
         """A row is a sum if, and only if, it has the sum of all others or of a run beside it."""
@@ -236,7 +235,7 @@ class Numbers(Cases):
             sums = {at for at, it in enumerate(its) if it and (2 * it == sum(its) or any(
                 it == sum(run) and sum(map(bool, run)) > 1 for end in range(len(its) + 1) for run in ([its[end:at]] if end < at else [its[at + 1 : end]])))}
             weights = Weights(its, False, "", "")
-            found = {at for at in range(len(its)) if weights.is_sum(at, weights.total - weights.values[at], len(its) - 1) or weights.has_run(at, ())}
+            found = {at for at, it in enumerate(its) if weights.is_sum(at, sum(its) - it, len(its) - 1) or weights.has_run(at, ())}
             if its not in (sorted(its), sorted(its)[::-1]):
                 self.assertLessEqual(sums, found, its)
             self.assertTrue(sums or not found or len(its) > 4, its)
