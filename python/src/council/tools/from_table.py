@@ -28,7 +28,7 @@ import sys
 import unicodedata
 from fractions import Fraction
 from itertools import accumulate, groupby
-from typing import Collection, Optional, Sequence
+from typing import Collection, Iterable, Optional, Sequence
 
 from ..game import MEMBERS, NAME, RULES, WEIGHT, is_text, quote, quote_for_shell, write_game, write_rule_comment
 from ..reports import Fault
@@ -45,8 +45,7 @@ TITLE = re.compile(r"%|(?!(n/?a|nan|none|null|[nk]\.? ?[da]\.?)$)\W*((19|20)\d\d
 
 def show(line: int, text: str, column: Optional[int] = None) -> str:
     """Names a line, or a cell of it, in a message; a long text is cut."""
-    where = f"line {line}, " if column is None else f"line {line}, column {column + 1}: "
-    return where + quote(text if len(text) <= 40 else text[:40] + "..")
+    return f"line {line}, {'' if column is None else f'column {column + 1}: '}" + quote(text if len(text) <= 40 else text[:40] + "..")
 
 
 def write_ranges(what: str, numbers: Collection[int]) -> str:
@@ -78,7 +77,7 @@ def fold(name: str) -> str:
 
 def read_rows(data: bytes, encoding: Optional[str]) -> list[tuple[int, list[str]]]:
     """Returns the rows that are not empty, each with the line in which it begins. Most lines have the
-    separator; a byte order mark or zeros tell UTF-16."""
+    separator; a first line sep=; is for spreadsheets. A byte order mark or zeros tell UTF-16."""
     if len(data) > MOST:
         raise Fault("the table is longer than 4 MiB: keep the rows of the members, and the columns that you need")
     if data.startswith((b"PK\x03\x04", b"\xd0\xcf\x11\xe0\xa1\xb1\x1a\xe1")):
@@ -94,7 +93,6 @@ def read_rows(data: bytes, encoding: Optional[str]) -> list[tuple[int, list[str]
         delimiter = max("\t;|,", key=lambda it: sum(it in line for line in lines))
         reader = csv.reader(io.StringIO(text, newline=""), delimiter=delimiter, strict=True)
         for row in reader:
-            # a first line sep=; is for spreadsheets
             if any(map(str.strip, row)) and not (begun == 1 and row[0].startswith("sep=")):
                 rows.append((begun, [it.strip() for it in row]))
             begun = reader.line_num + 1
@@ -288,9 +286,9 @@ class Table:
                 raise Fault(f"{cell} {said}: say --decimal . or --decimal , and write all alike")
         return decimal
 
-    def read_weights(self, at: int, numbers: Sequence[Number], decimal: Optional[str], names: dict[str, list[int]]) -> Weights:
-        """Returns the weights of a column, those of a name together."""
-        values = [sum((numbers[row].values[decimal or "."] for row in its), Fraction(0)) for its in names.values()]
+    def read_weights(self, at: int, numbers: Sequence[Number], decimal: Optional[str], groups: Iterable[list[int]]) -> Weights:
+        """Returns the weights of a column, those of a group of rows together."""
+        values = [sum((numbers[row].values[decimal or "."] for row in its), Fraction(0)) for its in groups]
         what = f"column {at + 1}" + (f", {quote(decimal)} before decimals" if decimal else "")
         its = Weights(values, any(it.percent for it in numbers), " ".join(self.titles[at].split()) if self.line else "", what)
         if max(its.values) > WEIGHT:
@@ -308,21 +306,21 @@ class Rule:
         if whole and not of and abs(its.total - whole * its.unit) * 1000 > whole * its.unit:
             raise Fault(f"{its.what} adds up to {write_plain(Fraction(its.total, its.unit))} instead of {whole}: a row may be missing, or be a total; "
                         f"say --of 100 if a share is of {whole}{' %' * (whole > 1)}, or --of sum")
-        self.whole = (whole or 100) * its.unit if of == "100" and not quota.heads else None
-        self.least, how = quota.make_whole(its.total, its.unit, decimal, self.whole)
+        self.whole = whole or 100 if of == "100" and not quota.heads else 0
+        self.least, how = quota.make_whole(its.total, its.unit, decimal, self.whole * its.unit or None)
         self.comment = write_rule_comment(number, its.title, its.percent, its.places, f"{its.what}{f', times {its.unit}' * (its.unit > 1)}; total {its.total:,}; the quota "
                                           f"{quote(quota.text)} is {how}, {write_percent(self.least, its.total)} of the total")
 
-    def is_quota(self, weight: int) -> bool:
+    def is_quota(self, weight: int, others: int, unit: int) -> bool:
         """Returns whether a weight is the quota of all others."""
         value, is_share = self.quota.read_value(self.decimal)
-        others, unit = self.weights.total - weight, self.weights.unit
-        return weight <= others and not self.quota.heads and self.quota.round_up(value * ((self.whole or others) if is_share else unit)) == weight
+        return 1 < weight <= others and self.quota.round_up(value * ((self.whole * unit or others) if is_share else unit)) == weight
 
 
-def check_rows(table: Table, lines: Sequence[int], names: Sequence[str], rules: Sequence[Rule], columns: Sequence[Weights]) -> list[str]:
+def check_rows(table: Table, rules: Sequence[Rule], columns: Sequence[Weights]) -> list[str]:
     """Refuses rows that can hardly be members, unless --all-rows takes them. Returns a comment."""
     its: dict[int, str] = {}
+    lines, names = [line for line, _ in table.rows], table.cells[table.name]
     left, marked = {sum(it < at for it in lines) for at in table.left}, [it for it in names if NOTE.match(it)]
     for row, name in enumerate(names):
         is_edge = row in (0, len(names) - 1) and len(names) > 1
@@ -331,7 +329,7 @@ def check_rows(table: Table, lines: Sequence[int], names: Sequence[str], rules: 
         doubts["may be a total or a note"] = name in marked and len(marked) < 3
         doubts["has no letter in its name"] = not any(map(str.isalpha, name)) and any(map(str.isalpha, "".join(names)))
         doubts["may have the numbers of the columns"] = is_edge and len(table.numbers) > 1 and is_count([table.cells[at][row] for at in table.numbers], 1, 2)
-        doubts["has the weight of the quota"] = is_edge and any(it.is_quota(it.weights.values[row]) for it in rules)
+        doubts["has the weight of the quota"] = is_edge and any(rule.is_quota(it.values[row], it.total - it.values[row], it.unit) for rule, it in zip(rules, columns))
         its.update({lines[row]: f"{show(lines[row], name)}, {why}" for why, doubt in doubts.items() if why and doubt})
     told = "; ".join([*its.values()][:2]) + ("; and see " + write_ranges("line", [*its][2:]) if len(its) > 2 else "")
     if its and not table.words.all_rows:
@@ -348,10 +346,11 @@ def make_game(data: bytes, quotas: Sequence[Quota], words: argparse.Namespace) -
     others = [at for at in table.numbers if all(Number(it).values for it in table.cells[at]) and not is_count(table.cells[at], 0, 1)]
     numbers = {at: table.read_numbers(at) for at in table.weights or {*others} - {table.name}}
     decimal = table.find_decimal(numbers)
-    columns = {at: table.read_weights(at, its, decimal, names) for at, its in numbers.items()}
+    columns = [table.read_weights(at, its, decimal, [[row] for row in range(len(read))]) for at, its in numbers.items()]
+    added = {at: table.read_weights(at, its, decimal, names.values()) for at, its in numbers.items()}
     order, heads = iter(table.weights), Weights([Fraction(1)] * len(names), False, "heads", "each member weighs 1")
-    rules = [Rule(at, it, heads if it.heads else columns[next(order)], words.decimal if it.heads else decimal, words.of) for at, it in enumerate(quotas, 1)]
-    comments = [*(it.comment for it in rules), *check_rows(table, [read[its[0]] for its in names.values()], [*names], rules, [*columns.values()])]
+    rules = [Rule(at, it, heads if it.heads else added[next(order)], words.decimal if it.heads else decimal, words.of) for at, it in enumerate(quotas, 1)]
+    comments = [*(it.comment for it in rules), *check_rows(table, [it for it in rules if not it.quota.heads], columns)]
     comments += [f"Added: {write_ranges('line', [read[row] for row in its])}, {quote(name)}" for name, its in names.items() if len(its) > 1]
     members = [f"{name} {'/'.join(f'{it.weights.values[at]:,}' for it in rules)}" for at, name in enumerate(names)]
     members = members if len(members) <= 4 else [*members[:2], "..", members[-1]]
