@@ -149,12 +149,12 @@ class Tables(Cases):
 class Refused(Cases):
     def test_what_is_no_clean_table(self):
         self.check_all_refused([
-            (["500"], "Holder,Votes\nA,1,200\nB,2,600\nC,900\n", 'line 2, "A", has 3 cells, and the table 2', "1,200"),
-            (["heads:1", "5"], "holder\tvotes\n1\tA\t5\n2\tB\t3\n", "line 2", "has 3 cells", "col.names"),
-            (["5", "2", "--no-heading"], "A,1,000,5\nB,2,6\n", "line 2", "has 3 cells, and the table 4"),
+            (["500"], "Holder,Votes\nA,1,200\nB,2,600\nC,900\n", 'line 2, "A", has 3 cells instead of 2', "1,200"),
+            (["heads:1", "5"], "holder\tvotes\n1\tA\t5\n2\tB\t3\n", "line 2", "has 3 cells instead of 2", "col.names"),
+            (["5", "2", "--no-heading"], "A,1,000,5\nB,2,6\n", "line 2", "has 3 cells instead of 4"),
             (["500", "100", "--no-heading"], "A,1,000\nB,2,600\n", "column 2 and column 3 may have weights", "--weight"),
             (["500"], "A,1,000\nB,2,500\nC,900\n", 'line 3, "C"'), (["500", "--no-heading"], "A,1,000\nB,2,500\nC,3,900\n", "column 2 and column 3 may have weights", "--weight"),
-            (["5"], "Votes\n\nwho,votes\nA,5\nB,4\n", "line 3", "--heading N"), (["5"], "who,votes\nA,5\nB,4\nC,1\nSource\n", 'line 5, "Source", has 1 cell', "--drop 5"),
+            (["5"], "Votes\n\nwho,votes\nA,5\nB,4\n", "line 3", "--heading N"), (["5"], "who,votes\nA,5\nB,4\nC,1\nSource\n", 'line 5, "Source", has 1 cell instead of 2', "--drop 5"),
             (["5"], "A,5\nB,4\n", 'line 1, column 2: "5" may be no heading: say --heading N', "--no-heading"), (["5"], "who,2004\nA,5\nB,4\n", '"2004" may be no heading'), (["5", "--weight", "2"], "Col,2,3\nA,5,6\nB,4,5\n", '"2" may be no heading'),
             (["5"], "Votes in Europe, 2004\nwho,votes\nA,5\nB,4\n", '"2004" may be no heading'), (["5"], "Votes, in Europe\nwho,votes\nA,5\nB,4\n", 'line 2, column 2: "votes" is no number', "--heading 2"), (["5"], "who,votes,,\n,2004,2014,2019\nA,5,4,3\n", "line 2"),
             (["5"], "who,,votes\nA,x,5\nB,y,4\n", "column 1"), (["5"], "who,votes\n,2004\nA,5\nB,4\n", 'line 2, column 1: "" is no name'), (["5"], "A,n/a\nB,5\nC,3\n", '"n/a" may be no heading'), (["5"], "A,-\nB,5\nC,3\n", '"-" may be no heading'),
@@ -173,7 +173,7 @@ class Refused(Cases):
         self.check_all_refused([
             (["20"], regions, "line 2", "line 5", "line 8"), (["20", "--drop", "2,8"], regions, 'line 5, "South", is the sum of rows beside it'), (["20", "--drop", "5"], regions, "line 2"),
             (["20"], "who,votes\nX,9\nA,5\nB,3\nSub,8\nC,2\n", 'line 5, "Sub"'), (["65%"], europe, "line 2", "line 3"), (["65%", "--drop", "2"], europe, 'line 3, "Euro area"'), (["65%", "--rows", "3-30"], europe, '"447" may be no heading'), (["65%", "--rows", "3-30", "--heading", "1"], europe, "line 3"),
-            (["12"], EEC + "Summa,17\n", 'line 8, "Summa", may be a total'), (["12"], EEC + "Razem,19\n", "line 8"), (["12"], EEC + "Quota,12\n", "line 8"), (["12"], EEC + "Blocking minority,6\n", "line 8"), (["12"], EEC + "Average,2.8\n", "line 8"),
+            (["12"], EEC + "Summa,17\n", 'line 8, "Summa", is the sum of all others'), (["12"], EEC + "Razem,19\n", "line 8"), (["12"], EEC + "Quota,12\n", "line 8"), (["12"], EEC + "Blocking minority,6\n", "line 8"), (["12"], EEC + "Average,2.8\n", "line 8"),
             (["12"], EEC + "Treaty of Rome, 1957\n", "line 8"), (["12"], EEC + "Source: Treaty, 1957\nNote: weights, 4\n", "line 8", "line 9"), (["12"], EEC + "Note: as of, 1\n", "a note"), (["12"], "Member,Votes\nYear,1958\n" + EEC[13:], "line 2"),
             (["12"], "Member,Votes\nTotal,5\n" + EEC[13:], "may be a total"), (["6"], "Col,x,y\nn,1,2\nA,4,50\nB,3,45\nC,2,49\n", "column 2"), (["6", "heads:2", "--weight", "x"], "Col,x,y\nn,1,2\nA,4,50\nB,3,45\nC,2,49\n", "numbers of the columns"),
             (["70%"], "who,votes\nx,32\ny,24\nA,9\nB,8\nC,6\nD,5\nE,3\nF,1\n", "line 2"), (["70%"], "who,votes\nA,5\nB,6\nC,7\nD,8\nE,9\nx,27\n", "is far heavier"), (["heads:2"], "who,votes\nA,4\nB,3\nx,7\n", "is the sum of all others"), (["4"], "who,votes\nA,3\nB,3\n", "is the sum of all others"), (["51"], "who,votes\nA,50\nB,49\nC,1\n", "is the sum of all others"), (["40"], "who,votes\nA,40\nB,30\nC,29\nD,10\n", "the weight of the quota"),

@@ -146,7 +146,7 @@ impl Explanation<'_> {
                 let least = saturating_f64_to_u64(votes - slack).saturating_add(1);
                 let more = saturating_f64_to_u64(votes + slack).saturating_add(1);
                 self.line(format_args!(
-                    "a share of the total: at least {share} of {total} is {least}, more than that is {more}"
+                    "a share of the total: write {least} for at least {share} of {total}, {more} for more than that"
                 ));
             }
             _ => self.explain_number(quota, wanted),

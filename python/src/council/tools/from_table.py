@@ -180,8 +180,8 @@ class Table:
         self.left = [line for line, row in rows if line not in read and any(map(is_number, row))]
         self.width = count_filled(self.titles) if self.line else max((count_filled(row) for _, row in self.rows), default=0)
         for line, row in self.rows:
-            if count_filled(row) > self.width or len(row) < self.width:
-                raise Fault(f"{show(line, next(filter(None, row)))}, has {count_filled(row)} cells, and the table {self.width}: write as many, 1200 instead of 1,200; "
+            if (has := count_filled(row)) > self.width or len(row) < self.width:
+                raise Fault(f"{show(line, next(filter(None, row)))}, has {has} cell{'s' * (has > 1)} instead of {self.width}: write as many, 1200 instead of 1,200; "
                             f"give each column a heading (in R, col.names = NA); or say --drop {line}, or --heading N and --rows A-B")
         self.choose(rules, [self.filter(*it.partition("=")) for it in words.only or ()])
 
@@ -239,7 +239,7 @@ class Table:
         # without headings, 1,000 may be two weights
         if len(columns) != wanted or counts or (wanted > 1 and not self.line):
             raise Fault(f"{its} may have {what}s{' (1, 2, 3, .. may count the rows)' * counts}, and {wanted} {'is' if wanted == 1 else 'are'} wanted: "
-                        f"say --{what} COLUMN for each, a heading or a number; commas, semicolons, TABs or | are between columns")
+                        f"say --{what} COLUMN, a heading or a number{', once for each quota' * (wanted > 1)}; commas, semicolons, TABs or | separate columns")
         return columns
 
     def find_names(self) -> dict[str, list[int]]:
@@ -255,7 +255,7 @@ class Table:
                 its = [f"{self.titles[it] if self.line else it + 1}={cells[at]}" for it, cells in enumerate(self.cells)
                        if it not in (self.name, *self.weights) and cells[first] != cells[at] and len({*cells}) < len(cells)]
                 how = f"say --only {quote_for_shell(its[0])} for one of them" if its else "--sum adds their weights"
-                how = how if names[first] == name else f"write both alike, or say --drop {line}"
+                how = how if names[first] == name else f"in other letters; write both alike, or say --drop {line}"
                 raise Fault(f"{show(line, name, self.name)} is also in {show(self.rows[first][0], names[first])}: {how}")
             found[fold(name)] += [at] * (first != at)
         if len(found) > MEMBERS:
@@ -304,7 +304,7 @@ class Rule:
         is_percent = its.percent or re.search(r"%|p.{0,5}cent|pct|prozent", its.title, re.I) or (its.places and 90 * its.unit <= its.total <= 110 * its.unit)
         whole = 100 if is_percent else int(its.places > 0 and 9 * its.unit <= its.total * 10 <= 11 * its.unit)
         if whole and not of and abs(its.total - whole * its.unit) * 1000 > whole * its.unit:
-            raise Fault(f"{its.what} adds up to {write_plain(Fraction(its.total, its.unit))} instead of {whole}: a row may be missing, or be a total; "
+            raise Fault(f"{its.what.partition(',')[0]} adds up to {write_plain(Fraction(its.total, its.unit))} instead of {whole}: a row may be missing, or be a total; "
                         f"say --of 100 if a share is of {whole}{' %' * (whole > 1)}, or --of sum")
         self.whole = whole or 100 if of == "100" and not quota.heads else 0
         self.least, how = quota.make_whole(its.total, its.unit, decimal, self.whole * its.unit or None)
@@ -330,7 +330,8 @@ def check_rows(table: Table, rules: Sequence[Rule], columns: Sequence[Weights]) 
         doubts["has no letter in its name"] = not any(map(str.isalpha, name)) and any(map(str.isalpha, "".join(names)))
         doubts["may have the numbers of the columns"] = is_edge and len(table.numbers) > 1 and is_count([table.cells[at][row] for at in table.numbers], 1, 2)
         doubts["has the weight of the quota"] = is_edge and any(rule.is_quota(it.values[row], it.total - it.values[row], it.unit) for rule, it in zip(rules, columns))
-        its.update({lines[row]: f"{show(lines[row], name)}, {why}" for why, doubt in doubts.items() if why and doubt})
+        why = next((it for it, doubt in doubts.items() if it and doubt), "")
+        its.update({lines[row]: f"{show(lines[row], name)}, {why}"} if why else {})
     told = "; ".join([*its.values()][:2]) + ("; and see " + write_ranges("line", [*its][2:]) if len(its) > 2 else "")
     if its and not table.words.all_rows:
         which = f"{min(its)} if it is" if len(its) == 1 else "LINES for those that are"
