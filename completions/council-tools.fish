@@ -28,7 +28,7 @@ complete -c council-tools -n '__fish_seen_subcommand_from table' -l index -x -a 
 complete -c council-tools -n '__fish_seen_subcommand_from export' -l help -d 'show this help message and exit'
 complete -c council-tools -n '__fish_seen_subcommand_from export' -l index -x -a 'deegan-packel public-good banzhaf penrose shapley-shubik' -d 'an index to show, and more if it is given again; else all that the report has'
 complete -c council-tools -n '__fish_seen_subcommand_from export' -l columns -x -d 'the columns of a table, in this order'
-complete -c council-tools -n '__fish_seen_subcommand_from export' -l decimals -x -a '1 2 3 4 5 6 7 8 9 10 11 12 13 14 15 16 17 18 19 20 21 22 23 24 25 26 27 28 29 30' -d 'decimals, 1 to 30, rounded from the fractions, a half upwards; else in csv and json six, cut off, and in tables four'
+complete -c council-tools -n '__fish_seen_subcommand_from export' -l decimals -x -a '1 2 3 4 5 6 7 8 9 10 11 12 13 14 15 16 17 18 19 20 21 22 23 24 25 26 27 28 29 30' -d 'decimals, 1 to 30, rounded from the fractions, a half upwards; else in csv and json six, cut off, and in tables four, rounded'
 complete -c council-tools -n '__fish_seen_subcommand_from export' -l decimal -x -a '. ,' -d 'the decimal sign of csv; with a comma, semicolons separate the columns'
 complete -c council-tools -n '__fish_seen_subcommand_from export' -l game -r -F -d 'the game file of the report, for the names and units of its rules'
 complete -c council-tools -n '__fish_seen_subcommand_from export' -l mark -d 'a byte order mark in front of csv, by which Excel knows UTF-8'

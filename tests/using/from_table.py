@@ -194,7 +194,7 @@ class Refused(Cases):
 
     def test_words(self):
         self.check_all_refused([
-            ([], EEC, "say a quota"), (["1"] * 5, EEC, "say a quota"), (["half"], EEC, '"half" is no number'), (["50% + 1"], EEC, "write '>50%'"), (["120%"], EEC, "comes to 21, and must be from 1 to 17"), (["0"], EEC, "comes to 0"), (["heads:7"], EEC, "from 1 to 6"),
+            ([], EEC, "say a quota"), (["1"] * 5, EEC, "say a quota"), (["half"], EEC, "say a quota"), (["1", "nope2014"], EEC, "nope2014: No such file"), (["50% + 1"], EEC, "write '>50%'"), (["120%"], EEC, "comes to 21, and must be from 1 to 17"), (["0"], EEC, "comes to 0"), (["heads:7"], EEC, "from 1 to 6"),
             (["0.85"], EEC, "write 85% for a share"), (["heads:>0.5"], EEC, "write 'heads:>50%'"), (["1,000"], EEC, "--decimal"), (["1.5", "--decimal", ","], EEC, 'no number with ","'), (["1", "--weight", "x"], EEC, 'no column is "x", and line 1 has "Member", "Votes"'),
             (["1", "--weight", "3"], EEC, "no column"), (["1", "--weight", "Votes"], "a,Votes,Votes\nA,1,2\n", "more than one column"), (["1", "--weight", "1", "--name", "1"], EEC, "none twice"), (["1", "--name", "1", "--weight", "2", "--weight", "1"], EEC, "--weight names 2"),
             (["1", "--rows", "2-9"], EEC, "--rows 2-9: say lines", "the last is 7"), (["1", "--drop", "x"], EEC, "--drop x: say lines"), (["1", "--heading", "9"], EEC, "--heading 9: say lines"), (["1", "--rows", "1-3"], EEC, "no line of headings"), (["1", "--only", "Member=X"], EEC, "--only"),

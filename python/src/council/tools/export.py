@@ -12,9 +12,9 @@
 The columns of a table are name, weight, share (of the votes), coalitions, deegan_packel and
 public_good (decimals), deegan_packel_exact and public_good_exact (fractions), and of a report with
 swings also swings, banzhaf, penrose, shapley_shubik, and these three with _exact. With several rules
-there is a weight and a share for each. For a spreadsheet with a
-decimal comma, write CSV with --decimal , (in which semicolons separate the columns). With the game
-file, --game FILE, weights of a table are in their unit, and have its name.
+there is a weight and a share for each. For a spreadsheet with a decimal comma, write CSV with
+--decimal , (in which semicolons separate the columns). With the game file, --game FILE, weights of a
+table are in their unit, and have its name.
 """
 from __future__ import annotations
 
@@ -237,7 +237,7 @@ def main(args: list[str]) -> None:
     add_index(reader, **MANY)
     reader.add_argument("--columns", metavar="NAME,..", help="the columns of a table, in this order")
     reader.add_argument("--decimals", metavar="N", type=int, choices=range(1, 31),
-                        help="decimals, 1 to 30, rounded from the fractions, a half upwards; else in csv and json six, cut off, and in tables four")
+                        help="decimals, 1 to 30, rounded from the fractions, a half upwards; else in csv and json six, cut off, and in tables four, rounded")
     reader.add_argument("--decimal", choices=[".", ","], default=".", help="the decimal sign of csv; with a comma, semicolons separate the columns")
     reader.add_argument("--game", metavar="FILE", help="the game file of the report, for the names and units of its rules")
     reader.add_argument("--mark", action="store_true", help="a byte order mark in front of csv, by which Excel knows UTF-8")

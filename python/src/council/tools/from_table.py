@@ -22,7 +22,6 @@ from __future__ import annotations
 import argparse
 import csv
 import io
-import os
 import re
 import sys
 import unicodedata
@@ -388,9 +387,8 @@ def main(args: list[str]) -> None:
     reader.add_argument("--encoding", metavar="NAME", help="the encoding of the table, as cp1252; else UTF-8 or UTF-16")
     reader.add_argument("--quiet", action="store_true", help="do not say on standard error what was read")
     words = reader.parse_words(args)
-    # a word is a path if it looks like one, or is the name of a file and no number
-    is_path = re.compile(r"^(-$|~|\.{0,2}/)|\.[a-z]\w*$", re.I).search
-    paths = [it for it in words.quotas if is_path(it) or (not re.match(r"\W*\d|heads:", it) and os.path.exists(it))]
+    # a quota begins with a digit after its signs, but so does the file 2014.csv
+    paths = [it for it in words.quotas if not re.match(r"\W*(heads:)?\W*\d", it) or re.search(r"^(~|\.{0,2}/)|\.[a-z]\w*$", it, re.I)]
     quotas = [Quota(it) for it in words.quotas if it not in paths]
     if not 1 <= len(quotas) <= RULES or len(paths) > 1:
         raise Fault(f"say a quota for each rule, 1 to {RULES} of them, as 65% or '>50%' in quotes, and one table", 2)
