@@ -127,10 +127,7 @@ class Weights:
         which another was left out."""
         number, ends = self.number, {0, 1, self.number - 1, self.number, *left}
         runs = [(at, row) for at in range(row - 1)] + [(row + 1, at) for at in range(row + 3, number + 1)]
-        if row in (0, number - 1):
-            # another total may be between
-            runs += [(2, number) if row == 0 else (0, number - 2)] if number > 4 else []
-        elif self.values[row] < 1000:
+        if 0 < row < number - 1 and self.values[row] < 1000:
             # small numbers are sums by chance, most of all in order
             is_plain = is_ordered(self.values) and {*left} <= {0, number}
             runs = [] if is_plain else [it for it in runs if number <= 15 or it[it[0] > row] in ends]
@@ -144,19 +141,22 @@ class Weights:
 
     def find_reason(self, row: int, left: Collection[int]) -> str:
         """Returns why a row can hardly be a member, or nothing."""
-        value, others, rest = self.values[row], self.total - self.values[row], self.values[:row] + self.values[row + 1 :]
+        value, number, rest = self.values[row], self.number, sorted(self.values[:row] + self.values[row + 1 :], reverse=True)
+        others, is_edge = sum(rest), row in (0, number - 1) and number > 3
         years = [it % self.unit == 0 and 1900 <= it // self.unit <= 2099 for it in self.values]
-        is_edge = row in (0, self.number - 1) and self.number > 3
         # in a list by weight, the heaviest member is first or last
-        is_usual = is_ordered(self.values) and value < 3 * max(rest, default=0) and (row + (row > 0) not in left or 3 * value < 2 * others)
+        is_usual = is_ordered(self.values) and (row + (row > 0) not in left or 3 * value < 2 * others)
+        is_heavy = number > 3 and (value >= 3 * rest[2 if number > 15 else 0] > 0 or (is_edge and 4 * value >= 5 * rest[0] and not is_usual))
         doubts = {
-            "is the sum of all others": self.is_sum(row, others, self.number - 1),
-            "is near the sum of all others, or more": self.number > 2 and 20 * value >= 19 * others > 0 and not self.is_share,
+            "is the sum of all others": self.is_sum(row, others, number - 1),
+            # there may be other totals, heavier than members
+            "is the sum of most others": any(self.is_sum(row, sum(rest[at:]), number - 1 - at) for at in (1, 2, 3) if 4 * at < number and (is_edge or number > 7)),
+            "is near the sum of all others, or more": number > 2 and 20 * value >= 19 * others > 0 and not self.is_share,
             "is the sum of rows beside it": self.has_run(row, left),
-            "may be a year": years[row] and 2 * sum(years) <= self.number and (row < 2 or row > self.number - 3),
+            "may be a year": years[row] and 2 * sum(years) <= number and (row < 2 or row > number - 3),
             "breaks the order of the weights": self.breaks_order(row),
-            "is far heavier than the others": is_edge and 4 * value >= 5 * max(rest) and not self.is_share and not is_usual,
-            "is the average of all others": is_edge and min(rest) < value < max(rest) and 2 * abs(value * len(rest) - others) <= self.number,
+            "is far heavier than the others": is_heavy and not self.is_share,
+            "is the average of all others": is_edge and rest[-1] < value < rest[0] and 2 * abs(value * len(rest) - others) <= number,
             "is the only one with decimals": is_edge and value % self.unit and not any(it % self.unit for it in rest),
         }
         return next((why for why, doubt in doubts.items() if doubt), "")
