@@ -224,8 +224,7 @@ class Numbers(Cases):
             ("5.", None, None), ("-5", None, None), ("\u0663", None, None), ("1,00,000", None, None), ("1.000.00", None, None), ("1,000.5,5", None, None), ("0" * 40 + "5", None, None), ("9007199254740993", 9007199254740993, 9007199254740993),
         ]:
             it = Number(f" {text}\t")
-            wanted = {sign: Fraction(each) for sign, each in ((".", point), (",", comma)) if each is not None}
-            self.assertEqual((it.values, it.percent), (wanted, text.endswith("%")), text)
+            self.assertEqual((it.values, it.percent), ({sign: Fraction(each) for sign, each in ((".", point), (",", comma)) if each is not None}, text.endswith("%")), text)
 
     def test_sums_by_their_definition(self):
         """A row is a sum if, and only if, it has the sum of all others or of a run beside it."""
