@@ -126,11 +126,12 @@ class Weights:
         """Returns whether a row is the sum of a run of rows beside it. `left` has the rows above
         which another was left out."""
         number, ends = self.number, {0, 1, self.number - 1, self.number, *left}
-        runs = [(at, row) for at in range(row - 1)] + [(row + 1, at) for at in range(row + 3, number + 1)]
-        if 0 < row < number - 1 and self.values[row] < 1000:
-            # small numbers are sums by chance, most of all in order
-            is_plain = is_ordered(self.values) and {*left} <= {0, number}
-            runs = [] if is_plain else [it for it in runs if number <= 15 or it[it[0] > row] in ends]
+        # small numbers are sums by chance, most of all in order
+        is_telling = row in (0, number - 1) or self.values[row] >= 1000
+        if not is_telling and is_ordered(self.values) and {*left} <= {0, number}:
+            return False
+        ends = {*range(number + 1)} if is_telling or number <= 15 else ends
+        runs = [(at, row) for at in ends if at < row - 1] + [(row + 1, at) for at in ends if at > row + 2]
         return any(self.is_sum(row, self.sums[last] - self.sums[first], last - first) and sum(map(bool, self.values[first:last])) > 1 for first, last in runs)
 
     def breaks_order(self, row: int) -> bool:
@@ -257,8 +258,8 @@ class Table:
                 how = how if names[first] == name else f"in other letters; write both alike, or say --drop {line}"
                 raise Fault(f"{show(line, name, self.name)} is also in {show(self.rows[first][0], names[first])}: {how}")
             found[fold(name)] += [at] * (first != at)
-        if len(found) > MEMBERS:
-            raise Fault(f"there are {len(found)} members, and a game has at most {MEMBERS}: --rows, --drop and --only choose some")
+        if len(found) > MEMBERS or len(self.rows) > 1000:
+            raise Fault(f"{len(found)} members in {len(self.rows)} rows are more than {MEMBERS} in 1000: --rows, --drop and --only choose some")
         return {names[its[0]]: its for its in found.values()}
 
     def read_numbers(self, at: int) -> list[Number]:
