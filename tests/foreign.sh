@@ -127,7 +127,6 @@ same "40 members of two kinds" "$temp/kinds.toml" --tally --sizes
 # ---- hard games, listed and counted, from C. Each takes the program a second or two at most
 callers=()
 [ ! -x "$temp/report_c" ] || callers=(C)
-limit=$((seconds / 6))
 from_c() {
     same "$1" "$temp/rules.toml" --sizes --most 4000000
     same "$1, counted" "$temp/rules.toml" --tally --sizes
@@ -139,7 +138,6 @@ for quota in 8 20; do
     same "40 equal members, quota $quota, counted" "$temp/equal.txt" --tally
     same "40 equal members, quota $quota, only swings" "$temp/equal.txt" --only-swings
 done
-limit=$seconds
 callers=(${all_callers[@]+"${all_callers[@]}"})
 
 # ---- faults

@@ -44,7 +44,7 @@ class Export(Tests):
         write = cut_off if places is None else lambda it: round_half_up(it, places)
         rows = []
         for it in made.members:
-            shares = [round_half_up(made.share(it, rule), 6 if places is None else places) for rule in range(len(made.quotas))]
+            shares = [cut_off(made.share(it, rule)) if places is None else round_half_up(made.share(it, rule), places) for rule in range(len(made.quotas))]
             numbers = [f"{weight:,}" if form != "csv" else str(weight) for weight in it.weights]
             groups = []
             for group in made.groups:
@@ -67,7 +67,7 @@ class Export(Tests):
             self.assertEqual([[it.replace(",", ".") for it in row] for row in found[1:]], self.find_cells(made, places, "csv"))
             # for people, four decimals if nobody says how many
             wanted = self.find_cells(made, places or 4, "markdown")
-            found = [line.strip("| ").split(" | ") for line in Run("export", "markdown", *words, input=data).out.split("\n")[2:-1]]
+            found = [line.strip("| ").split(" | ") for line in Run("export", "markdown", *words, input=data).out.split("\n")[2:-3]]
             self.assertEqual(found, wanted)
             lines = Run("export", "latex", *words, input=data).out.split("\n")
             found = [line[: -len(" \\\\")].replace("$", "").split(" & ") for line in lines[lines.index("\\midrule") + 1 : lines.index("\\bottomrule")]]
@@ -90,7 +90,8 @@ class Export(Tests):
         cells = [it["name"] for it in csv.DictReader(io.StringIO(Run("export", "csv", input=HARD).out))]
         self.assertEqual(cells, ["'" + it for it in HOSTILE[:9]] + HOSTILE[9:])
         self.assertEqual(Run("export", "csv", "--columns", "name", input=of(" =1", "a=1", "\u2003=1", "\u00a0 @", "\u200b=1", "\ufeff+1")).out.count("\n\"'"), 5)
-        lines = Run("export", "markdown", input=SEVERAL).out.split("\n")[:-1]
+        *lines, empty, caption, _ = Run("export", "markdown", input=SEVERAL).out.split("\n")
+        self.assertEqual((empty, caption), ("", "Decimals are rounded to 4 places."))
         self.assertTrue(all(len(re.findall(r"(?<!\\)\|", it.replace("\\\\", ""))) == 7 for it in lines))
         signs = "".join(it for it in map(chr, range(33, 127)) if not it.isalnum())
         self.assertIn("| a " + "".join("\\" + it for it in signs) + " |", Run("export", "markdown", input=of(f"a {signs}")).out)

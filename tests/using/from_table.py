@@ -9,8 +9,8 @@ from fractions import Fraction
 
 from cases import HOSTILE, LOW, TEMP, Run, Tests, main, put, report
 from council.game import find_comments, read_units
-from council.tools.cells import Number
-from council.tools.doubts import Column
+from council.tools.from_table import Weights
+from council.tools.quotas import Number
 
 EEC = "Member,Votes\nGermany,4\nFrance,4\nItaly,4\nNetherlands,2\nBelgium,2\nLuxembourg,1\n"
 PANEL = "country,year,votes\nA,2004,6\nB,2004,4\nA,2014,7\nB,2014,4\n"
@@ -129,7 +129,6 @@ class Tables(Cases):
         self.check_game([">50%", "--of", "100"], "who,share\nA,.30\nB,.42\nC,.21\n", [51], [30, 42, 21])
         self.check_game(["6", "2", "--weight", "votes", "--weight", "veto"], "who,votes,veto\nA,5,x\nB,4,\nC,2,x\n", [6, 2], [[5, 1], [4, 0], [2, 1]])
         self.check_game(["2500", "--decimal", "."], 'who\tvotes\nA\t2,200\nB\t1,500\nC\t900\n', [2500], [2200, 1500, 900])
-        self.check_game(["101", "--round", "0"], "who,votes\nA,79.5\nB,60.5\nC,40.49\n", [101], [80, 61, 40])
         self.check_game(["7", "--name", "2"], "land,who,votes\nx,A,5\ny,B,4\nz,C,3\n", [7], [5, 4, 3])
         self.check_game(["heads:2", "--heading", "1"], "Fraktion\nA\nB\nC\n", [2], [1, 1, 1])
         self.check_game(["heads:2"], "Fraktion,Sitze\nA,5\nB,4\nC,3\n", [2], [1, 1, 1])
@@ -150,42 +149,42 @@ class Tables(Cases):
 class Refused(Cases):
     def test_what_is_no_clean_table(self):
         self.check_all_refused([
-            (["500"], "Holder,Votes\nA,1,200\nB,2,600\nC,900\n", 'line 2, "A", has 3 cells, and the heading, line 1, has 2', "1,200"),
-            (["heads:1", "5"], "holder\tvotes\n1\tA\t5\n2\tB\t3\n", "line 2", "has 3 cells", "col.names"),
-            (["5", "2", "--no-heading"], "A,1,000,5\nB,2,6\n", "line 2", "has 3 cells, and others have 4"),
-            (["500", "100", "--no-heading"], "A,1,000\nB,2,600\n", "halves of numbers as 1,000"),
-            (["500"], "A,1,000\nB,2,500\nC,900\n", 'line 3, "C"'), (["500", "--no-heading"], "A,1,000\nB,2,500\nC,3,900\n", "columns 2 and 3 have numbers", "--weight"),
-            (["5"], "Votes\n\nwho,votes\nA,5\nB,4\n", "line 3", "--heading N"), (["5"], "who,votes\nA,5\nB,4\nC,1\nSource\n", 'line 5, "Source", has 1 cell', "--drop 5"),
-            (["5"], "A,5\nB,4\n", 'line 1, column 2: "5" is a number, and no heading: say --heading N', "--no-heading"), (["5"], "who,2004\nA,5\nB,4\n", '"2004" is a number'), (["5", "--weight", "2"], "Col,2,3\nA,5,6\nB,4,5\n", '"2" is a number'),
-            (["5"], "Votes in Europe, 2004\nwho,votes\nA,5\nB,4\n", '"2004" is a number'), (["5"], "Votes, in Europe\nwho,votes\nA,5\nB,4\n", 'line 2, column 2: "votes" is no number', "--heading 2"), (["5"], "who,votes,,\n,2004,2014,2019\nA,5,4,3\n", "line 2"),
-            (["5"], "who,,votes\nA,x,5\nB,y,4\n", "columns 1"), (["5"], "who,votes\n,2004\nA,5\nB,4\n", "line 2: there is no name"), (["5"], "A,n/a\nB,5\nC,3\n", '"n/a" may be a heading'), (["5"], "A,-\nB,5\nC,3\n", '"-" may be a heading'),
-            (["5"], "who;2021 seats;2025 seats\nA;5;4\nB;4;-\nC;3;2\n", 'columns 2 "2021 seats" and 3 "2025 seats" have numbers', "--weight"), (["5", "--weight", "3"], "who;2021 seats;2025 seats\nA;5;4\nB;4;-\n", 'line 3, column 3: "-" is no number'),
-            (["5"], "who,votes,share\nA,5[a],50\nB,4,40\n", "columns 2"), (["5"], "who,land,votes\nA,x,5\nB,y,4\n", 'columns 1 "who" and 2 "land" have names', "--name"), (["2"], "rank,who\n1,A\n2,B\n3,C\n", 'column 1 "rank" counts 1, 2, 3, ..'),
-            (["5", "5"], "who,votes\nA,5\nB,4\n", "only column 2", "2 quotas"), (["5"], "who votes\nA 5\nB 4\n", "no column has numbers"), (["heads:2"], "who\nA\nB\n", "may be a heading or a member"), (["heads:2"], "who,land\nA,x\nB,y\n", "columns 1"),
-            (["5"], "who,votes\nA,5\nB,\nC,3\n", 'line 3, column 2 is empty: write 0 if "B"', "--drop 3"), (["5"], "who,votes\nA,5\nB,4 *\n", 'line 3, column 2: "4 *" is no number'), (["5"], "who,votes\nA,5\nB,-2\n", '"-2" is negative'), (["5"], "who,votes\nA,5\nB,− 2\n", "is negative"), ([">50%"], "who,votes\nA,1.23E+08\nB,1.2E+08\n", "may be rounded"),
-            (["5"], "who;votes\nA;1,5\nB;1.5\n", 'line 3, column 2: "1.5" is no number with ","', "line 2"), (["5"], "who\tvotes\nA\t1,000\nB\t5\n", '"1,000" may have decimals or thousands: say --decimal'), (["5"], "who,votes\nA,5%\nB,4\n", "some weights of this column have a percent sign"),
-            (["5"], "who,votes\nA,0\nB,0\n", "all weights are 0"), (["5"], "who,votes\nA,0.3333333333333333\nB,0.5\n", "--round N"), (["5"], "", "nothing was read"), (["5"], "who,votes\n", "no row below it"), (["5"], 'who,votes\n"A,5\n', "line 2: this is no row"), (["5"], b"PK\x03\x04", "export it as CSV"),
-            (["1"], "who,votes\n" + "".join(f"m{it},1\n" for it in range(41)), "41 members"), (["1"], "a,b\n" + "x,1\n" * 10001, "more than 10,000 lines"), (["1"], b"a" * (1 << 22) + b"b", "longer than 4 MiB"), (["1"], b"a,b\n\xc5,2\n", "line 2 is not utf-8-sig"), (["1", "--encoding", "hex"], "a,b\n", "no encoding"),
+            (["500"], "Holder,Votes\nA,1,200\nB,2,600\nC,900\n", 'line 2, "A", has 3 cells instead of 2', "1,200"),
+            (["heads:1", "5"], "holder\tvotes\n1\tA\t5\n2\tB\t3\n", "line 2", "has 3 cells instead of 2", "col.names"),
+            (["5", "2", "--no-heading"], "A,1,000,5\nB,2,6\n", "line 2", "has 3 cells instead of 4"),
+            (["500", "100", "--no-heading"], "A,1,000\nB,2,600\n", "column 2 and column 3 may have weights", "--weight"),
+            (["500"], "A,1,000\nB,2,500\nC,900\n", 'line 3, "C"'), (["500", "--no-heading"], "A,1,000\nB,2,500\nC,3,900\n", "column 2 and column 3 may have weights", "--weight"),
+            (["5"], "Votes\n\nwho,votes\nA,5\nB,4\n", "line 3", "--heading N"), (["5"], "who,votes\nA,5\nB,4\nC,1\nSource\n", 'line 5, "Source", has 1 cell instead of 2', "--drop 5"),
+            (["5"], "A,5\nB,4\n", 'line 1, column 2: "5" may be no heading: say --heading N', "--no-heading"), (["5"], "who,2004\nA,5\nB,4\n", '"2004" may be no heading'), (["5", "--weight", "2"], "Col,2,3\nA,5,6\nB,4,5\n", '"2" may be no heading'),
+            (["5"], "Votes in Europe, 2004\nwho,votes\nA,5\nB,4\n", '"2004" may be no heading'), (["5"], "Votes, in Europe\nwho,votes\nA,5\nB,4\n", 'line 2, column 2: "votes" is no number', "--heading 2"), (["5"], "who,votes,,\n,2004,2014,2019\nA,5,4,3\n", "line 2"),
+            (["5"], "who,,votes\nA,x,5\nB,y,4\n", "column 1"), (["5"], "who,votes\n,2004\nA,5\nB,4\n", 'line 2, column 1: "" is no name'), (["5"], "A,n/a\nB,5\nC,3\n", '"n/a" may be no heading'), (["5"], "A,-\nB,5\nC,3\n", '"-" may be no heading'),
+            (["5"], "who;2021 seats;2025 seats\nA;5;4\nB;4;-\nC;3;2\n", 'column 2, "2021 seats", and column 3, "2025 seats", may have weights', "--weight"), (["5", "--weight", "3"], "who;2021 seats;2025 seats\nA;5;4\nB;4;-\n", 'line 3, column 3: "-" is no number'),
+            (["5"], "who,votes,share\nA,5[a],50\nB,4,40\n", "column 2"), (["5"], "who,land,votes\nA,x,5\nB,y,4\n", 'column 1, "who", and column 2, "land", may have names', "--name"), (["2"], "rank,who\n1,A\n2,B\n3,C\n", 'column 1, "rank", may have weights (1, 2, 3, .. may count the rows)'),
+            (["5", "5"], "who,votes\nA,5\nB,4\n", 'column 2, "votes", may have weights, and 2 are wanted'), (["5"], "who votes\nA 5\nB 4\n", "no column may have weights"), (["heads:2"], "who\nA\nB\n", "may be no heading"), (["heads:2"], "who,land\nA,x\nB,y\n", "column 1"),
+            (["5"], "who,votes\nA,5\nB,\nC,3\n", 'line 3, column 2: "" is no number', "0 for no weight", "--drop 3"), (["5"], "who,votes\nA,5\nB,4 *\n", 'line 3, column 2: "4 *" is no number'), (["5"], "who,votes\nA,5\nB,-2\n", '"-2" is no number'), (["5"], "who,votes\nA,5\nB,− 2\n", "is no number of at least 0"), ([">50%"], "who,votes\nA,1.23E+08\nB,1.2E+08\n", "written in full"),
+            (["5"], "who;votes\nA;1,5\nB;1.5\n", 'line 3, column 2: "1.5" is no number with ","', "line 2"), (["5"], "who\tvotes\nA\t1,000\nB\t5\n", '"1,000" may have decimals or thousands: say --decimal'), (["5"], "who,votes\nA,5%\nB,4\n", "some weights have a percent sign"),
+            (["5"], "who,votes\nA,0\nB,0\n", "from 1 to 0, the total"), (["5"], "who,votes\nA,0.3333333333333333\nB,0.5\n", "export fewer decimals"), (["5"], "", "the table has no line"), (["5"], "who,votes\n", "no row of a member"), (["5"], 'who,votes\n"A,5\n', "line 2 is no row"), (["5"], b"PK\x03\x04", "export it as CSV"),
+            (["1"], "who,votes\n" + "".join(f"m{it},1\n" for it in range(41)), "41 members"), (["1"], "a,b\n" + "x,1\n" * 10001, "more than 10,000"), (["1"], b"a" * (1 << 22) + b"b", "longer than 4 MiB"), (["1"], b"a,b\n\xc5,2\n", "line 2 is no row of a table in utf-8-sig"), (["1", "--encoding", "hex"], "a,b\n", "in hex"),
         ])
 
     def test_rows_that_are_no_members(self):
         regions = "Region,Votes\nNorth,15\nA,10\nB,5\nSouth,17\nC,8\nD,9\nAll,32\n"
         europe = "geo,people\nEU,447\nEuro area,346\nBE,11\nBG,7\nDE,83\nFR,67\nIT,60\nES,47\nNL,17\nPL,38\nRO,19\nSE,10\nHU,10\nCZ,10\nAT,9\nPT,10\nGR,11\nFI,5\nIE,5\nDK,6\nSK,5\nHR,4\nLT,3\nLV,2\nSI,2\nCY,1\nEE,1\nLU,1\nMT,3\n"
         self.check_all_refused([
-            (["20"], regions, "line 2", "line 5", "line 8"), (["20", "--drop", "2,8"], regions, 'line 5, "South", is the sum of the 2 rows below it'), (["20", "--drop", "5"], regions, "line 2"),
-            (["20"], "who,votes\nX,9\nA,5\nB,3\nSub,8\nC,2\n", 'line 5, "Sub"'), (["65%"], europe, "line 2", "line 3"), (["65%", "--drop", "2"], europe, 'line 3, "Euro area"'), (["65%", "--rows", "3-30"], europe, '"447" is a number, and no heading'), (["65%", "--rows", "3-30", "--heading", "1"], europe, "line 3"),
+            (["20"], regions, "line 2", "line 5", "line 8"), (["20", "--drop", "2,8"], regions, 'line 5, "South", is the sum of rows beside it'), (["20", "--drop", "5"], regions, "line 2"),
+            (["20"], "who,votes\nX,9\nA,5\nB,3\nSub,8\nC,2\n", 'line 5, "Sub"'), (["65%"], europe, "line 2", "line 3"), (["65%", "--drop", "2"], europe, 'line 3, "Euro area"'), (["65%", "--rows", "3-30"], europe, '"447" may be no heading'), (["65%", "--rows", "3-30", "--heading", "1"], europe, "line 3"),
             (["12"], EEC + "Summa,17\n", 'line 8, "Summa", is the sum of all others'), (["12"], EEC + "Razem,19\n", "line 8"), (["12"], EEC + "Quota,12\n", "line 8"), (["12"], EEC + "Blocking minority,6\n", "line 8"), (["12"], EEC + "Average,2.8\n", "line 8"),
-            (["12"], EEC + "Treaty of Rome, 1957\n", "line 8"), (["12"], EEC + "Source: Treaty, 1957\nNote: weights, 4\n", "line 8", "line 9"), (["12"], EEC + "Note: as of, 1\n", "may be a note"), (["12"], "Member,Votes\nYear,1958\n" + EEC[13:], "may be a year"),
-            (["12"], "Member,Votes\nTotal,5\n" + EEC[13:], "a total by its name"), (["6"], "Col,x,y\nn,1,2\nA,4,50\nB,3,45\nC,2,49\n", "columns 2"), (["6", "heads:2", "--weight", "x"], "Col,x,y\nn,1,2\nA,4,50\nB,3,45\nC,2,49\n", "numbers of the columns"),
-            (["heads:2"], "who,votes\nA,4\nB,3\nx,7\n", "is the sum of all others"), (["4"], "who,votes\nA,3\nB,3\n", "is the sum of all others"), (["51"], "who,votes\nA,50\nB,49\nC,1\n", "is the sum of all others"), (["40"], "who,votes\nA,40\nB,30\nC,29\nD,10\n", "the weight of the quota"),
+            (["12"], EEC + "Treaty of Rome, 1957\n", "line 8"), (["12"], EEC + "Source: Treaty, 1957\nNote: weights, 4\n", "line 8", "line 9"), (["12"], EEC + "Note: as of, 1\n", "a note"), (["12"], "Member,Votes\nYear,1958\n" + EEC[13:], "line 2"),
+            (["12"], "Member,Votes\nTotal,5\n" + EEC[13:], "may be a total"), (["6"], "Col,x,y\nn,1,2\nA,4,50\nB,3,45\nC,2,49\n", "column 2"), (["6", "heads:2", "--weight", "x"], "Col,x,y\nn,1,2\nA,4,50\nB,3,45\nC,2,49\n", "numbers of the columns"),
+            (["70%"], "who,votes\nx,32\ny,24\nA,9\nB,8\nC,6\nD,5\nE,3\nF,1\n", "line 2"), (["70%"], "who,votes\nA,5\nB,6\nC,7\nD,8\nE,9\nx,27\n", "is far heavier"), (["heads:2"], "who,votes\nA,4\nB,3\nx,7\n", "is the sum of all others"), (["4"], "who,votes\nA,3\nB,3\n", "is the sum of all others"), (["51"], "who,votes\nA,50\nB,49\nC,1\n", "is the sum of all others"), (["40"], "who,votes\nA,40\nB,30\nC,29\nD,10\n", "the weight of the quota"),
             ([">50%"], "who,share\nA,30%\nB,20%\nC,12%\n", "adds up to 62 instead of 100", "--of sum"), ([">50"], "who,share\nA,30%\nB,20%\nC,12%\n", "--of 100"), (["60"], "who,share (%)\nA,33\nB,33\nC,33\n", "--of"), (["60"], "who,share\nA,33.01\nB,33.01\nC,33.01\n", "99.03"), ([">50%"], "who,share\nA,.30\nB,.42\nC,.21\n", "0.93 instead of 1"),
             ([">50%"], "who,share\nA,50%\nB,30%\nC,20%\nx,100%\n", "adds up to 200"),
         ])
 
     def test_names(self):
         for one, other in [("a", "A"), ("\xe9", "e\u0301"), ("A B", "A\u00a0B"), ("AB", "A\u200bB"), ("STRASSE", "straße"), ("A", "Ａ"), ("A", "A")]:
-            self.check_refused(read("6", table=f"who,votes\n{one},5\n{other},4\nC,2\n"), "line 3: the name", "line 2", status=1)
-        self.check_refused(read("8", "--weight", "votes", table=PANEL), 'line 4: the name "A" is in line 2 too: say --only year=2014')
+            self.check_refused(read("6", table=f"who,votes\n{one},5\n{other},4\nC,2\n"), "line 3, column 1", "line 2", status=1)
+        self.check_refused(read("8", "--weight", "votes", table=PANEL), 'line 4, column 1: "A" is also in line 2, "A": say --only \'year=2014\'')
         for it in "é" * 33, "A\x07", "\u200b":
             self.check_refused(read("6", table=f"who,votes\n{it},5\nB,4\nC,2\n"), "line 2")
         cells = ['"' + it.replace('"', '""') + '"' for it in HOSTILE if it.strip() and not any(unicodedata.normalize("NFKC", it) == unicodedata.normalize("NFKC", other) != it for other in HOSTILE)]
@@ -195,16 +194,15 @@ class Refused(Cases):
 
     def test_words(self):
         self.check_all_refused([
-            ([], EEC, "say a quota"), (["1"] * 5, EEC, "say a quota"), (["half"], EEC, '"half" is no number'), (["50% + 1"], EEC, "write '>50%'"), (["120%"], EEC, "comes to 21, and must be from 1 to 17"), (["0"], EEC, "comes to 0"), (["heads:7"], EEC, "from 1 to 6"),
-            (["0.85"], EEC, "write 85% for a share"), (["heads:>0.5"], EEC, "write 'heads:>50%'"), (["1,000"], EEC, "--decimal"), (["1.5", "--decimal", ","], EEC, 'no number with ","'), (["1", "--weight", "x"], EEC, 'no column "x": line 1 has "Member", "Votes"'),
-            (["1", "--weight", "3"], EEC, "no column"), (["1", "--weight", "Votes"], "a,Votes,Votes\nA,1,2\n", "columns 2 and 3"), (["1", "--weight", "1", "--name", "1"], EEC, "named twice"), (["1", "--name", "1", "--weight", "2", "--weight", "1"], EEC, "--weight names 2"),
-            (["1", "--rows", "2-9"], EEC, "--rows 2-9: no row begins in line 9"), (["1", "--drop", "x"], EEC, '"x" names no lines'), (["1", "--heading", "9"], EEC, "line 9"), (["1", "--rows", "1-3"], EEC, "no line of headings"), (["1", "--only", "Member=X"], EEC, "Member=Germany"),
+            ([], EEC, "say a quota"), (["1"] * 5, EEC, "say a quota"), (["half"], EEC, "say a quota"), (["1", "nope2014"], EEC, "nope2014: No such file"), (["50% + 1"], EEC, "write '>50%'"), (["120%"], EEC, "comes to 21, and must be from 1 to 17"), (["0"], EEC, "comes to 0"), (["heads:7"], EEC, "from 1 to 6"),
+            (["0.85"], EEC, "write 85% for a share"), (["heads:>0.5"], EEC, "write 'heads:>50%'"), (["1,000"], EEC, "--decimal"), (["1.5", "--decimal", ","], EEC, 'no number with ","'), (["1", "--weight", "x"], EEC, 'no column is "x", and line 1 has "Member", "Votes"'),
+            (["1", "--weight", "3"], EEC, "no column"), (["1", "--weight", "Votes"], "a,Votes,Votes\nA,1,2\n", "more than one column"), (["1", "--weight", "1", "--name", "1"], EEC, "none twice"), (["1", "--name", "1", "--weight", "2", "--weight", "1"], EEC, "--weight names 2"),
+            (["1", "--rows", "2-9"], EEC, "--rows 2-9: say lines", "the last is 7"), (["1", "--drop", "x"], EEC, "--drop x: say lines"), (["1", "--heading", "9"], EEC, "--heading 9: say lines"), (["1", "--rows", "1-3"], EEC, "no line of headings"), (["1", "--only", "Member=X"], EEC, "--only"),
             (["1", "--heading", "1", "--no-heading"], EEC, "not allowed with"), (["1", "--what"], EEC, "unrecognized"), (["12", f"{TEMP}/none.csv"], EEC, "none.csv: No such file"), (["12", TEMP], EEC, "Is a directory"), (["9", "--title", "t" * 201], EEC, "the title"),
         ])
         path = put("table.csv", EEC)
-        for words in ["12", path], [path, "12"]:
-            self.assertEqual(Run("from-table", *words).out, read("12", table=EEC).out)
-        self.assertEqual(Run("from-table", "12", path, apart=True).out, read("12", table=EEC).out)
+        for words, apart in (["12", path], True), ([path, "12"], False):
+            self.assertEqual(Run("from-table", *words, apart=apart).out, read("12", table=EEC).out)
 
 
 class Numbers(Cases):
@@ -226,8 +224,7 @@ class Numbers(Cases):
             ("5.", None, None), ("-5", None, None), ("\u0663", None, None), ("1,00,000", None, None), ("1.000.00", None, None), ("1,000.5,5", None, None), ("0" * 40 + "5", None, None), ("9007199254740993", 9007199254740993, 9007199254740993),
         ]:
             it = Number(f" {text}\t")
-            self.assertEqual([it.value(sign) if it.good and it.is_valid_with(sign) else None for sign in ".,"], [None if each is None else Fraction(each) for each in (point, comma)], text)
-            self.assertEqual(it.percent, text.endswith("%"))
+            self.assertEqual((it.values, it.percent), ({sign: Fraction(each) for sign, each in ((".", point), (",", comma)) if each is not None}, text.endswith("%")), text)
 
     def test_sums_by_their_definition(self):
         """A row is a sum if, and only if, it has the sum of all others or of a run beside it."""
@@ -236,7 +233,8 @@ class Numbers(Cases):
             its = [Fraction(rng.randint(0, 30)) for _ in range(rng.randint(3, 9))]
             sums = {at for at, it in enumerate(its) if it and (2 * it == sum(its) or any(
                 it == sum(run) and sum(map(bool, run)) > 1 for end in range(len(its) + 1) for run in ([its[end:at]] if end < at else [its[at + 1 : end]])))}
-            found = set(Column(its, False).find_sums(()))
+            weights = Weights(its, False, "", "")
+            found = {at for at, it in enumerate(its) if weights.is_sum(at, sum(its) - it, len(its) - 1) or weights.has_run(at, ())}
             if its not in (sorted(its), sorted(its)[::-1]):
                 self.assertLessEqual(sums, found, its)
             self.assertTrue(sums or not found or len(its) > 4, its)

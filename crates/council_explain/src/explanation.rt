@@ -123,6 +123,9 @@ impl<'a> Explanation<'a> {
         self.line(message);
         match text.as_bytes().get(place) {
             Some(b'%' | b'/') => self.line(GUIDE),
+            Some(b'.') if front.trim_start() == "[0" && text.matches('.').count() == 1 => {
+                self.line("a share of the total: write how many votes that is");
+            }
             Some(b'.') => self.explain_factor('.'),
             _ => {}
         }

@@ -2,6 +2,7 @@
 use crate::explanation::{Explanation, elements, short, value_of};
 use crate::numbers::kind;
 use council_base::limits;
+use std::num::{nearest_u64_to_f64, saturating_f64_to_u64};
 use toml::Value;
 
 /// How each member begins.
@@ -126,11 +127,29 @@ impl Explanation<'_> {
     pub fn explain_quota(&mut self) {
         self.explain_key(None, "quota");
         if let Some(value) = self.table.get("quota") {
-            self.explain_number(value, "a quota is a whole number, without quotes");
+            self.explain_share(value, 0, "a quota is a whole number, without quotes");
         } else if self.table.is_empty() {
             self.line("the file holds no game: it has neither a quota nor a member");
         } else {
             self.line("the file has no quota: write a line such as quota = 51 before the members");
+        }
+    }
+
+    /// Says what is wrong with the quota of a rule, and how many votes a share of whole weights is.
+    fn explain_share(&mut self, quota: &Value, rule: usize, wanted: &str) {
+        match (quota, self.total_of(rule)) {
+            (Value::Float(share), Some(total)) if 0.0 < *share && *share < 1.0 && 0 < total => {
+                self.explain_value(quota, wanted);
+                // 0.29 of 100 is 28.999999999999996
+                let votes = *share * nearest_u64_to_f64(total);
+                let slack = votes * 1e-15 + 1e-9;
+                let least = saturating_f64_to_u64(votes - slack).saturating_add(1);
+                let more = saturating_f64_to_u64(votes + slack).saturating_add(1);
+                self.line(format_args!(
+                    "a share of the total: write {least} for at least {share} of {total}, {more} for more than that"
+                ));
+            }
+            _ => self.explain_number(quota, wanted),
         }
     }
 
@@ -140,9 +159,9 @@ impl Explanation<'_> {
         let has_quota = self.table.contains_key("quota");
         self.explain_key(None, "quotas");
         self.explain_key(None, "quota");
-        for quota in quotas {
+        for (rule, quota) in quotas.iter().enumerate() {
             if !matches!(quota, Value::Integer(_)) {
-                return self.explain_number(quota, "quotas are 1 to 4 whole numbers");
+                return self.explain_share(quota, rule, "quotas are 1 to 4 whole numbers");
             }
         }
         if has_quota && self.table.contains_key("quotas") {
@@ -158,12 +177,12 @@ impl Explanation<'_> {
     pub fn explain_quota_range(&mut self) {
         if let Some(quota) = self.table.get("quota") {
             self.explain_key(None, "quota");
-            let total = self.total_of(0);
+            let total = self.total_of(0).unwrap_or(0);
             return self.explain_range(format_args!("the quota is {}", short(quota)), total);
         }
         self.explain_key(None, "quotas");
         for (index, quota) in elements(self.table, "quotas").iter().enumerate() {
-            let total = self.total_of(index);
+            let total = self.total_of(index).unwrap_or(0);
             if !matches!(quota, Value::Integer(n) if 1 <= *n && (*n as u64) <= total) {
                 let number = index.saturating_add(1);
                 let quota = short(quota);
@@ -172,18 +191,19 @@ impl Explanation<'_> {
         }
     }
 
-    /// Returns the total of the weights under a rule.
-    fn total_of(&self, rule: usize) -> u64 {
+    /// Returns the total of the weights under a rule, if they are whole numbers.
+    fn total_of(&self, rule: usize) -> Option<u64> {
         let mut total = 0u64;
         for member in elements(self.table, "member") {
             let weight = match member.get("weights") {
                 Some(weights) => weights.get(rule),
                 None => member.get("weight"),
             };
-            if let Some(Value::Integer(weight)) = weight {
-                total = total.saturating_add(u64::try_from(*weight).unwrap_or(0));
-            }
+            let Some(Value::Integer(weight)) = weight else {
+                return None;
+            };
+            total = total.saturating_add(u64::try_from(*weight).unwrap_or(0));
         }
-        total
+        Some(total)
     }
 }

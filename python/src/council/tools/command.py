@@ -9,7 +9,7 @@ from typing import Any, Callable, NoReturn, Optional, Sequence, TextIO, TypeVar,
 
 from ..columns import INDICES, SWINGS, Index
 from ..engine import NotFound, Refused
-from ..game import GAME_FILE, Unit, check_same, describe_low_quotas, find_comments, read_units
+from ..game import GAME_FILE, Unit, check_same, describe_low_quotas, find_comments, find_slips, read_units
 from ..reports import Coalition, Fault, Report, ignore
 
 # the name of the tool that runs
@@ -158,6 +158,8 @@ def read_comments(path: Optional[str], report: Report) -> tuple[list[str], list[
         if len(text.encode()) > GAME_FILE:
             raise Fault(f"the game file is longer than {GAME_FILE} bytes")
         check_same(text, report)
+        for it in find_slips(text):
+            note(it)
         return text
 
     comments = find_comments(read_lines(path, make))

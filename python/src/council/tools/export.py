@@ -12,9 +12,9 @@
 The columns of a table are name, weight, share (of the votes), coalitions, deegan_packel and
 public_good (decimals), deegan_packel_exact and public_good_exact (fractions), and of a report with
 swings also swings, banzhaf, penrose, shapley_shubik, and these three with _exact. With several rules
-there is a weight and a share for each. For a spreadsheet with a
-decimal comma, write CSV with --decimal , (in which semicolons separate the columns). With the game
-file, --game FILE, weights of a table are in their unit, and have its name.
+there is a weight and a share for each. For a spreadsheet with a decimal comma, write CSV with
+--decimal , (in which semicolons separate the columns). With the game file, --game FILE, weights of a
+table are in their unit, and have its name.
 """
 from __future__ import annotations
 
@@ -70,10 +70,8 @@ class Column:
         kind, rule = self.kind, self.rule or 0
         if kind == "weight":
             return self.unit.write_plain(member.weights[rule])
-        if kind == "share":
-            return round_half_up(report.share(member, rule), 6 if places is None else places)
         if kind in DECIMALS:
-            exact = getattr(member, kind + "_exact")
+            exact = report.share(member, rule) if kind == "share" else getattr(member, kind + "_exact")
             return cut_off(exact) if places is None else round_half_up(exact, places)
         it = getattr(member, kind)
         return write_fraction(it) if kind in EXACT else str(it)
@@ -142,9 +140,13 @@ def escape_latex(text: str) -> str:
     return "".join(letters)
 
 
-def write_latex(report: Report, columns: Sequence[Column], places: Optional[int]) -> Iterator[str]:
-    if report.title:
-        yield f"% {report.title}"
+def write_caption(columns: Sequence[Column], places: int) -> list[str]:
+    """Says how decimals are rounded, if a table has any."""
+    return [f"Decimals are rounded to {places} places."] if any(it.kind in DECIMALS for it in columns) else []
+
+
+def write_latex(report: Report, columns: Sequence[Column], places: int) -> Iterator[str]:
+    yield from (f"% {it}" for it in [report.title, *write_caption(columns, places)] if it)
     yield "% \\usepackage{booktabs}, and \\usepackage[T1]{fontenc} for letters with accents"
     for letter in sorted(set("".join(unicodedata.normalize("NFC", it.name) for it in report.members))):
         if letter > "\u017f" or "\x7f" < letter < "\xa0":
@@ -169,7 +171,7 @@ def write_latex(report: Report, columns: Sequence[Column], places: Optional[int]
     yield "\\end{tabular}" + ("}" if is_wide else "")
 
 
-def write_markdown(report: Report, columns: Sequence[Column], places: Optional[int]) -> Iterator[str]:
+def write_markdown(report: Report, columns: Sequence[Column], places: int) -> Iterator[str]:
     def write_row(cells: Iterable[str]) -> str:
         return "| " + " | ".join(cells) + " |"
 
@@ -181,6 +183,7 @@ def write_markdown(report: Report, columns: Sequence[Column], places: Optional[i
     for member in report.members:
         cells = [(it.kind, it.write_for_people(report, member, places)) for it in columns]
         yield write_row([escape(text) if kind == "name" else text for kind, text in cells])
+    yield from (f"\n{it}" for it in write_caption(columns, places))
 
 
 def make_pair(value: Fraction) -> list[object]:
@@ -230,7 +233,7 @@ def main(args: list[str]) -> None:
     add_index(reader, **MANY)
     reader.add_argument("--columns", metavar="NAME,..", help="the columns of a table, in this order")
     reader.add_argument("--decimals", metavar="N", type=int, choices=range(1, 31),
-                        help="decimals, 1 to 30, rounded from the fractions, a half upwards; else in csv and json six, cut off, and in tables four")
+                        help="decimals, 1 to 30, rounded from the fractions, a half upwards; else in csv and json six, cut off, and in tables four, rounded")
     reader.add_argument("--decimal", choices=[".", ","], default=".", help="the decimal sign of csv; with a comma, semicolons separate the columns")
     reader.add_argument("--game", metavar="FILE", help="the game file of the report, for the names and units of its rules")
     reader.add_argument("--mark", action="store_true", help="a byte order mark in front of csv, by which Excel knows UTF-8")

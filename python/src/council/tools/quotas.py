@@ -1,14 +1,57 @@
-"""Reads a quota as a person writes it: 255, 65%, '>50%', 2/3."""
+"""Reads a number as a table has it, and a quota as a person writes it: 255, 65%, '>50%', 2/3."""
 from __future__ import annotations
 
 import math
 import re
 from fractions import Fraction
-from typing import NoReturn, Optional
+from typing import Optional
 
-from ..game import quote
+from ..game import quote, quote_for_shell
 from ..reports import Fault
-from .cells import Number, count_decimals, write_plain
+
+BLANKS = " \u00a0\u2007\u2009\u202f"
+OTHER = {".": ",", ",": "."}
+
+
+class Number:
+    """A number as a cell has it: with a point or a comma, thousands separators, a percent sign."""
+
+    def __init__(self, text: str) -> None:
+        self.text = text.strip(BLANKS + "\t")
+        self.percent = self.text.endswith("%")
+        digits = self.text[:-1].strip(BLANKS) if self.percent else self.text
+        if re.match(rf"\d{{1,3}}([{BLANKS}'’]\d{{3}})+([.,]|$)", digits):
+            digits = re.sub(rf"[{BLANKS}'’]", "", digits)
+        # its value by each decimal sign that makes it a number; the other sign separates thousands
+        self.values: dict[str, Fraction] = {}
+        for sign in OTHER:
+            match = re.fullmatch(rf"(\d*|[1-9]\d{{0,2}}(?:[{OTHER[sign]}]\d{{3}})+)(?:[{sign}](\d+))?(?:[eE]([+-]?\d{{1,3}}))?", digits, re.A)
+            if match and (match[1] or match[2]) and len(digits) <= 40:
+                decimals = match[2] or ""
+                self.values[sign] = int(match[1].replace(OTHER[sign], "") + decimals) * Fraction(10) ** (int(match[3] or 0) - len(decimals))
+
+    def find_decimal(self) -> Optional[str]:
+        """Returns its decimal sign; None if it has none, or if both readings make a number."""
+        return next(iter(self.values)) if len(self.values) == 1 else None
+
+    def is_open(self) -> bool:
+        """Returns whether it is two different numbers: 1,000 is a thousand, or one."""
+        return len({*self.values.values()}) > 1
+
+
+def count_decimals(value: Fraction) -> int:
+    """Returns how many decimals a value has, which is a whole number over a power of ten."""
+    places = 0
+    while (value * 10**places).denominator != 1:
+        places += 1
+    return places
+
+
+def write_plain(value: Fraction, most: int = 6) -> str:
+    """Writes a value with its decimals, cut off after `most`, and with commas between thousands."""
+    places = next((it for it in range(most) if (value * 10**it).denominator == 1), most)
+    whole, decimals = divmod(math.floor(value * 10**places), 10**places)
+    return f"{whole:,}" + (f".{decimals:0{places}}" if places else "") + ("" if (value * 10**places).denominator == 1 else "..")
 
 
 class Quota:
@@ -17,50 +60,44 @@ class Quota:
 
     def __init__(self, text: str) -> None:
         self.text = text
-        rest = text.strip()
-        self.heads = rest.startswith("heads:")
-        rest = rest[len("heads:"):].strip() if self.heads else rest
-        sign = next((it for it in (">=", "≥", ">") if rest.startswith(it)), "")
-        self.more = sign == ">"
-        rest = rest[len(sign):].strip()
-        match = re.fullmatch(r"(\d{1,18})\s*/\s*(\d{1,18})", rest, re.A)
-        self.share = Fraction(int(match[1]), int(match[2])) if match and int(match[2]) else None
-        self.number = None if match else Number(rest)
+        heads, sign, rest = re.findall(r"^\s*(heads:)?\s*(>=|≥|>)?\s*(.*?)\s*$", text, re.S)[0]
+        self.heads, self.more = bool(heads), sign == ">"
+        share = re.fullmatch(r"(\d{1,18})\s*/\s*0*([1-9]\d{0,17})", rest, re.A)
+        self.share = Fraction(int(share[1]), int(share[2])) if share else None
+        self.number = Number(rest)
         if re.search(r"[%\d]\s*\+\s*1$", rest):
             raise Fault(f"the quota {quote(text)}: write '>{rest.partition('+')[0].strip()}' for more than that, or the number of votes", 2)
-        if (match and not self.share) or (self.number and not self.number.good):
+        if not self.share and not self.number.values:
             raise Fault(f"the quota {quote(text)} is no number, no percentage as 65% or '>50%', and no fraction as 2/3", 2)
 
-    def is_open(self) -> bool:
-        """Returns whether its point or comma may stand before decimals or between thousands."""
-        return bool(self.number and self.number.is_open())
+    def read_value(self, decimal: Optional[str]) -> tuple[Fraction, bool]:
+        """Returns what it says, and whether that is a share of all."""
+        if self.share is not None:
+            return self.share, True
+        if self.number.is_open() and decimal is None:
+            raise Fault(f"the quota {quote(self.text)} may have decimals or thousands: say --decimal . or --decimal ,", 2)
+        decimal = decimal or self.number.find_decimal() or "."
+        if decimal not in self.number.values:
+            raise Fault(f"the quota {quote(self.text)} is no number with {quote(decimal)} before its decimals", 2)
+        value = self.number.values[decimal]
+        if 0 < value < 1 and not self.number.percent:
+            # 0.85 votes would let each member win
+            share = f"{'heads:' * self.heads}{'>' * self.more}{write_plain(value * 100, count_decimals(value * 100))}%"
+            raise Fault(f"the quota {quote(self.text)} is less than 1: write {share if not self.more else quote_for_shell(share)} for a share of all", 2)
+        return (value / 100, True) if self.number.percent else (value, False)
+
+    def round_up(self, exact: Fraction) -> int:
+        """Returns the least whole number that is at least, or more than, an exact quota."""
+        return math.floor(exact) + 1 if self.more else math.ceil(exact)
 
     def make_whole(self, total: int, scale: int, decimal: Optional[str], whole: Optional[int] = None) -> tuple[int, str]:
         """Returns the quota as a whole number, and how it was found. The weights were multiplied by
         `scale`, and add up to `total`; a share is one of `whole`, if that is another number."""
-        share = self.share
-        if self.number:
-            if self.is_open() and decimal is None:
-                raise Fault(f"the quota {quote(self.text)} may have decimals or thousands: say --decimal . or --decimal ,", 2)
-            decimal = decimal or self.number.decimal() or "."
-            if not self.number.is_valid_with(decimal):
-                raise Fault(f"the quota {quote(self.text)} is no number with {quote(decimal)} before its decimals", 2)
-            value = self.number.value(decimal)
-            share = value / 100 if self.number.percent else None
-            if share is None and 0 < value < 1:
-                self.refuse_small(value)
+        value, is_share = self.read_value(decimal)
         whole = total if whole is None else whole
-        exact = value * scale if share is None else share * whole
-        quota = math.floor(exact) + 1 if self.more else math.ceil(exact)
+        exact = value * (whole if is_share else scale)
+        quota = self.round_up(exact)
         if not 1 <= quota <= total:
             raise Fault(f"the quota {quote(self.text)} comes to {quota:,}, and must be from 1 to {total:,}, the total", 2)
-        words = "more than" if self.more else "at least"
-        of = "" if share is None else f"{share.numerator}/{share.denominator} of {whole:,}, which is "
-        return quota, f"{words} {of}{write_plain(exact)}" + ("" if exact == quota else f", so {quota:,}")
-
-    def refuse_small(self, value: Fraction) -> NoReturn:
-        """Refuses 0.85, with which each member would win alone, and says how to write the share."""
-        percent = write_plain(value * 100, count_decimals(value * 100))
-        share = ("heads:" if self.heads else "") + (">" if self.more else "") + percent + "%"
-        word = f"'{share}'" if self.more else share
-        raise Fault(f"the quota {quote(self.text)} is less than 1: write {word} for a share of all", 2)
+        of = f"{value.numerator}/{value.denominator} of {whole:,}, which is " if is_share else ""
+        return quota, f"{'more than' if self.more else 'at least'} {of}{write_plain(exact)}" + ("" if exact == quota else f", so {quota:,}")

@@ -24,10 +24,9 @@ from ..columns import MINIMAL, SWINGS, Group, Index
 from ..engine import Refused, compute, find_program
 from ..game import GAME_FILE, Unit, find_comments, find_slips, quote, read_units, write_game
 from ..reports import Fault, Report, cut_off, ignore, round_half_up, write_fraction
-from .cells import count_decimals
 from .command import Words, add_index, find_index, make_printable, note
 from .drawing import COLORS, DASHES, find_round_step, find_ticks, measure, wrap, write_picture, write_text
-from .quotas import Quota
+from .quotas import Quota, count_decimals
 
 MOST = 20000
 LEFT, WIDE, SMALL = 60, 560, 10
