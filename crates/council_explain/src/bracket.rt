@@ -9,6 +9,9 @@ type Misfit<'a> = (&'a str, &'static str);
 /// What may stand between two numbers or signs.
 const BLANKS: &[char] = &[' ', '\t', '\r', '\n'];
 
+/// What may stand around a number.
+const AROUND: &[char] = &[' ', '\t', '\r', '\n', '[', ']'];
+
 /// Skips a sign, and the blanks after it.
 fn skip<'a>(text: &'a str, sign: char, expected: &'static str) -> Result<&'a str, Misfit<'a>> {
     match text.strip_prefix(sign) {
@@ -54,7 +57,7 @@ pub fn skip_text(text: &str) -> Result<&str, Misfit<'_>> {
 
 /// The number that stands between blanks and brackets.
 fn number_in(text: &str) -> u64 {
-    let digits = text.trim_matches([' ', '\t', '\r', '\n', '[', ']']);
+    let digits = text.trim_matches(AROUND);
     u64::from_str_radix(digits, 10).unwrap_or(0)
 }
 

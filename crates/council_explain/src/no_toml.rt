@@ -25,13 +25,26 @@ const CURLY: &[char] = &[
     '\u{2039}', '\u{203A}', '\u{AB}', '\u{BB}', '\u{B4}', '`',
 ];
 
+/// Brackets that may stand around a bracket text, and their ends.
+const OPENING: &[char] = &['(', '{', '<', '['];
+const CLOSING: &[char] = &[')', '}', '>', ']'];
+
+/// What separates two numbers.
+const BETWEEN: &[char] = &[',', ' '];
+
+/// Quotes of TOML.
+const QUOTES: &[char] = &['"', '\''];
+
+/// What may stand after a number as people write it.
+const UNITS: &[char] = &['%', '/', ';', '_'];
+
 impl Explanation<'_> {
     /// Says that the text looks like a table, and returns whether it does.
     ///
     /// A line of several columns comes before those of a game file.
     fn explain_table(&mut self) -> bool {
         for (index, line) in self.text.lines().enumerate() {
-            if line.starts_with(['#', '[']) || line.contains('=') {
+            if line.starts_with('#') || line.starts_with('[') || line.contains('=') {
                 break;
             }
             for (sign, name) in COLUMNS {
@@ -51,8 +64,8 @@ impl Explanation<'_> {
     /// Says what a text is that is no TOML, or else where it breaks off.
     fn explain_error(&mut self, error: &Error) {
         let text = self.text.trim();
-        let inside = text.trim_start_matches(['(', '{', '<', '[']);
-        let inside = inside.trim_end_matches([')', '}', '>', ']']);
+        let inside = text.trim_start_matches(OPENING);
+        let inside = inside.trim_end_matches(CLOSING);
         if matches!(skip_text(text), Ok("")) {
             self.line("a byte order mark stands before the bracket: save the file without one");
         } else if matches!(skip_rule(inside.trim()), Ok("")) {
@@ -108,7 +121,7 @@ impl Explanation<'_> {
     fn explain_number_slip(&mut self, value: &str) {
         let after = value.trim_start_matches(NUMERALS);
         let number = value.strip_suffix(after).unwrap_or("");
-        let digits = number.trim_end_matches([',', ' ']);
+        let digits = number.trim_end_matches(BETWEEN);
         if number.contains(", ") {
             // several numbers
         } else if digits.contains(SEPARATORS) {
@@ -118,7 +131,7 @@ impl Explanation<'_> {
             && digits.starts_with('0')
         {
             self.line(format_args!("a number has no leading zero: write {whole}"));
-        } else if after.starts_with(['%', '/', ';', '_']) {
+        } else if after.starts_with(UNITS) {
             // said with the place, or by the message
         } else if digits.is_empty() {
             self.line("a quota or a weight is a whole number, in digits, without quotes");
@@ -138,11 +151,11 @@ impl Explanation<'_> {
             self.line("a line ends without a comma");
         } else if rest.contains('=') {
             self.line("each key begins a line of its own");
-        } else if is_text && !value.starts_with(['"', '\'']) {
+        } else if is_text && !value.starts_with(QUOTES) {
             self.line("a text needs quotes, as in name = \"A\"");
         } else if is_text && value.strip_suffix(rest).unwrap_or("").ends_with('\\') {
             self.line("write \\\\ for a backslash");
-        } else if is_text && rest.contains(['"', '\'']) {
+        } else if is_text && rest.contains(QUOTES) {
             self.line("write \\\" for a quote inside the quotes");
         } else if key.ends_with("quota") || key.ends_with("weight") {
             self.explain_number_slip(value);
@@ -161,7 +174,7 @@ impl Explanation<'_> {
         } else if rest.starts_with(CURLY) && !front.ends_with(DIGITS) {
             self.line("write straight quotes: \" or '");
         } else if message == "duplicate key" && front.trim().is_empty() {
-            let key = key.trim_start_matches(['[', ' ']);
+            let key = key.trim_start().trim_start_matches('[').trim_start();
             let is_of_member = key.starts_with("name") || key.starts_with("weight");
             if is_of_member || key.starts_with("member") && !rest.starts_with("[[") {
                 self.line(MEMBERS);

@@ -6,6 +6,12 @@ use toml::Value;
 /// The digits of a number.
 pub const DIGITS: &[char] = &['0', '1', '2', '3', '4', '5', '6', '7', '8', '9'];
 
+/// What begins an exponent.
+const EXPONENT: &[char] = &['e', 'E'];
+
+/// The signs of a percentage and of a fraction.
+const SHARE: &[char] = &['%', '/'];
+
 /// What is said of a percentage and of a fraction.
 pub const GUIDE: &str = "docs/GUIDE.md says how percentages and fractions become whole numbers";
 
@@ -35,7 +41,7 @@ fn most_decimals(text: &str, sign: char) -> (usize, usize) {
             let rest = part.trim_start_matches(DIGITS);
             let digits = part.strip_suffix(rest).unwrap_or("");
             let is_array = sign == ',' && line.contains('[');
-            if is_number && !is_array && !rest.starts_with(['e', 'E']) {
+            if is_number && !is_array && !rest.starts_with(EXPONENT) {
                 let decimals = digits.trim_end_matches('0');
                 most = (most.0.max(decimals.len()), most.1.max(digits.len()));
             }
@@ -67,7 +73,7 @@ impl Explanation<'_> {
                 }
                 self.explain_factor('.');
             }
-            Value::String(text) if text.contains(['%', '/']) => self.line(GUIDE),
+            Value::String(text) if text.contains(SHARE) => self.line(GUIDE),
             _ => {}
         }
     }

@@ -4,12 +4,15 @@ ghost use Rattle.council_game.specs.Game.{has_low_quotas};
 
 use council_game::Game;
 
+/// What may stand after a number of a bracket text.
+const AFTER: &[char] = &[' ', '\t', '\r', '\n', ',', ';', ']'];
+
 /// Remarks on a weight `000` in a bracket text.
 ///
 /// A comma between thousands makes one. The bytes are those of the file.
 pub fn remark_on_thousands(bytes: &[u8]) -> Option<&'static str> {
     let text = str::from_utf8(bytes).unwrap_or("");
-    for number in text.split([' ', '\t', '\r', '\n', ',', ';', ']']) {
+    for number in text.split(AFTER) {
         if number == "000" && text.trim_start().starts_with('[') {
             return Some(
                 "a weight 000 was read as 0: a comma ends a weight, also between thousands",
