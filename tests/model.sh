@@ -1,7 +1,7 @@
 #!/usr/bin/env bash
 # Searches the model of waiting, docs/model/gather.pml, by spin: all its states for one and two
-# workers with two slices, and for three with one. No thread may be stuck, and no assertion may fail.
-# Then it must find each slip that the model can be given.
+# workers with two slices, and for three with one. No thread may be stuck, and no assertion may
+# fail. Then it must find each slip that the model can be given.
 #
 #     tests/model.sh
 #

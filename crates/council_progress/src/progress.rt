@@ -78,7 +78,7 @@ impl<'a, R: Eprint + Clock + Wait> Progress<'a, R> {
     ///
     /// It does not wrap (`?7l`), however narrow the terminal is. The cursor waits below it, so an
     /// interrupt leaves a whole line.
-    fn write(&self, done: &mut Done, line: impl Display + Drop) {
+    fn write_line(&self, done: &mut Done, line: impl Display + Drop) {
         let up = if done.is_shown { "\x1b[A" } else { "" };
         done.is_shown = true;
         let _ = eprint!(self.rt; "{up}\r\x1b[?7lcouncil: {line}\x1b[K\x1b[?7h\n");
@@ -92,14 +92,14 @@ impl<'a, R: Eprint + Clock + Wait> Progress<'a, R> {
         let (found, prefixes) = (Thousands(done.found), Thousands(done.prefixes));
         let (some, all) = (done.slices, self.slices);
         if done.found == 0 && done.prefixes > 0 {
-            self.write(
+            self.write_line(
                 done,
                 format_args!(
                     "0 coalitions found, {some} of {all} slices done, {prefixes} prefixes examined"
                 ),
             );
         } else {
-            self.write(
+            self.write_line(
                 done,
                 format_args!("{found} coalitions found, {some} of {all} slices done"),
             );
@@ -139,7 +139,7 @@ impl<'a, R: Eprint + Clock + Wait> Gate for Progress<'a, R> {
     fn decide(&self, decided: u8, members: u8) {
         if self.is_long() {
             let mut done = self.done.lock(self.rt);
-            self.write(
+            self.write_line(
                 &mut done,
                 format_args!("{decided} of {members} members decided"),
             );
