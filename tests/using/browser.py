@@ -2,8 +2,6 @@
 """What a browser shows of the pages and pictures of council-tools: at 390, 768 and 1280 pixels,
 light and dark.
 
-    tests/using/browser.py PROGRAM
-
 Chromium lays out each page in a frame of that width; a script in it tells the rectangles of
 cells, bars and numbers.
 """
@@ -59,8 +57,7 @@ def show(frames, scheme):
     """Returns what Chromium shows of each frame, (kind, width, text); None if it shows nothing."""
     parts = [f'<iframe data-kind="{kind}" width="{width}" height="1200" srcdoc="{html.escape(text)}"></iframe>' for kind, width, text in frames]
     path = put("look.html", LOOK.replace("FRAMES", "".join(parts)))
-    words = [CHROMIUM, "--headless", "--no-sandbox", "--disable-gpu", f"--user-data-dir={TEMP}/browser", f"--blink-settings=preferredColorScheme={SCHEMES[scheme]}",
-             "--window-size=1400,900", "--dump-dom", f"file://{path}"]
+    words = [CHROMIUM, "--headless", "--no-sandbox", "--disable-gpu", f"--user-data-dir={TEMP}/browser", f"--blink-settings=preferredColorScheme={SCHEMES[scheme]}", "--window-size=1400,900", "--dump-dom", f"file://{path}"]
     try:
         ran = subprocess.run(words, capture_output=True, timeout=180, env={**os.environ, "HOME": TEMP})
     except subprocess.TimeoutExpired:

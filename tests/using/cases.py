@@ -31,11 +31,9 @@ FORMS = [[], ["--swings"], ["--only-swings"]]
 
 
 class Run:
-    """Runs a tool of council-tools, and keeps its status, its standard output and its standard
-    error.
+    """Runs a tool, and keeps its status, its standard output and its standard error.
 
-    It runs in this process, which takes a hundredth of the time, or with `apart` in its own, as for
-    a user."""
+    It runs in this process, which is faster, or with `apart` in its own, as for a user."""
 
     def __init__(self, tool, *words, input=b"", apart=False):
         self.tool = tool

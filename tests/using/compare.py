@@ -89,10 +89,7 @@ class Compare(Tests):
 
     def test_what_is_refused(self):
         old, new = game("old", "Iceland", "Türkiye"), game("new", "Norway")
-        for words, text in [
-            ([old], "name two reports or more"), (["-", "-"], "name two reports or more"), ([old, new, "--same", "Iceland", "Türkiye"], "one report has both"), ([old, new, "--same", "a", "b"], "no report has one of them"),
-            ([old, put("half.tsv", stored("board")[:-20])], "half.tsv"),
-        ]:
+        for words, text in [([old], "name two reports or more"), (["-", "-"], "name two reports or more"), ([old, new, "--same", "Iceland", "Türkiye"], "one report has both"), ([old, new, "--same", "a", "b"], "no report has one of them"), ([old, put("half.tsv", stored("board")[:-20])], "half.tsv")]:
             self.check_refused(Run("compare", *words), text)
 
 

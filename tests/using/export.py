@@ -135,8 +135,7 @@ class Export(Tests):
             self.assertEqual((ran.returncode, told), (0, []))
 
     def test_what_is_refused(self):
-        for words, text in [(["xml"], '"xml" is no format'), ([], "say a format"), (["csv", "--columns", "name,power"], '"power" is no column: name, weight'), (["csv", "--columns", ""], '"" is no column'), (["csv", "--columns", "banzhaf"], "the report has no column banzhaf, but name,"), (["csv", "--index", "banzhaf"], "council makes it with --swings"), (['a"\u202e'], '"a\\"\\u202E"'),
-                            (["csv", "--decimals", "0"], "--decimals"), (["csv", "--decimals", "31"], "--decimals"), (["csv", "--decimal", ";"], "--decimal"), (["csv", "--col=name"], "unrecognized")]:
+        for words, text in [(["xml"], '"xml" is no format'), ([], "say a format"), (["csv", "--columns", "name,power"], '"power" is no column: name, weight'), (["csv", "--columns", ""], '"" is no column'), (["csv", "--columns", "banzhaf"], "the report has no column banzhaf, but name,"), (["csv", "--index", "banzhaf"], "council makes it with --swings"), (['a"\u202e'], '"a\\"\\u202E"'), (["csv", "--decimals", "0"], "--decimals"), (["csv", "--decimals", "31"], "--decimals"), (["csv", "--decimal", ";"], "--decimal"), (["csv", "--col=name"], "unrecognized")]:
             self.check_refused(Run("export", *words, input=HARD), text, status=2)
         for data in "", "quota = 1\n", b"title\t\xff\n", "title\tA\n", "notation\t[1; 1]\n", TWO[TWO.index("member\t"):], TWO[: TWO.index("member\t")]:
             self.check_refused(Run("export", "csv", input=data), status=1)

@@ -13,6 +13,7 @@ from council.tools.from_table import Weights
 from council.tools.quotas import Number
 
 EEC = "Member,Votes\nGermany,4\nFrance,4\nItaly,4\nNetherlands,2\nBelgium,2\nLuxembourg,1\n"
+STATES = "who,votes\nAustria,10\nBelgium,12\nCroatia,7\nDenmark,27\nFinland,9\nGreece,13\nSweden,10\n"
 PANEL = "country,year,votes\nA,2004,6\nB,2004,4\nA,2014,7\nB,2014,4\n"
 
 
@@ -52,8 +53,7 @@ class Summary(Cases):
         self.assertEqual((quiet.out, quiet.err), (run.out, ""))
 
     def test_what_was_not_read(self):
-        run = self.check_game(["7", "--name", "holder", "--weight", "votes", "--rows", "5-7", "--heading", "3", "--source", "a\n book", "--title", "T"],
-                              "A title\n\nholder,land,votes,seats\nx,y,-,-\nA,z,5,1\nB,z,4,2\nC,,2,5\nTotal,,11,8\n", [7], [5, 4, 2])
+        run = self.check_game(["7", "--name", "holder", "--weight", "votes", "--rows", "5-7", "--heading", "3", "--source", "a\n book", "--title", "T"], "A title\n\nholder,land,votes,seats\nx,y,-,-\nA,z,5,1\nB,z,4,2\nC,,2,5\nTotal,,11,8\n", [7], [5, 4, 2])
         self.assertIn("Not read: the heading, line 3; lines 1, 4, 8; columns 2, 4\n", run.err)
         self.assertEqual(find_comments(run.out)[0], "Source: a book")
         self.assertIn('\ntitle = "T"\n', run.out)
@@ -132,7 +132,7 @@ class Tables(Cases):
         self.check_game(["7", "--name", "2"], "land,who,votes\nx,A,5\ny,B,4\nz,C,3\n", [7], [5, 4, 3])
         self.check_game(["heads:2", "--heading", "1"], "Fraktion\nA\nB\nC\n", [2], [1, 1, 1])
         self.check_game(["heads:2"], "Fraktion,Sitze\nA,5\nB,4\nC,3\n", [2], [1, 1, 1])
-        self.check_game(["65%", "heads:55%", "2", "--weight", "people", "--weight", "states"], "who,people,states\nA,4.5,1\nB,3,1\nC,2,1\n", [62, 2, 2], [[45, 1, 1], [30, 1, 1], [20, 1, 1]])
+        self.check_game(["65%", "heads:55%", "2", "--of", "sum", "--weight", "people", "--weight", "states"], "who,people,states\nA,4.5,1\nB,3,1\nC,2,1\n", [62, 2, 2], [[45, 1, 1], [30, 1, 1], [20, 1, 1]])
 
     def test_as_other_programs_write_tables(self):
         three = [120, 90, 45]
@@ -178,7 +178,9 @@ class Refused(Cases):
             (["12"], "Member,Votes\nTotal,5\n" + EEC[13:], "may be a total"), (["6"], "Col,x,y\nn,1,2\nA,4,50\nB,3,45\nC,2,49\n", "column 2"), (["6", "heads:2", "--weight", "x"], "Col,x,y\nn,1,2\nA,4,50\nB,3,45\nC,2,49\n", "numbers of the columns"),
             (["70%"], "who,votes\nx,32\ny,24\nA,9\nB,8\nC,6\nD,5\nE,3\nF,1\n", "line 2"), (["70%"], "who,votes\nA,5\nB,6\nC,7\nD,8\nE,9\nx,27\n", "is far heavier"), (["heads:2"], "who,votes\nA,4\nB,3\nx,7\n", "is the sum of all others"), (["4"], "who,votes\nA,3\nB,3\n", "is the sum of all others"), (["51"], "who,votes\nA,50\nB,49\nC,1\n", "is the sum of all others"), (["40"], "who,votes\nA,40\nB,30\nC,29\nD,10\n", "the weight of the quota"),
             ([">50%"], "who,share\nA,30%\nB,20%\nC,12%\n", "adds up to 62 instead of 100", "--of sum"), ([">50"], "who,share\nA,30%\nB,20%\nC,12%\n", "--of 100"), (["60"], "who,share (%)\nA,33\nB,33\nC,33\n", "--of"), (["60"], "who,share\nA,33.01\nB,33.01\nC,33.01\n", "99.03"), ([">50%"], "who,share\nA,.30\nB,.42\nC,.21\n", "0.93 instead of 1"),
-            ([">50%"], "who,share\nA,50%\nB,30%\nC,20%\nx,100%\n", "adds up to 200"),
+            ([">50%"], "who,share\nA,50%\nB,30%\nC,20%\nx,100%\n", "adds up to 200"), ([">50%"], "who,share\nA,30.5\nB,20.2\nC,12.1\n", "adds up to 62.8 instead of 100"), ([">50%"], "who,share\nA,.305\nB,.202\nC,.12\n", "adds up to 0.627 instead of 1"),
+            (["50"], STATES + "Median,10\n", "breaks the order of the names"), (["50"], STATES[:10] + "Median,10\n" + STATES[10:], "breaks the order of the names"), (["50"], STATES + "© x,3\n", "has a name of another kind"), (["50"], STATES + "y provisional,3\n", "has a name of another kind"),
+            (["60%"], "who,votes\nA,120\nB,90\nC,80\nD,75\n\nTurnout,71\n", "is beside an empty line"),
         ])
 
     def test_names(self):

@@ -1,6 +1,5 @@
 #!/usr/bin/env python3
 """council-tools on reports of many coalitions or without end, its table, and what all tools share."""
-import contextlib
 import gc
 import io
 import json
@@ -12,7 +11,6 @@ from fractions import Fraction
 from unittest import mock
 
 from cases import FORMS, LOW, PROGRAM, TEMP, TOOLS, TOP, Run, Tests, hostile_game, main, put, report, stored
-from council import tools
 from council.engine import NotFound, Refused
 from council.game import write_game
 from council.reports import Fault, Report, cut_off, round_half_up, write_fraction
@@ -58,7 +56,6 @@ class Reports(Tests):
             self.assertIs(it.coalitions, it.coalitions)
             self.assertEqual(list(it.rows()[0]), ["name", "weight_1", "weight_2", "coalitions", "deegan_packel", "public_good", "deegan_packel_exact", "public_good_exact"])
             self.assertEqual([it.share(row, 1) for row in it.members], [Fraction(1, 4)] * 4)
-            self.assertEqual(repr(it), "<council.Report 'T': 4 members, 2 minimal winning coalitions>")
         taken = []
         self.assertIsNone(Report(io.StringIO(TWO), taken.append).coalitions)
         self.assertEqual(taken, LISTED)
@@ -93,8 +90,6 @@ class Reports(Tests):
 class Shared(Tests):
     def test_help_and_version(self):
         self.assertTrue(all(Run(it).out.startswith("Tools for games") for it in ("-h", "--help")) and all(Run(it).out.startswith("council-tools 1.") for it in ("-V", "--version")))
-        with mock.patch.object(sys, "argv", ["program", "excel"]), contextlib.redirect_stdout(io.TextIOWrapper(io.BytesIO(), encoding="utf-8")):
-            self.assertEqual(tools.main([]), 0)
 
     def test_words(self):
         self.check_refused(Run("excel"), "there is no tool excel", status=2)

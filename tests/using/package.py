@@ -2,8 +2,6 @@
 """The package for Python with the program, its installation by pip without a network, and
 council-tools in a clone that was never built.
 
-    tests/using/package.py PROGRAM
-
 What the package does with the library is tested by tests/wheel.sh.
 """
 import os

@@ -121,9 +121,7 @@ class Sweeps(Tests):
 
     def test_what_is_refused(self):
         kept = put("kept.svg", "kept")
-        for words, text in [
-            (["--to", "18"], "comes to 18, and must be from 1 to 17"), (["--rule", "2"], "there is no rule 2: the game has 1"), (["--rule", "0"], "no rule 0"), (["--from", "5", "--to", "4"], "no quota from 5 to 4"), (["--step", "0"], "from 1 to 17"), (["--index", "power"], "--index"),
-        ]:
+        for words, text in [(["--to", "18"], "comes to 18, and must be from 1 to 17"), (["--rule", "2"], "there is no rule 2: the game has 1"), (["--rule", "0"], "no rule 0"), (["--from", "5", "--to", "4"], "no quota from 5 to 4"), (["--step", "0"], "from 1 to 17"), (["--index", "power"], "--index")]:
             self.check_refused(sweep(COUNCIL, *words, "--picture", kept), text, status=2)
             self.assertEqual(open(kept, encoding="utf-8").read(), "kept")
         self.check_refused(sweep("-", input="[50000; 50000]"), "50,000 quotas, and 20,000 are the most", status=2)

@@ -5,9 +5,8 @@
 TABLE is a file, or standard input if it is - or missing. It has a line of headings, a text over
 each column, and then a row for each member, with as many cells: the name, and a weight for each
 rule. Commas, semicolons, TABs or | separate the cells. Weights may have decimals, thousands
-separators and percent signs; they are multiplied by a power of ten until they are whole. You hear
-what was read, and the game file says it too. What can be read in two ways is refused, and the
-message names the option.
+separators and percent signs; a power of ten makes them whole. You hear what was read, and the game
+file says it too. What can be read in two ways is refused, and the message names the option.
 
 COLUMN is a heading, or a number counted from 1. LINES are lines of the file, as 3-29 or 1,30-32.
 
@@ -27,7 +26,7 @@ import sys
 import unicodedata
 from fractions import Fraction
 from itertools import accumulate, groupby
-from typing import Collection, Iterable, Optional, Sequence
+from typing import Any, Collection, Iterable, Optional, Sequence
 
 from ..game import MEMBERS, NAME, RULES, WEIGHT, is_text, quote, quote_for_shell, write_game, write_rule_comment
 from ..reports import Fault
@@ -70,8 +69,7 @@ def count_filled(row: Sequence[str]) -> int:
 
 def fold(name: str) -> str:
     """Returns a name without capitals, the composition of letters, and letters without a width."""
-    text = unicodedata.normalize("NFKC", unicodedata.normalize("NFKC", name).casefold())
-    return "".join(it for it in text if unicodedata.category(it) != "Cf").strip()
+    return "".join(it for it in unicodedata.normalize("NFKC", unicodedata.normalize("NFKC", name).casefold()) if unicodedata.category(it) != "Cf").strip()
 
 
 def read_rows(data: bytes, encoding: Optional[str]) -> list[tuple[int, list[str]]]:
@@ -101,8 +99,15 @@ def read_rows(data: bytes, encoding: Optional[str]) -> list[tuple[int, list[str]
     return rows
 
 
-def is_ordered(values: list[int]) -> bool:
+def is_ordered(values: list[Any]) -> bool:
     return values in (sorted(values), sorted(values, reverse=True))
+
+
+def breaks_order(values: list[Any], row: int) -> bool:
+    """Returns whether a value is one of the first or last, without which the others are in order."""
+    values, place = (values, row) if 2 * row < len(values) else (values[::-1], len(values) - 1 - row)
+    one, two = (len(it) > 3 and len({*it}) > 1 and is_ordered(it) for it in (values[1:], values[2:]))
+    return not is_ordered(values) and ((one and place == 0) or (two and not one and place < 2))
 
 
 class Weights:
@@ -110,8 +115,7 @@ class Weights:
 
     def __init__(self, values: Sequence[Fraction], percent: bool, title: str, what: str) -> None:
         self.percent, self.title, self.what, self.places = percent, title, what, max(map(count_decimals, values))
-        self.unit = 10**self.places
-        self.values = [int(it * self.unit) for it in values]
+        self.unit, self.values = 10**self.places, [int(it * 10**self.places) for it in values]
         self.number, self.total, self.sums = len(values), sum(self.values), [*accumulate(self.values, initial=0)]
         # if shares add up to 100, none of them is a total
         self.is_share = (percent or self.places > 0) and abs(self.total - 100 * self.unit) * 10 <= self.unit
@@ -125,20 +129,13 @@ class Weights:
     def has_run(self, row: int, left: Collection[int]) -> bool:
         """Returns whether a row is the sum of a run of rows beside it. `left` has the rows above
         which another was left out."""
-        number, ends = self.number, {0, 1, self.number - 1, self.number, *left}
+        number, is_telling = self.number, row in (0, self.number - 1) or self.values[row] >= 1000
         # small numbers are sums by chance, most of all in order
-        is_telling = row in (0, number - 1) or self.values[row] >= 1000
         if not is_telling and is_ordered(self.values) and {*left} <= {0, number}:
             return False
-        ends = {*range(number + 1)} if is_telling or number <= 15 else ends
+        ends = {*range(number + 1)} if is_telling or number <= 15 else {0, 1, number - 1, number, *left}
         runs = [(at, row) for at in ends if at < row - 1] + [(row + 1, at) for at in ends if at > row + 2]
         return any(self.is_sum(row, self.sums[last] - self.sums[first], last - first) and sum(map(bool, self.values[first:last])) > 1 for first, last in runs)
-
-    def breaks_order(self, row: int) -> bool:
-        """Returns whether a row is one of the first or last, without which the others are in order."""
-        values, place = (self.values, row) if 2 * row < self.number else (self.values[::-1], self.number - 1 - row)
-        one, two = (len(it) > 3 and len({*it}) > 1 and is_ordered(it) for it in (values[1:], values[2:]))
-        return not is_ordered(values) and ((one and place == 0) or (two and not one and place < 2))
 
     def find_reason(self, row: int, left: Collection[int]) -> str:
         """Returns why a row can hardly be a member, or nothing."""
@@ -155,7 +152,7 @@ class Weights:
             "is near the sum of all others, or more": number > 2 and 20 * value >= 19 * others > 0 and not self.is_share,
             "is the sum of rows beside it": self.has_run(row, left),
             "may be a year": years[row] and 2 * sum(years) <= number and (row < 2 or row > number - 3),
-            "breaks the order of the weights": self.breaks_order(row),
+            "breaks the order of the weights": breaks_order(self.values, row),
             "is far heavier than the others": is_heavy and not self.is_share,
             "is the average of all others": is_edge and rest[-1] < value < rest[0] and 2 * abs(value * len(rest) - others) <= number,
             "is the only one with decimals": is_edge and value % self.unit and not any(it % self.unit for it in rest),
@@ -282,8 +279,7 @@ class Table:
         told, decimal = next((it for it in signs if it[1]), ("", None))
         for cell, it in its:
             if (decimal and decimal not in it.values) or (not decimal and it.is_open()):
-                said = f"is no number with {quote(decimal)} before its decimals, as {told}" if decimal else "may have decimals or thousands"
-                raise Fault(f"{cell} {said}: say --decimal . or --decimal , and write all alike")
+                raise Fault(f"{cell} " + (f"is no number with {quote(decimal)} before its decimals, as {told}" if decimal else "may have decimals or thousands") + ": say --decimal . or --decimal , and write all alike")
         return decimal
 
     def read_weights(self, at: int, numbers: Sequence[Number], decimal: Optional[str], groups: Iterable[list[int]]) -> Weights:
@@ -301,8 +297,9 @@ class Rule:
 
     def __init__(self, number: int, quota: Quota, its: Weights, decimal: Optional[str], of: Optional[str]) -> None:
         self.quota, self.weights, self.decimal = quota, its, decimal
-        is_percent = its.percent or re.search(r"%|p.{0,5}cent|pct|prozent", its.title, re.I) or (its.places and 90 * its.unit <= its.total <= 110 * its.unit)
-        whole = 100 if is_percent else int(its.places > 0 and 9 * its.unit <= its.total * 10 <= 11 * its.unit)
+        # decimals that add up to nearly 1 or 100, or less if the quota is a share, may be shares
+        sums = [it for it in (1, 100) if its.places and (0 if quota.read_value(decimal)[1] else 9 * it) * its.unit <= its.total * 10 <= 11 * it * its.unit]
+        whole = 100 if its.percent or re.search(r"%|p.{0,5}cent|pct|prozent", its.title, re.I) else sums[0] if sums else 0
         if whole and not of and abs(its.total - whole * its.unit) * 1000 > whole * its.unit:
             raise Fault(f"{its.what.partition(',')[0]} adds up to {write_plain(Fraction(its.total, its.unit))} instead of {whole}: a row may be missing, or be a total; "
                         f"say --of 100 if a share is of {whole}{' %' * (whole > 1)}, or --of sum")
@@ -322,11 +319,17 @@ def check_rows(table: Table, rules: Sequence[Rule], columns: Sequence[Weights]) 
     its: dict[int, str] = {}
     lines, names = [line for line, _ in table.rows], table.cells[table.name]
     left, marked = {sum(it < at for it in lines) for at in table.left}, [it for it in names if NOTE.match(it)]
+    # names as a dictionary sorts them, kinds of their first letters, rows after empty lines
+    keys = [re.sub(r"\d+", lambda it: it[0].zfill(NAME), "".join(filter(str.isalnum, unicodedata.normalize("NFKD", fold(it))))) for it in names]
+    kinds, gaps = [unicodedata.category(it[0]) for it in names], [at for at, line in enumerate(lines) if at and line - 1 not in table.lines]
     for row, name in enumerate(names):
         is_edge = row in (0, len(names) - 1) and len(names) > 1
         # a column of vetoes or of heads has no other numbers
         doubts = {it.find_reason(row, left): True for it in columns if not {*it.values} <= {0, 1} or it.values == [1, 1]}
         doubts["may be a total or a note"] = name in marked and len(marked) < 3
+        doubts["breaks the order of the names"] = len(names) > 6 and breaks_order(keys, row)
+        doubts["has a name of another kind"] = is_edge and len({*kinds[2:-2]}) == 1 and kinds[row] not in kinds[2:-2]
+        doubts["is beside an empty line"] = is_edge and len(gaps) == 1 and len(names) > 4 and (gaps[0] < 3 if row == 0 else gaps[0] > row - 2)
         doubts["has no letter in its name"] = not any(map(str.isalpha, name)) and any(map(str.isalpha, "".join(names)))
         doubts["may have the numbers of the columns"] = is_edge and len(table.numbers) > 1 and is_count([table.cells[at][row] for at in table.numbers], 1, 2)
         doubts["has the weight of the quota"] = is_edge and any(rule.is_quota(it.values[row], it.total - it.values[row], it.unit) for rule, it in zip(rules, columns))
@@ -334,8 +337,7 @@ def check_rows(table: Table, rules: Sequence[Rule], columns: Sequence[Weights]) 
         its.update({lines[row]: f"{show(lines[row], name)}, {why}"} if why else {})
     told = "; ".join([*its.values()][:2]) + ("; and see " + write_ranges("line", [*its][2:]) if len(its) > 2 else "")
     if its and not table.words.all_rows:
-        which = f"{min(its)} if it is" if len(its) == 1 else "LINES for those that are"
-        raise Fault(f"{told}: say --drop {which} no member, or --all-rows if each row is one")
+        raise Fault(f"{told}: say --drop " + (f"{min(its)} if it is" if len(its) == 1 else "LINES for those that are") + " no member, or --all-rows if each row is one")
     return [f"Taken as members: {told}"] if its else []
 
 
@@ -357,8 +359,7 @@ def make_game(data: bytes, quotas: Sequence[Quota], words: argparse.Namespace) -
     members = members if len(members) <= 4 else [*members[:2], "..", members[-1]]
     comments.insert(0, f"From a table, {write_ranges('line', read)}; {len(names)} member{'s' * (len(names) > 1)}: {', '.join(members)}")
     unread = [at + 1 for at, its in enumerate(table.cells) if any(its) and at not in (table.name, *table.weights)]
-    left = [f"the heading, line {table.line}"] * bool(table.line)
-    left += [write_ranges(what, its) for what, its in (("line", sorted({*table.lines} - {*read, table.line})), ("column", unread)) if its]
+    left = [f"the heading, line {table.line}"] * bool(table.line) + [write_ranges(what, its) for what, its in (("line", sorted({*table.lines} - {*read, table.line})), ("column", unread)) if its]
     comments += [f"Not read: {'; '.join(left)}"] * bool(left)
     source = [f"Source: {' '.join((words.source or '').split())}"] * bool(words.source)
     text = write_game([*names], [it.least for it in rules], zip(*(it.weights.values for it in rules)), words.title or "", [*source, *comments])
