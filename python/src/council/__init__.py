@@ -93,7 +93,7 @@ def report(
         if not given[0]:
             raise
         # values that were never a file have no lines
-        told = re.sub(r"(?m)^line \d+(, column \d+)?: ", "", fault.explanation)
+        told = re.sub(r"(?m)^line \d+(, column \d+)?: |: each member begins .*", "", fault.explanation).replace("the file has", "the game has")
         raise type(fault)(fault.status, fault.fault, told, fault.game) from None
     low = describe_low_quotas(made.quotas, made.totals)
     for it in find_slips(data.decode()) + (low if len(low) == len(made.quotas) else []):

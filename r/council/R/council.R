@@ -96,7 +96,10 @@ run_program <- function(program, bytes, words) {
 refuse <- function(status, lines, bytes, call, is_values) {
   fault <- if (length(lines)) sub("^council: ", "", lines[1]) else paste("council ended with status", status)
   explanation <- sub("^  ", "", lines[-1])
-  if (is_values) explanation <- sub("^line [0-9]+(, column [0-9]+)?: ", "", explanation)
+  if (is_values) {
+    explanation <- gsub("^line [0-9]+(, column [0-9]+)?: |: each member begins .*", "", explanation)
+    explanation <- sub("^the file has", "the game has", explanation)
+  }
   first <- regmatches(explanation[1], regexec("^line ([0-9]+)(, column [0-9]+)?:", explanation[1]))[[1]]
   line <- as.integer(first[2])
   errorCondition(
@@ -115,8 +118,7 @@ format_game <- function(quota, weights, names, title, by = NULL) {
   }
   as_given <- columns
   if (is.list(weights) || is.matrix(weights)) {
-    is_sure <- is.data.frame(weights) || !is.null(base::names(columns)) || !is.null(dimnames(weights))
-    columns <- turn(columns, length(quota), by, is_sure)
+    columns <- turn(columns, length(quota), by, is.data.frame(weights))
   }
   if (length(columns) != length(quota)) {
     stop("there are ", length(quota), " quotas, and ", length(columns), " columns of weights")
@@ -143,12 +145,12 @@ format_game <- function(quota, weights, names, title, by = NULL) {
 }
 
 # Returns the weights by rule. A table that may be by rule or by member is refused, unless it is a
-# data frame, or names its rules or members.
+# data frame: names may be those of rules or of members.
 turn <- function(columns, rules, by, is_sure) {
   if (!is.null(by) && !by %in% c("rule", "member")) stop("by is \"rule\" or \"member\"")
   is_by_rule <- length(columns) == rules
   is_by_member <- length(columns) > 0 && all(lengths(columns) == rules)
-  turned <- if (is_by_member) lapply(seq_len(rules), function(rule) vapply(columns, function(it) as.numeric(it[[rule]]), 0))
+  turned <- if (is_by_member) lapply(seq_len(rules), function(rule) vapply(columns, function(it) as.numeric(it[[rule]]), 0, USE.NAMES = FALSE))
   if (is.null(by) && !is_sure && is_by_rule && is_by_member && !identical(unname(turned), unname(lapply(columns, as.numeric)))) {
     stop("the weights are a square table: say by = \"rule\" if each column is a rule, by = \"member\" if each is a member")
   }

@@ -24,7 +24,7 @@ council(quota, weights, names = NULL, title = "", file = NULL, game = NULL,
   counted, however many there are.}
 \item{program}{the program; else the one that \code{options(council.program =)} or the environment
   variable \env{COUNCIL_PROGRAM} names, or the one on the PATH.}
-\item{by}{of a square table of weights without names: \code{"rule"} if each column is a rule,
+\item{by}{of a square table of weights that is no data frame: \code{"rule"} if each column is a rule,
   \code{"member"} if each is a member.}
 \item{swings}{whether to count the swings too, and compute the indices that rest on them.}
 \item{only_swings}{whether to compute only these; not with \code{coalitions} or \code{swings}.}
