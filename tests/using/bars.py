@@ -10,7 +10,7 @@ from council.game import write_game
 from council.reports import Report, round_half_up
 from council.tools.drawing import escape_xml, find_round_step, find_ticks, measure, wrap, write_percent
 
-PLAIN = re.compile("[\x00-\x08\x0b\x0c\x0e-\x1f\x7f-\x9f\u061c\u200b-\u200f\u2028-\u202e\u2060-\u2069\ufdd0-\ufdef\ufeff\ufffe\uffff]")
+PLAIN = re.compile("[\x00-\x08\x0b\x0c\x0e-\x1f\x7f-\x9f\xad\u061c\u180e\u200b-\u200f\u2028-\u202e\u2060-\u206f\ufff9-\ufffb\U000e0000-\U000e007f\ufdd0-\ufdef\ufeff\ufffe\uffff]")
 
 
 def draw(data, *words):
@@ -88,7 +88,7 @@ class Pictures(Tests):
 class Drawing(Tests):
     def test_texts(self):
         self.assertEqual(escape_xml('<a b="&">\0\x85\u200e\u202e\ufdd0\ufffe\ud800\t\u00a0'), "&lt;a b=&quot;&amp;&quot;&gt;" + "\ufffd" * 7 + "\t\u00a0")
-        for number in {*range(0x300), *range(0x610, 0x620), 0xFEFF, *range(0x2000, 0x2070), *range(0xD7F0, 0xE010), *range(0xFDC0, 0xFE00), 0xFFFD, 0xFFFE, 0xFFFF, 0x10FFFF}:
+        for number in {*range(0x300), *range(0x610, 0x620), 0x180E, 0xE0041, 0xFEFF, *range(0x2000, 0x2070), *range(0xD7F0, 0xE010), *range(0xFDC0, 0xFE00), 0xFFFD, 0xFFFE, 0xFFFF, 0x10FFFF}:
             it = chr(number)
             self.assertEqual(escape_xml(it) == "\ufffd", bool(PLAIN.match(it)) or 0xD800 <= number <= 0xDFFF or number == 0xFFFD, hex(number))
         rng = random.Random(2)

@@ -13,7 +13,7 @@ from ..game import Unit, quote
 from ..reports import Report, round_half_up
 
 # what XML has no place for, what would turn the direction of a line, and what has no width
-REFUSED = re.compile("[^\t\n\r -\ud7ff\ue000-\ufffd\U00010000-\U0010ffff]|[\x7f-\x9f\u061c\u200b-\u200f\u2028-\u202e\u2060-\u2069\ufeff]|[\ufdd0-\ufdef]")
+REFUSED = re.compile("[^\t\n\r -\ud7ff\ue000-\ufffd\U00010000-\U0010ffff]|[\x7f-\x9f\xad\u061c\u180e\u200b-\u200f\u2028-\u202e\u2060-\u206f\ufeff\ufff9-\ufffb\U000e0000-\U000e007f]|[\ufdd0-\ufdef]")
 COLORS = ["#33557f", "#c06a2b", "#3c8a4e", "#a03a5b", "#6b5ca5", "#8a7a1f", "#2a8a9a", "#7a4a2a", "#d0589a", "#5a5a5a"]
 DASHES = ["", "7 3", "2 3", "9 3 2 3"]
 # the share under each rule: on white, and on the dark ground of a page
