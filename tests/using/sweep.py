@@ -105,6 +105,7 @@ class Sweeps(Tests):
         """Quotas are in the unit of the game file, in the words, in the table and at the axis."""
         for words, wanted in [(["50%"], "50.00"), (["50.01"], "50.01"), (["50,01"], "50.01"), (["2/3"], "66.67"), ([">50%"], "50.01"), (["85"], "85.00")]:
             self.assertEqual(rows(sweep("-", "--from", *words, "--to", "90", "--step", "50", input=FUND))[0][0], wanted)
+        self.assertEqual([it[0] for it in rows(sweep("-", "--from", "50", "--to", "50.6", "--step", "0.25", input=FUND))[::3]], ["50.00", "50.25", "50.50"])
         run = sweep("-", "--from", ">50%", "--step", "5", "--picture", f"{TEMP}/fund.svg", input=FUND)
         self.assertEqual([it[0] for it in rows(run)[::3]], [f"{it}.01" for it in range(50, 100, 5)])
         root = ElementTree.parse(f"{TEMP}/fund.svg").getroot()

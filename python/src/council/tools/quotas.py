@@ -56,10 +56,10 @@ def write_plain(value: Fraction, most: int = 6) -> str:
 
 class Quota:
     """A quota as the user writes it: of heads or of weights, at least or more than, a number or a
-    share of the total."""
+    share of the total. A number below `least` is refused, because it may be a share."""
 
-    def __init__(self, text: str) -> None:
-        self.text = text
+    def __init__(self, text: str, least: int = 1) -> None:
+        self.text, self.least = text, least
         heads, sign, rest = re.findall(r"^\s*(heads:)?\s*(>=|≥|>)?\s*(.*?)\s*$", text, re.S)[0]
         self.heads, self.more = bool(heads), sign == ">"
         share = re.fullmatch(r"(\d{1,18})\s*/\s*0*([1-9]\d{0,17})", rest, re.A)
@@ -80,7 +80,7 @@ class Quota:
         if decimal not in self.number.values:
             raise Fault(f"the quota {quote(self.text)} is no number with {quote(decimal)} before its decimals", 2)
         value = self.number.values[decimal]
-        if 0 < value < 1 and not self.number.percent:
+        if 0 < value < self.least and not self.number.percent:
             # 0.85 votes would let each member win
             share = f"{'heads:' * self.heads}{'>' * self.more}{write_plain(value * 100, count_decimals(value * 100))}%"
             raise Fault(f"the quota {quote(self.text)} is less than 1: write {share if not self.more else quote_for_shell(share)} for a share of all", 2)

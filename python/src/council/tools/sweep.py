@@ -93,8 +93,8 @@ def write_rows(reports: Iterable[tuple[int, Report]], group: Group, unit: Unit, 
 
 def find_quotas(words: argparse.Namespace, total: int, unit: Unit) -> range:
     """Returns the quotas of the sweep, whose words are in a unit or shares of the total."""
-    first, last, step = (otherwise if it is None else Quota(it).make_whole(total, 10**unit.places, None)[0]
-                         for it, otherwise in ((words.first, 1), (words.last, total), (words.step, 1)))
+    first, last, step = (otherwise if it is None else Quota(it, least).make_whole(total, 10**unit.places, None)[0]
+                         for it, otherwise, least in ((words.first, 1, 1), (words.last, total, 1), (words.step, 1, 0)))
     if first > last:
         raise Fault(f"there is no quota from {unit.write(first)} to {unit.write(last)}", 2)
     quotas = range(first, last + 1, step)
