@@ -25,8 +25,10 @@ const CURLY: &[char] = &[
     '\u{2039}', '\u{203A}', '\u{AB}', '\u{BB}', '\u{B4}', '`',
 ];
 
-/// Brackets that may stand around a bracket text, and their ends.
+/// What may open a bracket text.
 const OPENING: &[char] = &['(', '{', '<', '['];
+
+/// What may close it.
 const CLOSING: &[char] = &[')', '}', '>', ']'];
 
 /// What separates two numbers.

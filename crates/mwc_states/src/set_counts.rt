@@ -75,7 +75,11 @@ fn count_size_with(
 {
     let mut sum = 0;
     for first in 0..choices.len() {
-        sum += count_pairs(links, &choices[first], counts_of(completing, size, first + 1));
+        sum += count_pairs(
+            links,
+            &choices[first],
+            counts_of(completing, size, first + 1),
+        );
     }
     sum
 }
@@ -134,7 +138,8 @@ fn complete_size(
     let rows = links.len() / 2;
     let mut counts = Vec::with_capacity(alloc, rows)?;
     for row in 0..rows {
-        let count = count_of(without, link_at(links, row, 0)) + count_of(with, link_at(links, row, 1));
+        let count = count_of(without, link_at(links, row, 0))
+            + count_of(with, link_at(links, row, 1));
         counts.push(count)?;
     }
     if counts.iter().all(|count| *count == 0) {

@@ -6,7 +6,7 @@ use std::fmt::Debug;
 use std::io::Print;
 use std::process::Abort;
 use std::sync::atomic::{AtomicU64, Ordering};
-use std::{array, hint, thread};
+use std::{array, thread};
 
 /// Fails with the label if what was found is not what was wanted.
 pub(crate) fn assert_same<T: PartialEq + Debug + Drop, L: Debug + Drop>(
@@ -66,8 +66,6 @@ pub(crate) struct Watch {
     /// The slice that passed last, and how many passed after a lower one.
     last: AtomicU64,
     ascents: AtomicU64,
-    /// Whether a worker was held to no end.
-    missed: AtomicU64,
     prefixes: AtomicU64,
     found: AtomicU64,
     /// The most prefixes or coalitions of one call of `inform`, and the calls of fewer than usual.
@@ -94,7 +92,6 @@ impl Watch {
             passes: AtomicU64::new(0),
             last: AtomicU64::new(1024),
             ascents: AtomicU64::new(0),
-            missed: AtomicU64::new(0),
             prefixes: AtomicU64::new(0),
             found: AtomicU64::new(0),
             most: AtomicU64::new(0),
@@ -143,11 +140,6 @@ impl Watch {
         self.ascents.load(Ordering::SeqCst) == 0
     }
 
-    /// Whether a worker was held to no end.
-    pub(crate) fn has_missed(&self) -> bool {
-        self.missed.load(Ordering::SeqCst) != 0
-    }
-
     /// Returns the coalitions and prefixes of all calls of `inform`, and how many calls were short.
     ///
     /// All are 0 if a call came before the first pass, or was of far more than usual.
@@ -163,21 +155,14 @@ impl Watch {
         )
     }
 
-    /// Waits until there were as many passes as wanted, for a hundred million turns at most.
-    fn sees(&self) -> bool {
-        for turn in 0..100_000_000u32 {
+    /// Waits until there were as many passes as wanted. No run lives to see 2^64 turns.
+    fn hold(&self) {
+        for _ in 0..u64::MAX {
             if self.passes() >= self.until {
-                return true;
+                return;
             }
-            if self.has_missed() {
-                return false;
-            }
-            if turn % 64 == 0 {
-                thread::yield_now();
-            }
-            hint::spin_loop();
+            thread::yield_now();
         }
-        false
     }
 }
 
@@ -193,8 +178,8 @@ impl Gate for Watch {
         self.ascents
             .fetch_add(u64::from(last <= u64::from(slice)), Ordering::SeqCst);
         let before = self.passes.fetch_add(1, Ordering::SeqCst);
-        if before < self.held && !self.sees() {
-            self.missed.store(1, Ordering::SeqCst);
+        if before < self.held {
+            self.hold();
         }
     }
 

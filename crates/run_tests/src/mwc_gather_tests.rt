@@ -76,12 +76,8 @@ fn a_held_worker_holds_no_slice(rt: HostRuntime) {
         let watch = Watch::holding(held, until);
         let gathered = gather_behind(&rt, rt.alloc(), &game, &watch, bits, 2, 5);
         assert!(rt; gathered.is_ok());
-        let found = (
-            watch.has_each_once(1 << bits),
-            watch.workers(),
-            watch.has_missed(),
-        );
-        assert_same(&rt, found, (true, 3, false), bits);
+        let found = (watch.has_each_once(1 << bits), watch.workers());
+        assert_same(&rt, found, (true, 3), bits);
     }
 }
 

@@ -47,8 +47,8 @@ fn a_held_worker_holds_no_slice(rt: HostRuntime) {
         let watch = Watch::holding(held, until);
         let counts = tally(&rt, rt.alloc(), &game, 5, workers, &watch);
         assert!(rt; counts.is_ok());
-        let found = (watch.passes(), watch.has_missed(), watch.workers());
-        assert_same(&rt, found, (32, false, numbers), workers);
+        let found = (watch.passes(), watch.workers());
+        assert_same(&rt, found, (32, numbers), workers);
     }
 }
 

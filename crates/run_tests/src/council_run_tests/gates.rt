@@ -54,10 +54,6 @@ fn a_tally_has_its_threads_and_slices(rt: HostRuntime) {
     let watch = Watch::holding(16, 16);
     let counts = count_by_threads(&rt, rt.alloc(), &game, &options(16, 0), &watch);
     assert!(rt; counts.is_ok());
-    let found = (
-        watch.has_each_once(256),
-        watch.workers(),
-        watch.has_missed(),
-    );
-    assert_same(&rt, found, (true, 65_535, false), "slices, workers, missed");
+    let found = (watch.has_each_once(256), watch.workers());
+    assert_same(&rt, found, (true, 65_535), "slices, workers");
 }

@@ -24,13 +24,13 @@ loop-size-preserved c =
       each = λ k s lt in'. elim (cases_lt s c.loop-size.size) [
         | inl less ↦ count-more sizes counts k s (omega (arith, less, c.loop-size.invariant.long)) ∙ c.loop-size.invariant.each k s less in'
         | inr ge ↦ (let e : s ≡ c.loop-size.size = omega arith in rw e (omega (
-            arith,
-            count-last sizes counts k c.loop-size.size c.loop-size.invariant.long,
-            c.in_ok-complete_size.ensures k (omega (arith, in', level-rows c.requires.graph links)),
-            c.counts_of-without.ensures (link_at c.index-levels-level.result.items k 0),
-            c.counts_of-with.ensures (link_at c.index-levels-level.result.items k 1),
-            complete-next c.requires.graph links c.requires.next k c.loop-size.size,
-          )))
+          arith,
+          count-last sizes counts k c.loop-size.size c.loop-size.invariant.long,
+          c.in_ok-complete_size.ensures k (omega (arith, in', level-rows c.requires.graph links)),
+          c.counts_of-without.ensures (link_at c.index-levels-level.result.items k 0),
+          c.counts_of-with.ensures (link_at c.index-levels-level.result.items k 1),
+          complete-next c.requires.graph links c.requires.next k c.loop-size.size,
+        )))
       ];
     })
 
