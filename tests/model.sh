@@ -43,7 +43,7 @@ list_searches() {
             echo "0 $size $ring"
         done
     done
-    for slip in WAKES_NOBODY SLEEPS_AT_ONCE SENDS_NO_DONE SENDS_NO_END TASKS=0; do
+    for slip in WAKES_NOBODY FILLS_IN_SILENCE SLEEPS_AT_ONCE SENDS_NO_DONE SENDS_NO_END TASKS=0; do
         echo "1 WORKERS=1 RING=1 $slip"
     done
 }
