@@ -1,7 +1,7 @@
 #!/usr/bin/env bash
-# Searches the model of waiting, docs/model/gather.pml, by spin: all its states for one and two
-# workers with two slices, and for three with one. No thread may be stuck, and no assertion may
-# fail. Then it must find each slip that the model can be given.
+# Searches the model of waiting, docs/model/gather.pml, by spin, four searches at once: all its
+# states for one and two workers with two slices, and for three with one. No thread may be stuck,
+# and no assertion may fail. It must also find each slip that the model can be given.
 #
 #     tests/model.sh
 #
@@ -17,13 +17,13 @@ done
 room=$(mktemp -d)
 trap 'rm -rf "$room"' EXIT
 model=$PWD/docs/model/gather.pml
-cd "$room" || exit 1
+export room model
 
 # Says whether a search with these definitions counts so many errors.
 expect() {
     local wanted=$1 found
     shift
-    rm -f pan
+    cd "$(mktemp -d -p "$room")" || return
     spin -a "${@/#/-D}" "$model" >log 2>&1 && cc -O2 -DCOLLAPSE -DSAFETY -o pan pan.c 2>>log &&
         timeout 300 ./pan -n -m100000 -w24 >>log 2>&1
     found=$(grep -o 'errors: .*' log) || found=$(tail -n 3 log)
@@ -33,13 +33,19 @@ expect() {
         echo "FAILED model.sh $*: $found"
     fi
 }
+export -f expect
 
-for size in 'WORKERS=1 SLICES=2' 'WORKERS=2 SLICES=2' 'WORKERS=3 SLICES=1'; do
-    for ring in 'RING=1' 'RING=2' 'RING=1 TIMED' 'RING=2 TIMED'; do
-        # shellcheck disable=SC2086
-        expect 0 $size $ring
+# Prints the searches, the longest first.
+list_searches() {
+    local size ring slip
+    for size in 'WORKERS=3 SLICES=1' 'WORKERS=2 SLICES=2' 'WORKERS=1 SLICES=2'; do
+        for ring in 'RING=2 TIMED' 'RING=1 TIMED' 'RING=2' 'RING=1'; do
+            echo "0 $size $ring"
+        done
     done
-done
-for slip in WAKES_NOBODY SLEEPS_AT_ONCE SENDS_NO_DONE SENDS_NO_END TASKS=0; do
-    expect 1 WORKERS=1 RING=1 $slip
-done
+    for slip in WAKES_NOBODY FILLS_IN_SILENCE SLEEPS_AT_ONCE SENDS_NO_DONE SENDS_NO_END TASKS=0; do
+        echo "1 WORKERS=1 RING=1 $slip"
+    done
+}
+
+list_searches | xargs -P 4 -L 1 bash -c 'expect "$@"' expect

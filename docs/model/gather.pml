@@ -3,9 +3,9 @@
  *
  * Left out are the coalitions, how often a thread looks before it announces its sleep (here once),
  * and memory orders, because all atomics that decide a sleep are sequentially consistent. Left out
- * are also wake-ups that only come in addition: before a wait, after some full rows, or because
- * another thread came between two steps that are one here. A thread that never ends is an invalid
- * end state, and so is a lost wake-up, unless the longest sleep makes up for it (TIMED). */
+ * are also wake-ups that only come in addition: after some full rows, or because another thread
+ * came between two steps that are one here. A thread that never ends is an invalid end state, and
+ * so is a lost wake-up, unless the longest sleep makes up for it (TIMED). */
 #ifndef TASKS
 #define TASKS 2
 #endif
@@ -65,14 +65,12 @@ inline wait(who) {
     fi
 }
 
-/* whether a worker can't go on: it has no task, or its ring is full */
-#define STUCK (last == 0 && task != Dismiss && empty(tasks[me]) || last != 0 && full(words[me]))
-
 /* run_worker: `ones` coalitions and then `last` are to be sent, or nothing if `last` is 0 */
 proctype worker(byte me) {
     bool announced;
     byte ones;
     mtype task, last;
+next:
     do
     :: atomic { last == 0 && task == Dismiss -> alive--; break }
     /* next_task */
@@ -87,12 +85,13 @@ proctype worker(byte me) {
             fi
         };
         wake(GATHERER)
-    /* send: puts in as many words as there is room for */
+    /* send: puts in a word, and wakes the gatherer if it is the last; full rows may wake nobody */
     :: atomic {
             last != 0 && nfull(words[me]) ->
-            do
-            :: ones > 0 && nfull(words[me]) -> words[me]!One; ones--
-            :: ones == 0 && nfull(words[me]) ->
+            renew(me);
+            if
+            :: ones > 0 -> words[me]!One; ones--; goto next
+            :: ones == 0 ->
                 if
 #ifdef SENDS_NO_DONE
                 :: last == Done
@@ -102,17 +101,22 @@ proctype worker(byte me) {
 #endif
                 :: words[me]!last
                 fi;
-                last = 0;
-                break
-            :: full(words[me]) -> break
-            od;
-            renew(me)
-        }
+                last = 0
+            fi
+        };
 #ifndef WAKES_NOBODY
-        ;
         wake(GATHERER)
 #endif
-    :: atomic { STUCK -> skip };
+    /* send: its ring is full, and it wakes the gatherer before it waits */
+    :: atomic {
+            last != 0 && full(words[me]);
+#ifndef FILLS_IN_SILENCE
+            wake(GATHERER)
+#endif
+        };
+        wait(me)
+    /* next_task: it has none */
+    :: atomic { last == 0 && task != Dismiss && empty(tasks[me]) -> skip };
         wait(me)
     od
 }

@@ -2,6 +2,7 @@
 the coalitions if it lists them."""
 from __future__ import annotations
 
+import functools
 import gc
 import io
 import itertools
@@ -105,6 +106,7 @@ def read_number(text: str) -> int:
     return int(text)
 
 
+@functools.lru_cache
 def read_numbers(text: str) -> tuple[int, ...]:
     """Reads a field that has one number for each rule, with / between them."""
     return tuple(map(read_number, text.split("/"))) if "/" in text else (read_number(text),)

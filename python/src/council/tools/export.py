@@ -20,6 +20,7 @@ from __future__ import annotations
 
 import argparse
 import functools
+import io
 import json
 import re
 import shutil
@@ -209,11 +210,11 @@ def describe(report: Report, indices: Sequence[Index], places: Optional[int]) ->
 def write_json(lines: Iterable[str], words: argparse.Namespace) -> None:
     """Writes a report as JSON, with a line for each coalition. These may be millions and come before
     the members, so they wait in a temporary file."""
-    quote_name = functools.lru_cache(functools.partial(json.dumps, ensure_ascii=False))
-    with tempfile.TemporaryFile("w+", encoding="utf-8") as coalitions:
+    write = functools.lru_cache(functools.partial(json.dumps, ensure_ascii=False))
+    with tempfile.TemporaryFile() as coalitions:
 
         def take(it: Coalition) -> None:
-            coalitions.write(f',\n  {{"members": [{", ".join(map(quote_name, it.members))}], "weights": {list(it.weights)}}}')
+            coalitions.write(f',\n  {{"members": [{", ".join(map(write, it.members))}], "weights": {write(it.weights)}}}'.encode())
 
         report = Report(lines, take)
         warn_of_low_quotas(report.quotas, report.totals)
@@ -221,7 +222,7 @@ def write_json(lines: Iterable[str], words: argparse.Namespace) -> None:
         if report.listed:
             sys.stdout.write(head[: -len("\n}")] + ',\n "coalitions": [')
             coalitions.seek(1)
-            shutil.copyfileobj(coalitions, sys.stdout)
+            shutil.copyfileobj(io.TextIOWrapper(coalitions, "utf-8"), sys.stdout)
             head = "\n ]\n}"
         print(head)
 
