@@ -182,10 +182,11 @@ class Report:
 
     Lines have different numbers of fields, and a name may hold quotes: so the fields are split at
     TABs and nothing else. What is no report is a Fault. A report can list millions of coalitions:
-    if you pass `take`, it is called with one after the other, and the report keeps none.
+    if you pass `take`, it is called with one after the other, and the report keeps none. `read`
+    makes what it is called with of the fields of a line.
     """
 
-    def __init__(self, lines: Iterable[str], take: Optional[Callable[[Coalition], None]] = None):
+    def __init__(self, lines: Iterable[str], take: Optional[Callable[[Any], object]] = None, read: Callable[..., Any] = read_coalition):
         self.members: list[Member] = []
         # how many coalitions are listed
         self.listed = 0
@@ -193,7 +194,7 @@ class Report:
         # lines of coalitions that nobody has looked at yet
         self._unread = ""
         kept: list[Coalition] = []
-        one = self._read(lines, take or kept.append)
+        one = self._read(lines, take or kept.append, read)
         if kept:
             self._kept = kept
         if not one and not self.members:
@@ -208,7 +209,7 @@ class Report:
         if not (whole and self._is_sound()):
             raise Fault("the report is not whole, or its numbers are not those of council")
 
-    def _read(self, lines: Iterable[str], take: Callable[[Coalition], None]) -> dict[str, str]:
+    def _read(self, lines: Iterable[str], take: Callable[[Any], object], read: Callable[..., Any]) -> dict[str, str]:
         """Reads the lines, and returns the fields of those that a report has once."""
         one: dict[str, str] = {}
         for at, line in enumerate(limit_lines(lines), 1):
@@ -217,7 +218,7 @@ class Report:
                 if kind == "member" and len(self.members) < 40:
                     self.members.append(read_member(*fields))
                 elif kind == "coalition" and self.listed < MOST:
-                    take(read_coalition(*fields))
+                    take(read(*fields))
                     self.listed += 1
                 elif kind in ("title", "members", "quota", "total", MINIMAL.line, SWINGS.line):
                     (one[kind],) = fields
