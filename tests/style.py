@@ -11,8 +11,8 @@ other pages. Words are those of the whole page, code and tables too, that have a
 Then `ok style: comments of FOLDER` or `FAILED ..` for each folder at the top and each crate: no whole-line comment of
 its sources and scripts is wider than 100 columns, but for code and tables in it, and none has a worn-out phrase.
 
-Last `ok style: summaries`: the documentation of each public function begins with a line of its own, a sentence such as
-"Returns the ..", of at most 80 characters. That of a law may begin with any such sentence.
+Last `ok style: summaries`: the documentation of each function begins with a sentence such as "Returns the ..", and that
+of a public one is a line of its own, of at most 80 characters. A law may begin with any sentence; tests need none.
 """
 import glob
 import os
@@ -198,19 +198,24 @@ def faults_of_comments(path, mark):
 
 
 def faults_of_summaries(path):
-    """The public functions of a source without a summary."""
-    faults, doc = [], []
+    """The functions of a source without a summary; one that a trait asks for has that of the trait, and a test none."""
+    faults, doc, marks, of_trait = [], [], [], False
     for number, line in enumerate(read(path).split("\n"), 1):
+        if re.match(r"(impl|(pub(\(crate\))? )?trait)\b|\}", line):
+            of_trait = line.startswith("impl") and " for " in line
         line = line.strip()
         if line.startswith("///"):
             doc.append(line[4:])
-        elif line.startswith("pub fn"):
+        elif line.startswith("#["):
+            marks.append(line)
+        elif re.match(r"(pub(\(crate\))? )?(extern \"C\" )?fn (?!main\b)", line) and not of_trait and "#[test]" not in marks:
             first, after = [*doc, "", ""][:2]
             verb = path.endswith("/laws.rt") or re.match(r"[A-Z][a-z]*s ", first) or first.startswith("For the prover:")
-            if not verb or len(first) > 80 or not first.endswith(".") or after:
+            is_short = len(first) <= 80 and first.endswith(".") and not after
+            if not verb or line.startswith("pub fn") and not is_short:
                 faults.append(f"{path}:{number} has none")
         if not line.startswith(("///", "#[")):
-            doc = []
+            doc, marks = [], []
     return faults
 
 
@@ -226,6 +231,6 @@ for path in sorted(paths):
         folders.setdefault("/".join(parts[:2]) if parts[0] == "crates" else parts[0] if len(parts) > 1 else "the top", []).append(path)
 for folder, its in folders.items():
     good &= report(f"comments of {folder}", [fault for path in its for fault in faults_of_comments(path, mark_of(path))])
-sources = [it for it in sorted(paths) if it.endswith(".rt") and "_tests/" not in it]
+sources = [it for it in sorted(paths) if it.endswith(".rt")]
 good &= report("summaries", [fault for path in sources for fault in faults_of_summaries(path)])
 sys.exit(0 if good else 1)

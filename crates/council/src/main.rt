@@ -2,20 +2,19 @@
 //! indices that rest on them.
 #![tactic(auto)]
 
-ghost use Rattle.std.specs.Prelude.{◌≡◌};
-ghost use Rattle.council_file.specs.Reads.{Reads};
+ghost use Rattle.std.specs.Prelude.{◌≡◌, Ok};
 ghost use Rattle.council_report.specs.Outcome.{Writes};
 ghost use Rattle.council_run.specs.Columns.{limit_with, report_of};
 ghost use Rattle.council_run.specs.Run.{IsOutcome};
 ghost use Rattle.council_run.specs.Plans.{is_too_many, lines_of_plan};
 
-use council_base::{Gate, Plan, Recorder, Sink, Source, limits, sanitize};
+use council_base::{Gate, Plan, Sink, Source, sanitize};
 use council_explain::{explain, remark_on_quotas, remark_on_thousands};
-use council_file::parse_game;
-use council_game::GameFault;
-use council_progress::{Line, Progress, Wiping};
+use council_file::{parse_game, read_bytes};
+use council_game::{Game, GameFault};
+use council_progress::Progress;
 use council_run::{
-    Cause, Columns, LEAST_BITS, MOST_STATES, RunFault, number_by_states, run_by, status,
+    Cause, Columns, LEAST_BITS, MOST_STATES, RunFault, number_by_states, report_game, status,
 };
 use council_words::{Arguments, collect_words, parse_arguments};
 use mwc_gather::GatherFault;
@@ -39,16 +38,11 @@ fn print_fault(rt: &impl Eprint, fault: RunFault) -> ExitCode {
 /// What helps against too many states.
 const WITHOUT_SWINGS: &str = "--tally may still count the minimal winning coalitions";
 
-/// Says more of a fault, if there is more to say; the bytes are those that were read.
-fn explain_further(rt: &(impl Eprint + AllocGlobal), cause: Cause, bytes: &[u8]) {
+/// Says more of why a game has no report, if there is more to say.
+fn explain_further(rt: &(impl Eprint + AllocGlobal), cause: Cause, game: &Game) {
     match cause {
-        Cause::Game(fault) => {
-            if let Ok(lines) = explain(rt.alloc(), bytes, fault) {
-                let _ = eprint!(rt; "{lines}");
-            }
-        }
         Cause::Gather(GatherFault::TooMany) => {
-            if let Ok(Some(number)) = number_by_states(rt.alloc(), bytes) {
+            if let Ok(Some(number)) = number_by_states(rt.alloc(), game) {
                 let _ = eprintln!(rt; "  there are {number} of them");
             }
             let _ = eprintln!(rt;
@@ -58,7 +52,7 @@ fn explain_further(rt: &(impl Eprint + AllocGlobal), cause: Cause, bytes: &[u8])
         Cause::States => {
             let _ = eprintln!(rt; "  they take more than {MOST_STATES} states; {WITHOUT_SWINGS}");
         }
-        Cause::Gather(_) | Cause::Write | Cause::Memory => {}
+        Cause::Game(_) | Cause::Gather(_) | Cause::Write | Cause::Memory => {}
     }
 }
 
@@ -74,18 +68,6 @@ fn hint(rt: &impl Eprint, cause: Cause) {
     let _ = eprintln!(rt; "  {line}");
 }
 
-/// Says what may not be meant in a game that was read; the bytes are those that were read.
-fn print_remarks(rt: &(impl Eprint + AllocGlobal), bytes: &[u8]) {
-    if let Some(remark) = remark_on_thousands(bytes) {
-        let _ = eprintln!(rt; "council: {remark}");
-    }
-    if let Ok(game) = parse_game(rt.alloc(), bytes)
-        && let Some(remark) = remark_on_quotas(&game)
-    {
-        let _ = eprintln!(rt; "council: {remark}");
-    }
-}
-
 /// What is said of a name that `is_misshown`.
 const MISSHOWN: &str = "has characters that move a terminal or show nothing";
 
@@ -95,10 +77,7 @@ fn is_misshown(alloc: Global, text: &str) -> bool {
 }
 
 /// Says on standard error which names a terminal may not show as they are.
-fn remark_on_names(rt: &(impl Eprint + AllocGlobal), bytes: &[u8]) {
-    let Ok(game) = parse_game(rt.alloc(), bytes) else {
-        return;
-    };
+fn remark_on_names(rt: &(impl Eprint + AllocGlobal), game: &Game) {
     if game
         .title()
         .is_some_and(|title| is_misshown(rt.alloc(), title))
@@ -110,37 +89,6 @@ fn remark_on_names(rt: &(impl Eprint + AllocGlobal), bytes: &[u8]) {
             let _ = eprintln!(rt; "council: the name of member {} {MISSHOWN}", member + 1);
         }
     }
-}
-
-/// A reader that remarks on the names of a game on a terminal, when all of it was read.
-///
-/// A read of it is one read of the reader inside, with the same bytes and the same result.
-#[derive(Drop)]
-struct Remarking<'a, 'b, R, I> {
-    rt: &'a R,
-    terminal: bool,
-    reader: Recorder<'b, I>,
-}
-
-impl<'a, 'b, R: Eprint + AllocGlobal, I: Source> Source for Remarking<'a, 'b, R, I> {
-    ghost left = { λ it. I.left it.reader.reader.now };
-
-    ghost is_read = { λ old buffer result new filled.
-        I.is_read old.reader.reader.now buffer result new.reader.reader.now filled };
-
-    fn read_once(&mut self, buffer: &mut [u8]) -> io::Result<usize> {
-        let count = self.reader.read_once(buffer)?;
-        if count == 0
-            && self.terminal
-            && let Some(bytes) = self.reader.bytes()
-        {
-            remark_on_names(self.rt, bytes);
-        }
-        Ok(count)
-    }
-
-    ghost reads = { λ old new buffer filled result is.
-        I.reads old.reader.reader.now new.reader.reader.now buffer filled result is };
 }
 
 /// The longest path that is shown, in characters.
@@ -175,59 +123,31 @@ fn columns_of(arguments: &Arguments<'_>) -> Columns {
     }
 }
 
-/// Runs as the arguments ask.
-fn execute<R: AllocGlobal + Threads + Wait + Sync, I: Source, G: Gate + Sync, W: Sink>(
+/// Writes the report of a game, as the arguments ask.
+fn report<R: AllocGlobal + Threads + Wait + Sync, G: Gate + Sync, W: Sink>(
     rt: &R,
     arguments: &Arguments<'_>,
     columns: Columns,
-    reader: &mut I,
+    game: &Game,
     gate: &G,
     writer: &mut W,
 ) -> Result<u64, RunFault>
     ensures { IsOutcome (report_of columns (lines_of_plan arguments.now.plan arguments.now.options))
         (limit_with columns arguments.now.plan arguments.now.options.most (is_too_many result))
-        (Reads I.left I.is_read reader.old reader.new)
+        (λ answer. answer ≡ Ok game.now)
         (λ text. Writes W.held W.is_write W.is_flush text writer.old writer.new)
         (writer.new ≡ writer.old) result }
 {
-    run_by(
+    report_game(
         rt,
         rt.alloc(),
-        reader,
+        game,
         &arguments.options,
         gate,
         writer,
         arguments.plan,
         columns,
     )
-}
-
-/// Reports the outcome on standard error, with what there is to say of the bytes that were read, if
-/// they were kept, and returns the status.
-fn report_outcome(
-    rt: &(impl Eprint + AllocGlobal),
-    arguments: &Arguments<'_>,
-    terminal: bool,
-    outcome: Result<u64, RunFault>,
-    bytes: Option<&[u8]>,
-) -> ExitCode {
-    match outcome {
-        Ok(_) => {
-            if terminal && let Some(bytes) = bytes {
-                print_remarks(rt, bytes);
-            }
-            ExitCode::SUCCESS
-        }
-        Err(fault) => {
-            let code = print_fault(rt, fault);
-            if !arguments.explain && terminal {
-                hint(rt, fault.cause);
-            } else if let Some(bytes) = bytes {
-                explain_further(rt, fault.cause, bytes);
-            }
-            code
-        }
-    }
 }
 
 /// Returns how many slices there are, unless the game has very few members.
@@ -239,34 +159,81 @@ fn slices_of(arguments: &Arguments<'_>) -> u16 {
     }
 }
 
-/// Runs on what is read, and writes to standard output; `terminal` tells whether standard error is
-/// a terminal.
+/// Reports on a game to standard output, and returns the status.
+///
+/// On a terminal it remarks on what may not be meant: in names first, and in numbers, of which
+/// `thousands` is a remark, after the report.
+fn report_on<R: AllocGlobal + Print + Eprint + Clock + Threads + Wait + Sync>(
+    rt: &R,
+    arguments: &Arguments<'_>,
+    terminal: bool,
+    game: &Game,
+    thousands: Option<&'static str>,
+) -> ExitCode {
+    if terminal {
+        remark_on_names(rt, game);
+    }
+    let progress = Progress::new(rt, terminal, slices_of(arguments));
+    let columns = columns_of(arguments);
+    let outcome = report(rt, arguments, columns, game, &progress, &mut io::writer(rt));
+    progress.wipe();
+    if let Err(fault) = outcome {
+        let code = print_fault(rt, fault);
+        if arguments.explain {
+            explain_further(rt, fault.cause, game);
+        } else if terminal {
+            hint(rt, fault.cause);
+        }
+        return code;
+    }
+    if terminal {
+        for remark in [thousands, remark_on_quotas(game)] {
+            if let Some(remark) = remark {
+                let _ = eprintln!(rt; "council: {remark}");
+            }
+        }
+    }
+    ExitCode::SUCCESS
+}
+
+/// Says why a file has no game, and returns the status; the bytes are those that were read.
+fn refuse(
+    rt: &(impl Eprint + AllocGlobal),
+    arguments: &Arguments<'_>,
+    terminal: bool,
+    fault: GameFault,
+    bytes: &[u8],
+) -> ExitCode {
+    let code = print_fault(rt, RunFault::from(fault));
+    if arguments.explain {
+        if let Ok(lines) = explain(rt.alloc(), bytes, fault) {
+            let _ = eprint!(rt; "{lines}");
+        }
+    } else if terminal {
+        hint(rt, Cause::Game(fault));
+    }
+    code
+}
+
+/// Reads a game, and reports on it; `terminal` tells whether standard error is a terminal.
 fn run_on<R: AllocGlobal + Print + Eprint + Clock + Threads + Wait + Sync, I: Source>(
     rt: &R,
     arguments: &Arguments<'_>,
     terminal: bool,
     reader: &mut I,
 ) -> ExitCode {
-    let mut bytes = None;
-    if arguments.explain || terminal {
-        // memory: without room nothing is recorded, and the run goes on
-        bytes = Vec::with_capacity(rt.alloc(), limits::FILE_BYTES + 1).ok();
+    let bytes = match read_bytes(rt.alloc(), reader) {
+        Ok(bytes) => bytes,
+        Err(fault) => return refuse(rt, arguments, terminal, fault, &[]),
+    };
+    match parse_game(rt.alloc(), &bytes) {
+        Ok(game) => {
+            let thousands = remark_on_thousands(&bytes);
+            drop(bytes);
+            report_on(rt, arguments, terminal, &game, thousands)
+        }
+        Err(fault) => refuse(rt, arguments, terminal, fault, &bytes),
     }
-    let mut reader = Remarking {
-        rt,
-        terminal,
-        reader: Recorder::new(reader, bytes),
-    };
-    let slices = slices_of(arguments);
-    let progress = Progress::new(rt, terminal, slices);
-    let mut writer = Wiping {
-        line: Line(&progress),
-        writer: io::writer(rt),
-    };
-    let columns = columns_of(arguments);
-    let outcome = execute(rt, arguments, columns, &mut reader, &progress, &mut writer);
-    progress.wipe();
-    report_outcome(rt, arguments, terminal, outcome, reader.reader.bytes())
 }
 
 /// Runs on the file, or on standard input if none is named.

@@ -20,6 +20,9 @@ pub trait Gate {
 
     /// Notes progress of a count by states, after another of the members is decided.
     fn decide(&self, _decided: u8, _members: u8) {}
+
+    /// Notes that all is found, before the report is written.
+    fn finish(&self) {}
 }
 
 /// The gate that returns at once.

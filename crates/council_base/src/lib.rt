@@ -1,6 +1,6 @@
 //! The base of all crates: coalitions, counts by size, lists by place, `Memory`, the limits, the
 //! options of a run and how it finds coalitions, the observer of its workers, readers and writers
-//! seen call by call, a reader that keeps what it reads, and text that is safe to show.
+//! seen call by call, and text that is safe to show.
 #![tactic(auto)]
 
 mod coalition;
@@ -10,7 +10,6 @@ mod lists;
 mod memory;
 mod options;
 mod plan;
-mod recorder;
 mod report_lines;
 mod sanitized;
 mod sink;
@@ -23,7 +22,6 @@ pub use lists::list_from_fn;
 pub use memory::Memory;
 pub use options::Options;
 pub use plan::Plan;
-pub use recorder::Recorder;
 pub use report_lines::ReportLines;
 pub use sanitized::{Sanitized, sanitize};
 pub use sink::Sink;

@@ -36,7 +36,7 @@ fn skip_number(text: &str) -> Result<&str, Misfit<'_>> {
 /// Skips what stands in the brackets.
 pub fn skip_rule(text: &str) -> Result<&str, Misfit<'_>> {
     let rest = skip_number(text)?;
-    let weights = skip(rest, ';', "a semicolon is expected here, behind the quota")?;
+    let weights = skip(rest, ';', "a semicolon is expected here, after the quota")?;
     let mut rest = weights;
     for _ in weights.split(',') {
         rest = skip_number(rest)?;
@@ -51,11 +51,11 @@ pub fn skip_rule(text: &str) -> Result<&str, Misfit<'_>> {
 /// Skips the whole text.
 pub fn skip_text(text: &str) -> Result<&str, Misfit<'_>> {
     let rest = skip(text.trim_start_matches(BLANKS), '[', "")?;
-    let expected = "a comma or a bracket is expected here, behind the weight";
+    let expected = "a comma or a bracket is expected here, after the weight";
     skip(skip_rule(rest)?, ']', expected)
 }
 
-/// The number that stands between blanks and brackets.
+/// Returns the number that stands between blanks and brackets.
 fn number_in(text: &str) -> u64 {
     let digits = text.trim_matches(AROUND);
     u64::from_str_radix(digits, 10).unwrap_or(0)
@@ -66,7 +66,7 @@ impl Explanation<'_> {
     pub fn explain_misfit(&mut self) {
         let text = self.text.trim_end();
         let (rest, expected) = match skip_text(text) {
-            Ok(rest) => (rest, "nothing may stand behind the bracket"),
+            Ok(rest) => (rest, "nothing may follow the bracket"),
             Err(misfit) => misfit,
         };
         self.explain_place(text.len().saturating_sub(rest.len()), expected);

@@ -5,7 +5,7 @@ use std::alloc::Global;
 use toml::Table;
 use toml::de::Error;
 
-/// Whether the bytes are those of a spreadsheet or an archive.
+/// Returns whether the bytes are those of a spreadsheet or an archive.
 fn is_spreadsheet(bytes: &[u8]) -> bool {
     bytes.starts_with(b"PK\x03\x04") || bytes.starts_with(b"\xD0\xCF\x11\xE0")
 }

@@ -63,7 +63,9 @@ impl<'a> Explanation<'a> {
         }
     }
 
-    /// Whether a front of the file has a key already, or the member if there is no key.
+    /// Returns whether a front of the file has a key already.
+    ///
+    /// It is one of the member if there is one, or the member itself if there is no key.
     fn has(&self, front: &str, member: Option<usize>, key: Option<&str>) -> Result<bool, Memory> {
         for end in ENDS {
             let text = format!(in self.alloc; "{front}{end}")?;

@@ -28,7 +28,9 @@ pub fn kind(value: &Value) -> &'static str {
     }
 }
 
-/// The most decimals of a number in a text, without zeros at their end and with them.
+/// Returns the most decimals of a number in a text.
+///
+/// First without zeros at their end, and then with them.
 ///
 /// The comma of an array counts for nothing, nor does what is in a comment or before a quote.
 fn most_decimals(text: &str, sign: char) -> (usize, usize) {

@@ -14,7 +14,7 @@ const NAME: &str = "a name is a text in quotes, of 1 to 64 bytes, on one line";
 
 const TITLE: &str = "a title is a text in quotes, of at most 200 bytes, on one line";
 
-/// Whether a file may have a key at its top.
+/// Returns whether a file may have a key at its top.
 fn is_top_key(key: &str) -> bool {
     matches!(key, "title" | "quota" | "quotas" | "member")
 }

@@ -2,7 +2,7 @@
 use Rattle.std.proofs.Common.{◌≡◌, ℕ, List, [], ◌∷◌, ◌++◌, Option, Some, None, option_map, option_and_then, ◌≢◌, refl, sym, ap, ◌∙◌}
 use Rattle.std.proofs.Common.{append_assoc, arith}
 use Rattle.council_game.specs.Votes.{RuleView}
-use Rattle.council_file.specs.declared.token.Token.{Token, TheVariants.Closing, TheVariants.Comma}
+use Rattle.council_file.specs.declared.scanner.Token.{Token, TheVariants.Closing, TheVariants.Comma}
 use Rattle.council_file.specs.Bracket.{Symbol, number, opening, closing, comma, semicolon, value_of, weights_of, rule_of}
 use Rattle.council_file.specs.Inner.Scan.{symbol, first_number, after_opening, after_semicolon}
 

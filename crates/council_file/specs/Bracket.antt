@@ -38,7 +38,7 @@ abbrev pub begins_with_digit : List ℕ → Bool
 begins_with_digit [] = false
 begins_with_digit (b ∷ bs) = is_ascii_digit b
 
--- A digit joins the number that begins directly behind it, and else is a number by itself.
+-- A digit joins the number that begins directly after it, and else is a number by itself.
 abbrev pub with_digit : ℕ → Bool → List Symbol → List Symbol
 with_digit d true (number ds ∷ ps) = number (d ∷ ds) ∷ ps
 with_digit d joins ps = number (d ∷ []) ∷ ps

@@ -4,23 +4,23 @@ ghost use Rattle.council_game.specs.Fault.{Answers};
 ghost use Rattle.council_game.specs.Rules.{rule_view};
 ghost use Rattle.council_file.specs.Bracket.{symbols, weights_of, rule_of, is_bracket, counted_names, game_of_bracket};
 
-use crate::scanner::Scanner;
-use crate::token::Token;
+use crate::scanner::{Scanner, Token};
 use council_game::{Game, GameFault, Memory, Rule};
 use std::alloc::{AllocError, Global};
 
 /// Returns whether a text is a bracket text.
 ///
 /// Apart from blanks, it begins with `[` and a digit.
-pub fn is_bracket(bytes: &[u8]) -> bool
+pub(crate) fn is_bracket(bytes: &[u8]) -> bool
     ensures { result ≡ is_bracket bytes.now }
 {
     let mut scanner = Scanner::new(bytes);
     scanner.take_opening() && scanner.take_digits()
 }
 
-/// The weights up to the bracket that closes the text, and nothing if the text breaks the
-/// grammar.
+/// Returns the weights up to the bracket that closes the text.
+///
+/// It is nothing if the text breaks the grammar.
 #[tactic(auto, using(crate::proofs::Weights::commas))]
 fn weights_of(alloc: Global, scanner: &mut Scanner<'_>) -> Result<Option<Vec<u64>>, AllocError>
     ensures { IfOk result (λ o. option_map (λ v. v.items) o ≡ weights_of scanner.old) }
@@ -50,7 +50,7 @@ fn weights_of(alloc: Global, scanner: &mut Scanner<'_>) -> Result<Option<Vec<u64
 /// # Errors
 ///
 /// Memory if an allocation was refused.
-pub fn bracket_rule(alloc: Global, bytes: &[u8]) -> Result<Option<Rule>, Memory>
+fn bracket_rule(alloc: Global, bytes: &[u8]) -> Result<Option<Rule>, Memory>
     ensures { IfOk result (λ o. option_map rule_view o ≡ rule_of (symbols bytes.now)) }
 {
     let mut scanner = Scanner::new(bytes);
@@ -69,7 +69,7 @@ pub fn bracket_rule(alloc: Global, bytes: &[u8]) -> Result<Option<Rule>, Memory>
     }
 }
 
-/// The numbers 1 to `count`, in decimal.
+/// Lists the numbers 1 to `count`, in decimal.
 #[tactic(auto, using(crate::proofs::Digits::names_more))]
 fn number_names(alloc: Global, count: usize) -> Result<Vec<String>, AllocError>
     ensures { IfOk result (λ v. map string_bytes v.items ≡ counted_names count) }
@@ -81,7 +81,7 @@ fn number_names(alloc: Global, count: usize) -> Result<Vec<String>, AllocError>
     Ok(names)
 }
 
-/// The game of a bracket text, or the first fault.
+/// Returns the game of a bracket text, or the first fault.
 #[tactic(auto, using(crate::proofs::Digits::names_count), unfolding(crate::specs::Bracket::game_of_bracket))]
 pub(crate) fn game_of_bracket(alloc: Global, bytes: &[u8]) -> Result<Game, GameFault>
     ensures { Answers result (game_of_bracket bytes.now) }

@@ -12,19 +12,20 @@ use crate::members::member_list;
 use toml::{Table, Value};
 
 /// Returns whether a file may have the key at its top.
-pub fn is_top_key(key: &str) -> bool
+fn is_top_key(key: &str) -> bool
     ensures { result ≡ list_any (pointwise nat_eq key.now) top_keys }
 {
     matches!(key, "title" | "quota" | "quotas" | "member")
 }
 
 /// Returns whether a member may have the key.
-pub fn is_member_key(key: &str) -> bool
+fn is_member_key(key: &str) -> bool
     ensures { result ≡ list_any (pointwise nat_eq key.now) member_keys }
 {
     matches!(key, "name" | "weight" | "weights")
 }
 
+/// Returns whether a key is none that a file may have.
 fn any_other_top_key(table: &Table) -> bool
     ensures { result ≡ list_any (λ k. not (list_any (pointwise nat_eq (string_bytes k)) top_keys))
         (keys_of table.now.entries) }
@@ -32,6 +33,7 @@ fn any_other_top_key(table: &Table) -> bool
     table.keys().any(|key| !is_top_key(key.as_str()))
 }
 
+/// Returns whether a key is none that a member may have.
 fn any_other_member_key(table: &Table) -> bool
     ensures { result ≡ list_any (λ k. not (list_any (pointwise nat_eq (string_bytes k))
         member_keys)) (keys_of table.now.entries) }
@@ -39,6 +41,7 @@ fn any_other_member_key(table: &Table) -> bool
     table.keys().any(|key| !is_member_key(key.as_str()))
 }
 
+/// Returns whether a file has a key that it may not have.
 #[tactic(auto, using(crate::proofs::Views::other_key))]
 fn has_other_top_key(table: &Table) -> bool
     ensures { result ≡ has_other_key top_keys (table_view table.now) }
@@ -46,6 +49,7 @@ fn has_other_top_key(table: &Table) -> bool
     any_other_top_key(table)
 }
 
+/// Returns whether a member has a key that it may not have.
 #[tactic(auto, using(crate::proofs::Views::other_key))]
 fn has_other_member_key(table: &Table) -> bool
     ensures { result ≡ has_other_key member_keys (table_view table.now) }
@@ -53,6 +57,7 @@ fn has_other_member_key(table: &Table) -> bool
     any_other_member_key(table)
 }
 
+/// Returns whether a value is a table with a key that no member may have.
 fn is_odd_member(member: &Value) -> bool
     ensures { result ≡ option_map_or (has_other_key member_keys)
         (as_table (view member.now)) false }
@@ -63,6 +68,7 @@ fn is_odd_member(member: &Value) -> bool
     }
 }
 
+/// Returns whether some member has a key that it may not have.
 #[tactic(auto, using(council_game::proofs::Shared::Lists::found_any))]
 fn any_odd_member(members: &[Value]) -> bool
     ensures { result ≡ list_any (λ d. option_map_or (has_other_key member_keys) (as_table d) false)
@@ -76,7 +82,7 @@ fn any_odd_member(members: &[Value]) -> bool
     false
 }
 
-/// Whether the file, or one of its members, has a key that it may not have.
+/// Returns whether the file, or one of its members, has a key that it may not have.
 pub(crate) fn has_unknown_key(table: &Table) -> bool
     ensures { result ≡ has_unknown_key (table_view table.now) }
 {

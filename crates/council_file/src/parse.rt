@@ -1,30 +1,20 @@
 //! The game of the bytes of a file.
-ghost use Rattle.std.specs.Prelude.{◌≡◌, ◌≢◌, option_map, string_bytes, IfErr, IfOk};
-ghost use Rattle.toml.specs.View.{table_view};
-ghost use Rattle.council_game.specs.declared.fault.GameFault.TheVariants.{Read};
-ghost use Rattle.council_game.specs.Fault.{Answers};
 ghost use Rattle.council_file.specs.File.{game_of, game_of_tree};
+ghost use Rattle.council_game.specs.Fault.{Answers};
+ghost use Rattle.council_game.specs.declared.fault.GameFault.TheVariants.{Read};
+ghost use Rattle.std.specs.Prelude.{◌≢◌, IfErr};
+ghost use Rattle.toml.specs.View.{table_view};
 
 use crate::bracket::{game_of_bracket, is_bracket};
 use crate::keys::has_unknown_key;
 use crate::members::{are_members, member_list, names_of};
-use crate::quotas::lacks_quota;
-use crate::rules::{breaks_rules, rules_of};
-use crate::title::title_of;
-use crate::tree::tree_of;
-use council_game::{Game, GameFault, limits};
-use std::alloc::{AllocError, Global};
+use crate::rules::{breaks_rules, lacks_quota, rules_of};
+use crate::tree::{title_of, tree_of};
+use council_game::{Game, GameFault, copy_title, limits};
+use std::alloc::Global;
 use toml::Table;
 
-fn copy_of(alloc: Global, title: Option<&str>) -> Result<Option<String>, AllocError>
-    ensures { IfOk result (λ t. option_map string_bytes t ≡ option_map (λ s. s.now) title.entry) }
-{
-    match title {
-        Some(text) => Ok(Some(String::from_str(alloc, text)?)),
-        None => Ok(None),
-    }
-}
-
+/// Returns the game in the tree of a file, or the first fault.
 #[tactic(auto, using(crate::proofs::Fits::held), unfolding(crate::specs::File::game_of_tree))]
 fn game_of_tree(alloc: Global, table: &Table) -> Result<Game, GameFault>
     ensures { Answers result (game_of_tree (table_view table.now)) }
@@ -42,7 +32,7 @@ fn game_of_tree(alloc: Global, table: &Table) -> Result<Game, GameFault>
     if !are_members(member_list(table)) {
         return Err(GameFault::Members);
     }
-    let title = copy_of(alloc, title)?;
+    let title = copy_title(alloc, title)?;
     let names = names_of(alloc, member_list(table))?;
     let rules = rules_of(alloc, table)?;
     Game::with_rules(alloc, title, names, rules)

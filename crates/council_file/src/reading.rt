@@ -34,9 +34,16 @@ fn read_some<R: Source>(
     }
 }
 
-/// Reads up to the end, or until more than 65,536 bytes have come. Each read but the last gives
-/// some.
-fn read_bytes<R: Source>(alloc: Global, reader: &mut R) -> Result<Vec<u8>, GameFault>
+/// Returns the bytes that the reader gives, up to its end, but at most 65,537.
+///
+/// No read is made after one that fails or gives none, or once 65,537 bytes have come; so there are
+/// at most 65,537 reads.
+///
+/// # Errors
+///
+/// `Read` if a read failed, for whatever cause, also if it was interrupted; `Memory` if an
+/// allocation was refused.
+pub fn read_bytes<R: Source>(alloc: Global, reader: &mut R) -> Result<Vec<u8>, GameFault>
     ensures gave { IfOk result (λ v. Gave (R.left reader.old) (R.left reader.new) v.items) }
     ensures reads { MatchResult result
         (λ v. Reading R.is_read reader.old [] (Ok v.items) reader.new)
@@ -54,13 +61,11 @@ fn read_bytes<R: Source>(alloc: Global, reader: &mut R) -> Result<Vec<u8>, GameF
 
 /// Returns the game of the bytes that the reader gives, up to its end.
 ///
-/// No read is made after one that fails or gives none, or once 65,537 bytes have come; so there are
-/// at most 65,537 reads.
+/// The bytes are those of `read_bytes`.
 ///
 /// # Errors
 ///
-/// `TooLong` if 65,537 bytes came; `Read` if a read failed before that, for whatever cause, also if
-/// it was interrupted; else the errors of `parse_game` for the bytes.
+/// Those of `read_bytes`, or else of `parse_game` for the bytes.
 pub fn read_game<R: Source>(alloc: Global, reader: &mut R) -> Result<Game, GameFault>
     ensures { MatchResult result
         (λ game. Reads R.left R.is_read reader.old reader.new (Ok game))

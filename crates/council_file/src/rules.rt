@@ -1,21 +1,76 @@
 //! The rules of a game in a tree.
-ghost use Rattle.std.specs.Prelude.{◌≡◌, map, is_some, [], IfOk, ◌∷◌};
-ghost use Rattle.std.specs.List.{list_any, range_with_len};
-ghost use Rattle.toml.specs.Data.{get};
-ghost use Rattle.toml.specs.View.{table_view};
-ghost use Rattle.council_file.specs.File.{member_list, breaks_rules, only_rule, rule_from, rules_of};
+ghost use Rattle.council_file.specs.File.{member_list, breaks_rules, only_rule, rule_from, rules_of, elements_at, are_quotas, has_key, lacks_quota, quota_from};
 ghost use Rattle.council_game.specs.Rules.{rule_view, rule_views};
+ghost use Rattle.std.specs.List.{list_any, range_with_len};
+ghost use Rattle.std.specs.Prelude.{◌≡◌, map, is_some, [], IfOk, ◌∷◌, option_map, not, ◌&&◌, slice_get, codes};
+ghost use Rattle.toml.specs.Data.{get, as_integer};
+ghost use Rattle.toml.specs.View.{table_view, view};
 
-use crate::member_weights::{only_weight, weight_under};
-use crate::members::member_list;
-use crate::quotas::{has_bad_quotas, quota_at, quota_from};
+use crate::members::{member_list, only_weight, weight_under};
 use crate::tree::{elements_at, has_key, value_at};
 use council_base::list_from_fn;
-use council_game::{Memory, Rule};
+use council_game::{Memory, Rule, limits};
 use std::alloc::{AllocError, Global};
-use toml::Table;
+use toml::{Table, Value};
 
-/// Some member has the key.
+/// Returns whether a value is an integer.
+fn is_integer(value: &Value) -> bool
+    ensures { result ≡ is_some (as_integer (view value.now)) }
+{
+    value.as_integer().is_some()
+}
+
+/// Returns whether they are 1 to 4 integers.
+fn are_quotas(values: &[Value]) -> bool
+    ensures { result ≡ are_quotas (map view values.now) }
+{
+    if values.len() < 1 || limits::RULES < values.len() {
+        return false;
+    }
+    for value in values {
+        if !is_integer(value) {
+            return false;
+        }
+    }
+    true
+}
+
+/// Returns whether a file has quotas that are not 1 to 4 integers.
+pub(crate) fn has_bad_quotas(table: &Table) -> bool
+    ensures { result ≡ (has_key (codes "quotas") (table_view table.now) &&
+        not (are_quotas (elements_at (codes "quotas") (table_view table.now)))) }
+{
+    has_key(table, "quotas") && !are_quotas(elements_at(table, "quotas"))
+}
+
+/// Returns whether a file has no quota, or one that is no integer.
+pub(crate) fn lacks_quota(table: &Table) -> bool
+    ensures { result ≡ lacks_quota (table_view table.now) }
+{
+    match value_at(table, "quota") {
+        Some(value) => !is_integer(value),
+        None => !has_key(table, "quotas"),
+    }
+}
+
+/// Returns a quota, or 0, which no rule may have, if the value is none.
+pub(crate) fn quota_from(value: Option<&Value>) -> u64
+    ensures { result ≡ quota_from (option_map (λ v. view v.now) value.entry) }
+{
+    match value {
+        Some(Value::Integer(n)) if 0 <= *n => *n as u64,
+        _ => 0,
+    }
+}
+
+/// Returns the quota of a rule.
+pub(crate) fn quota_at(quotas: &[Value], r: usize) -> u64
+    ensures { result ≡ quota_from (slice_get (map view quotas.now) r) }
+{
+    quota_from(quotas.get(r))
+}
+
+/// Returns whether some member has the key.
 #[tactic(auto, using(council_game::proofs::Shared::Lists::found_any))]
 fn some_member_has(table: &Table, key: &str) -> bool
     ensures { result ≡ list_any (λ d. is_some (get key.now d))
@@ -29,6 +84,7 @@ fn some_member_has(table: &Table, key: &str) -> bool
     false
 }
 
+/// Returns whether the keys of a file fit neither one rule nor several.
 pub(crate) fn breaks_rules(table: &Table) -> bool
     ensures { result ≡ breaks_rules (table_view table.now) }
 {
@@ -40,6 +96,7 @@ pub(crate) fn breaks_rules(table: &Table) -> bool
         || (several && some_member_has(table, "weight"))
 }
 
+/// Returns one of several rules.
 #[tactic(auto, unfolding(crate::specs::File::rule_from))]
 fn rule_from(alloc: Global, table: &Table, n: usize, r: usize) -> Result<Rule, AllocError>
     ensures { IfOk result (λ rule. rule_view rule ≡ rule_from (table_view table.now) n r) }
@@ -50,6 +107,7 @@ fn rule_from(alloc: Global, table: &Table, n: usize, r: usize) -> Result<Rule, A
     Ok(Rule { quota, weights })
 }
 
+/// Lists several rules.
 #[tactic(auto, using(crate::proofs::Views::rules_more))]
 fn rules_at(alloc: Global, table: &Table, n: usize) -> Result<Vec<Rule>, AllocError>
     ensures { IfOk result (λ v. rule_views v.items
@@ -62,7 +120,7 @@ fn rules_at(alloc: Global, table: &Table, n: usize) -> Result<Vec<Rule>, AllocEr
     Ok(rules)
 }
 
-/// The rule of a file with one quota, as a list.
+/// Returns the rule of a file with one quota, as a list.
 fn lone_rule(alloc: Global, table: &Table) -> Result<Vec<Rule>, AllocError>
     ensures { IfOk result (λ v. rule_views v.items ≡ only_rule (table_view table.now) ∷ []) }
 {
@@ -82,7 +140,7 @@ fn lone_rule(alloc: Global, table: &Table) -> Result<Vec<Rule>, AllocError>
 ///
 /// Memory if an allocation was refused.
 #[tactic(auto, using(council_game::proofs::Shared::Lists::maps))]
-pub fn rules_of(alloc: Global, table: &Table) -> Result<Vec<Rule>, Memory>
+pub(crate) fn rules_of(alloc: Global, table: &Table) -> Result<Vec<Rule>, Memory>
     ensures { IfOk result (λ v. rule_views v.items ≡ rules_of (table_view table.now)) }
 {
     if has_key(table, "quota") {

@@ -4,15 +4,27 @@ ghost use Rattle.std.specs.Str.Parse.{AllDigits};
 ghost use Rattle.council_file.specs.Bracket.{Symbol, symbols, is_blank, mark, begins_with_digit, value_of};
 ghost use Rattle.council_file.specs.Inner.Scan.{after_opening, after_semicolon, begins_with_number, begins_with_blank, symbol, IsWhole, first_number};
 
-use crate::token::Token;
 use std::marker::Model;
 
+/// A symbol of a bracket text: the digits of a number, a mark, or any other byte that is not blank.
+#[derive(Clone, Copy)]
+pub(crate) enum Token<'a> {
+    Number(&'a [u8]),
+    Opening,
+    Closing,
+    Comma,
+    Semicolon,
+    Other,
+}
+
+/// Returns whether a byte is a blank.
 fn is_blank(byte: u8) -> bool
     ensures { result ≡ is_blank byte }
 {
     matches!(byte, b' ' | b'\t' | b'\n' | b'\r')
 }
 
+/// Returns the symbol of one byte.
 fn mark(byte: u8) -> Token<'static>
     ensures is { symbol result ≡ mark byte }
     ensures whole { IsWhole result }
@@ -26,7 +38,7 @@ fn mark(byte: u8) -> Token<'static>
     }
 }
 
-/// How many digits stand first.
+/// Returns how many digits are first.
 #[tactic(auto, using(std::proofs::lemmas::Int::Digits::digits_more))]
 fn digits_in_front(bytes: &[u8]) -> usize
     ensures within { result ≤ length bytes.now }
@@ -40,7 +52,7 @@ fn digits_in_front(bytes: &[u8]) -> usize
     n
 }
 
-/// The text from its first byte that is not blank.
+/// Returns the text from its first byte that is not blank.
 #[tactic(auto, using(crate::proofs::Digits::symbols_behind_blank))]
 fn after_blanks(text: &[u8]) -> &[u8]
     ensures same { symbols result.now ≡ symbols text.now }
@@ -56,7 +68,9 @@ fn after_blanks(text: &[u8]) -> &[u8]
     left
 }
 
-/// The first symbol of a text that begins with no blank, and what is left behind it.
+/// Returns the first symbol of a text, and the text after it.
+///
+/// The text begins with no blank.
 #[tactic(auto, using(crate::proofs::Digits::first_symbols))]
 fn first_symbol(text: &[u8]) -> Option<(Token<'_>, &[u8])>
     requires { begins_with_blank text.now ≡ false }
@@ -74,7 +88,7 @@ fn first_symbol(text: &[u8]) -> Option<(Token<'_>, &[u8])>
     }
 }
 
-/// The value of 1 to 18 digits.
+/// Returns the value of 1 to 18 digits.
 #[tactic(auto, using(crate::proofs::Digits::values))]
 fn value_of(digits: &[u8]) -> Option<u64>
     requires { AllDigits 10 digits.now }
@@ -103,13 +117,14 @@ impl<'a> Model for Scanner<'a> {
 }
 
 impl<'a> Scanner<'a> {
+    /// Begins with a text.
     pub(crate) fn new(text: &'a [u8]) -> Self
         ensures { result ≡ symbols text.now }
     {
         Scanner { left: text }
     }
 
-    /// The next symbol.
+    /// Returns the next symbol.
     pub(crate) fn next(&mut self) -> Option<Token<'a>>
         ensures is { MatchOption result ((self.old ≡ []) × (self.new ≡ []))
             (λ t. self.old ≡ symbol t ∷ self.new) }
@@ -141,7 +156,7 @@ impl<'a> Scanner<'a> {
         matches!(self.next(), Some(Token::Number(_)))
     }
 
-    /// The number that stands next, if it has 1 to 18 digits.
+    /// Returns the number that stands next, if it has 1 to 18 digits.
     pub(crate) fn number(&mut self) -> Option<u64>
         ensures { option_map (λ n. (n, self.new)) result ≡ first_number self.old }
     {

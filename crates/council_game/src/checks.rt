@@ -9,6 +9,7 @@ ghost use Rattle.council_game.specs.Rules.{rule_view, rule_views};
 
 use crate::{GameFault, Rule, limits};
 
+/// Returns whether a text has no control character.
 fn is_plain(text: &str) -> bool
     ensures { result ≡ is_plain text.now }
 {
@@ -24,20 +25,21 @@ pub fn is_title(text: &str) -> bool
     text.len() <= limits::TITLE_BYTES && is_plain(text)
 }
 
+/// Returns whether a text may be a name.
 fn is_name(text: &str) -> bool
     ensures { result ≡ is_name text.now }
 {
     1 <= text.len() && text.len() <= limits::NAME_BYTES && is_plain(text)
 }
 
-/// The place of the first name that is refused.
+/// Returns the place of the first name that is refused.
 fn first_bad_name(names: &[String]) -> Option<usize>
     ensures { result ≡ position (λ name. not (is_name (string_bytes name))) names.now }
 {
     names.iter().position(|name| !is_name(name.as_str()))
 }
 
-/// The first member, from 1, whose name is refused.
+/// Returns the first member, from 1, whose name is refused.
 #[tactic(auto, using(crate::proofs::Shared::Lists::position_map))]
 pub(crate) fn check_names(names: &[String]) -> Result<(), GameFault>
     requires { length names.now ≤ MEMBERS }
@@ -51,7 +53,7 @@ pub(crate) fn check_names(names: &[String]) -> Result<(), GameFault>
     }
 }
 
-/// The place of the first name that is this one.
+/// Returns the place of the first name that is this one.
 fn first_named(names: &[String], name: &str) -> Option<usize>
     ensures place { result
         ≡ position (λ other. pointwise nat_eq name.now (string_bytes other)) names.now }
@@ -60,7 +62,7 @@ fn first_named(names: &[String], name: &str) -> Option<usize>
     names.iter().position(|other| name == other.as_str())
 }
 
-/// The same, over the names as bytes.
+/// Returns the same, over the names as bytes.
 #[tactic(auto, using(crate::proofs::Shared::Lists::position_map))]
 pub(crate) fn place_of_name(names: &[String], name: &str) -> Option<usize>
     ensures place { result ≡ position (pointwise nat_eq name.now) (map string_bytes names.now) }
@@ -69,7 +71,7 @@ pub(crate) fn place_of_name(names: &[String], name: &str) -> Option<usize>
     first_named(names, name)
 }
 
-/// An earlier member has the name of this one.
+/// Returns whether an earlier member has the name of this one.
 fn is_repeat(names: &[String], k: usize) -> bool
     requires { k < length names.now }
     ensures { result ≡ is_repeat (map string_bytes names.now) k }
@@ -77,7 +79,7 @@ fn is_repeat(names: &[String], k: usize) -> bool
     place_of_name(&names[..k], names[k].as_str()).is_some()
 }
 
-/// The first member, from 1, that repeats a name.
+/// Returns the first member, from 1, that repeats a name.
 pub(crate) fn check_repeats(names: &[String]) -> Result<(), GameFault>
     requires { length names.now ≤ MEMBERS }
     ensures { result ≡ check_repeats (map string_bytes names.now) }
@@ -92,7 +94,7 @@ pub(crate) fn check_repeats(names: &[String]) -> Result<(), GameFault>
     Ok(())
 }
 
-/// Some rule gives this member a weight above the limit.
+/// Returns whether some rule gives this member a weight above the limit.
 #[tactic(auto, using(crate::proofs::Shared::Lists::found_any))]
 fn is_heavy(rules: &[Rule], k: usize) -> bool
     ensures { result ≡ is_heavy (rule_views rules.now) k }
@@ -107,7 +109,7 @@ fn is_heavy(rules: &[Rule], k: usize) -> bool
     false
 }
 
-/// The first member, from 1, with a weight above the limit.
+/// Returns the first member, from 1, with a weight above the limit.
 pub(crate) fn check_weights(rules: &[Rule], members: usize) -> Result<(), GameFault>
     requires { members ≤ MEMBERS }
     ensures { result ≡ check_weights (rule_views rules.now) members }
@@ -122,7 +124,7 @@ pub(crate) fn check_weights(rules: &[Rule], members: usize) -> Result<(), GameFa
     Ok(())
 }
 
-/// The total of the weights, or the greatest number if it is greater.
+/// Returns the total of the weights, or the greatest number if it is greater.
 pub(crate) fn capped_total(weights: &[u64]) -> u64
     ensures { result ≡ min (sum weights.now) (2 ^ 64 - 1) }
 {
@@ -133,12 +135,14 @@ pub(crate) fn capped_total(weights: &[u64]) -> u64
     total
 }
 
+/// Returns whether a quota is 0, or above the total of its rule.
 fn has_bad_quota(rule: &Rule) -> bool
     ensures { result ≡ has_bad_quota (rule_view rule.now) }
 {
     rule.quota < 1 || capped_total(&rule.weights) < rule.quota
 }
 
+/// Returns whether some rule has a quota that is out of range.
 #[tactic(auto, using(crate::proofs::Shared::Lists::found_any))]
 pub(crate) fn has_quota_fault(rules: &[Rule]) -> bool
     ensures { result ≡ list_any has_bad_quota (rule_views rules.now) }

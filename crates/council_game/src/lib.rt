@@ -24,7 +24,7 @@ mod winning;
 pub use checks::is_title;
 pub use council_base::{Coalition, Memory, limits};
 pub use fault::GameFault;
-pub use game::Game;
+pub use game::{Game, copy_title};
 pub use notation::write_notation;
 pub use numbers::{push_decimal, push_joined};
 pub use plain::plain_list;

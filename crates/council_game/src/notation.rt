@@ -9,6 +9,7 @@ use crate::numbers::{push_decimal, push_joined};
 use council_base::Memory;
 use std::alloc::{AllocError, Global};
 
+/// Returns the notation of a rule.
 #[tactic(auto, unfolding(crate::specs::Notation::notation))]
 fn notation_of(alloc: Global, game: &Game, rule: usize) -> Result<Vec<u8>, AllocError>
     requires { rule < length game.now.rules }

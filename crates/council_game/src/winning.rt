@@ -7,7 +7,7 @@ ghost use Rattle.council_game.specs.Inner.Held.{votes};
 
 use crate::{Coalition, Rule};
 
-/// The weight of a coalition: the last place is the lowest digit.
+/// Returns the weight of a coalition: the last place is the lowest digit.
 #[tactic(auto, unfolding(crate::specs::Votes::has))]
 pub(crate) fn weight_of(weights: &[u64], coalition: Coalition) -> u64
     requires few { length weights.now ≤ MEMBERS }
@@ -24,6 +24,7 @@ pub(crate) fn weight_of(weights: &[u64], coalition: Coalition) -> u64
     sum
 }
 
+/// Returns whether a coalition meets each quota.
 #[tactic(auto, unfolding(crate::specs::Votes::wins))]
 pub(crate) fn wins(rules: &[Rule], members: usize, coalition: Coalition) -> bool
     requires { IsVotes (votes members rules.now) }
@@ -37,6 +38,7 @@ pub(crate) fn wins(rules: &[Rule], members: usize, coalition: Coalition) -> bool
     true
 }
 
+/// Returns whether a coalition wins, and loses without any of its members.
 pub(crate) fn is_minimal(rules: &[Rule], members: usize, coalition: Coalition) -> bool
     requires { IsVotes (votes members rules.now) }
     ensures { result ≡ minimal (votes members rules.now) coalition }

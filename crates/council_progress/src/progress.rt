@@ -1,6 +1,5 @@
 //! How far a run or a tally has come.
 use crate::thousands::Thousands;
-use crate::wiping::Wipe;
 use council_base::Gate;
 use std::fmt::Display;
 use std::sync::{Mutex, Wait};
@@ -54,7 +53,7 @@ impl<'a, R: Eprint + Clock + Wait> Progress<'a, R> {
         }
     }
 
-    /// Whether it has taken long enough to be shown.
+    /// Returns whether it has taken long enough to be shown.
     fn is_long(&self) -> bool {
         let Some(began) = self.began else {
             return false;
@@ -107,16 +106,6 @@ impl<'a, R: Eprint + Clock + Wait> Progress<'a, R> {
     }
 }
 
-/// The line that a progress writes.
-#[derive(Drop)]
-pub struct Line<'a, R>(pub &'a Progress<'a, R>);
-
-impl<'a, R: Eprint + Clock + Wait> Wipe for Line<'a, R> {
-    fn wipe(&self) {
-        self.0.wipe();
-    }
-}
-
 impl<'a, R: Eprint + Clock + Wait> Gate for Progress<'a, R> {
     /// A worker that goes on to a further slice has done the one before.
     fn pass(&self, worker: u8, _slice: u16) {
@@ -144,5 +133,9 @@ impl<'a, R: Eprint + Clock + Wait> Gate for Progress<'a, R> {
                 format_args!("{decided} of {members} members decided"),
             );
         }
+    }
+
+    fn finish(&self) {
+        self.wipe();
     }
 }

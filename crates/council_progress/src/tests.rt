@@ -3,7 +3,7 @@ use crate::thousands::Thousands;
 use std::alloc::Global;
 use std::process::Abort;
 
-/// The number is shown so.
+/// Checks that a number is shown as wanted.
 fn check(rt: &impl Abort, alloc: Global, number: u64, wanted: &str) {
     let text = format!(in alloc; "{}", Thousands(number)).expect(rt, "a text");
     assert!(rt; text.as_str() == wanted, "{text} instead of {wanted}");

@@ -21,7 +21,7 @@ use itoa::Buffer;
 use power_index::{Counts, Fraction, deegan_packel, public_good};
 use swings::{Swings, banzhaf, penrose, shapley_shubik};
 
-/// A field `top/bottom`.
+/// Appends a field `top/bottom`.
 fn push_fraction(out: &mut Block, fraction: Fraction)
     ensures { AppendsInRoom out.old out.new (with_tab (decimal fraction.top ++ 47 ∷ decimal fraction.bottom)) }
 {
@@ -31,7 +31,7 @@ fn push_fraction(out: &mut Block, fraction: Fraction)
     out.push(buffer.format(fraction.bottom).as_bytes());
 }
 
-/// Two fields: an index as a fraction and as decimals.
+/// Appends two fields: an index as a fraction and as decimals.
 fn push_index(out: &mut Block, index: Fraction)
     requires { IsIndex (pair_of index) }
     ensures { AppendsInRoom out.old out.new (flat_map with_tab (index_fields (pair_of index))) }
@@ -40,7 +40,7 @@ fn push_index(out: &mut Block, index: Fraction)
     push_field(out, &index.decimals());
 }
 
-/// For each member, how many coalitions of a size contain it.
+/// Appends for each member how many coalitions of a size contain it.
 fn push_counts(out: &mut Block, counts: &Counts, size: usize)
     requires { size ≤ counts.now.members }
     ensures { (g : GameView) → length g.names ≡ counts.now.members → AppendsInRoom out.old out.new
@@ -51,8 +51,9 @@ fn push_counts(out: &mut Block, counts: &Counts, size: usize)
     }
 }
 
-/// `size`, a size, how many coalitions have it, and how many of those contain each member; no line
-/// if none has it.
+/// Appends the line of a size, unless no coalition has it.
+///
+/// It has the size, how many coalitions have it, and how many of those contain each member.
 #[tactic(auto, unfolding(crate::specs::Lines::size_line))]
 pub(crate) fn push_size(out: &mut Block, counts: &Counts, size: usize)
     requires { size ≤ counts.now.members }
@@ -70,7 +71,7 @@ pub(crate) fn push_size(out: &mut Block, counts: &Counts, size: usize)
     out.push(b"\n");
 }
 
-/// The weights of a member, one for each rule.
+/// Appends the weights of a member, one for each rule.
 fn push_weights(out: &mut Block, game: &Game, member: usize)
     requires { member < length game.now.names }
     ensures { AppendsInRoom out.old out.new (with_tab (with_slashes (weights_of_member game.now member))) }
@@ -78,7 +79,7 @@ fn push_weights(out: &mut Block, game: &Game, member: usize)
     push_values(out, game.rules(), |r| game.rule_weight(r, member));
 }
 
-/// How many coalitions contain a member, and its two indices.
+/// Appends how many coalitions contain a member, and its two indices.
 fn push_count_fields(out: &mut Block, counts: &Counts, member: usize)
     requires member { member < counts.now.members }
     requires some { 1 ≤ table_total counts.now }
@@ -89,7 +90,7 @@ fn push_count_fields(out: &mut Block, counts: &Counts, member: usize)
     push_index(out, public_good(counts, member));
 }
 
-/// A member's swings, its Banzhaf index, Penrose's measure, and its Shapley-Shubik index.
+/// Appends a member's swings and the three indices that rest on them.
 #[tactic(auto, unfolding(crate::specs::SwingLines::swing_fields))]
 fn push_swing_fields(out: &mut Block, swings: &Swings, member: usize)
     requires { member < swings.now.members }
@@ -102,7 +103,7 @@ fn push_swing_fields(out: &mut Block, swings: &Swings, member: usize)
     push_index(out, shapley_shubik(swings, member));
 }
 
-/// The fields of a member from the counts, if there are any.
+/// Appends the fields of a member from the counts, if there are any.
 fn push_counted(out: &mut Block, numbers: &GameNumbers<'_>, member: usize)
     requires { member < length numbers.now.game.now.names }
     ensures { AppendsInRoom out.old out.new (flat_map with_tab
@@ -113,7 +114,7 @@ fn push_counted(out: &mut Block, numbers: &GameNumbers<'_>, member: usize)
     }
 }
 
-/// The fields of a member from the swings, if there are any.
+/// Appends the fields of a member from the swings, if there are any.
 fn push_added(out: &mut Block, numbers: &GameNumbers<'_>, member: usize)
     requires { member < length numbers.now.game.now.names }
     ensures { AppendsInRoom out.old out.new (flat_map with_tab
@@ -124,7 +125,7 @@ fn push_added(out: &mut Block, numbers: &GameNumbers<'_>, member: usize)
     }
 }
 
-/// The fields of a member from what was counted.
+/// Appends the fields of a member from what was counted.
 fn push_fields(out: &mut Block, numbers: &GameNumbers<'_>, member: usize)
     requires { member < length numbers.now.game.now.names }
     ensures { AppendsInRoom out.old out.new (flat_map with_tab (fields_of numbers.now member)) }
@@ -133,7 +134,7 @@ fn push_fields(out: &mut Block, numbers: &GameNumbers<'_>, member: usize)
     push_added(out, numbers, member);
 }
 
-/// `member`, a name, its weights, and the fields of what was counted.
+/// Appends the line of a member: name, weights, and what was counted.
 #[tactic(auto, unfolding(crate::specs::Lines::member_line))]
 pub(crate) fn push_member(out: &mut Block, numbers: &GameNumbers<'_>, member: usize)
     requires { member < length numbers.now.game.now.names }

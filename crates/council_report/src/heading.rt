@@ -17,7 +17,7 @@ use crate::lines::{
 use crate::output::Block;
 use council_game::{Game, write_notation};
 
-/// `notation`, a rule as `[q; w1, .., wn]`.
+/// Appends the line `notation`: a rule as `[q; w1, .., wn]`.
 #[tactic(auto, unfolding(crate::specs::Lines::notation_line))]
 fn push_notation(out: &mut Block, game: &Game, rule: usize)
     requires { rule < length game.now.rules }
@@ -29,6 +29,7 @@ fn push_notation(out: &mut Block, game: &Game, rule: usize)
     out.push(b"\n");
 }
 
+/// Appends a line for the notation of each rule.
 fn push_each_notation(out: &mut Block, game: &Game)
     ensures { AppendsText out.old out.new (flat_map notation_line game.now.rules) }
 {
@@ -37,7 +38,7 @@ fn push_each_notation(out: &mut Block, game: &Game)
     }
 }
 
-/// A line for the notation of each rule, if they are shown.
+/// Appends a line for the notation of each rule, if they are shown.
 fn push_notations(out: &mut Block, game: &Game, shown: ReportLines)
     ensures { AppendsText out.old out.new (notation_lines shown game.now) }
 {
@@ -46,7 +47,7 @@ fn push_notations(out: &mut Block, game: &Game, shown: ReportLines)
     }
 }
 
-/// `minimal`, the number of minimal winning coalitions, if they were counted.
+/// Appends the number of minimal winning coalitions, if they were counted.
 fn push_minimal(out: &mut Block, numbers: &GameNumbers<'_>)
     ensures { AppendsText out.old out.new (minimal_lines numbers.now) }
 {
@@ -55,7 +56,7 @@ fn push_minimal(out: &mut Block, numbers: &GameNumbers<'_>)
     }
 }
 
-/// `winning`, the number of winning coalitions, if there are swings.
+/// Appends the number of winning coalitions, if there are swings.
 fn push_winning(out: &mut Block, numbers: &GameNumbers<'_>)
     ensures { AppendsText out.old out.new (winning_lines numbers.now.game.now numbers.now.swings) }
 {
@@ -64,7 +65,7 @@ fn push_winning(out: &mut Block, numbers: &GameNumbers<'_>)
     }
 }
 
-/// The lines of the game itself.
+/// Appends the lines of the game itself.
 fn push_game(out: &mut Block, game: &Game, shown: ReportLines)
     ensures { AppendsText out.old out.new (game_lines shown game.now) }
 {
@@ -75,7 +76,7 @@ fn push_game(out: &mut Block, game: &Game, shown: ReportLines)
     push_notations(out, game, shown);
 }
 
-/// The lines before those of coalitions, sizes and members.
+/// Appends the lines before those of coalitions, sizes and members.
 pub(crate) fn push_heading(out: &mut Block, numbers: &GameNumbers<'_>, shown: ReportLines)
     ensures { AppendsText out.old out.new (heading_of shown numbers.now) }
 {

@@ -11,7 +11,7 @@ use crate::text::{push_field, push_number, push_values};
 use council_game::Game;
 use swings::Swings;
 
-/// `title`, the title; no line if there is none.
+/// Appends the line `title`: the title; no line if there is none.
 #[tactic(auto, unfolding(crate::specs::Lines::title_line))]
 pub(crate) fn push_title(out: &mut Block, game: &Game)
     ensures { AppendsText out.old out.new (title_line game.now) }
@@ -24,7 +24,7 @@ pub(crate) fn push_title(out: &mut Block, game: &Game)
     out.push(b"\n");
 }
 
-/// `members`, the number of members.
+/// Appends the line `members`: the number of members.
 #[tactic(auto, unfolding(crate::specs::Lines::members_line))]
 pub(crate) fn push_members(out: &mut Block, game: &Game)
     ensures { AppendsText out.old out.new (members_line game.now) }
@@ -34,7 +34,7 @@ pub(crate) fn push_members(out: &mut Block, game: &Game)
     out.push(b"\n");
 }
 
-/// `quota`, the quota of each rule.
+/// Appends the line `quota`: the quota of each rule.
 #[tactic(auto, unfolding(crate::specs::Lines::quota_line))]
 pub(crate) fn push_quota(out: &mut Block, game: &Game)
     ensures { AppendsText out.old out.new (quota_line game.now) }
@@ -44,7 +44,7 @@ pub(crate) fn push_quota(out: &mut Block, game: &Game)
     out.push(b"\n");
 }
 
-/// `total`, the total of each rule's weights.
+/// Appends the line `total`: the total of each rule's weights.
 #[tactic(auto, unfolding(crate::specs::Lines::total_line))]
 pub(crate) fn push_total(out: &mut Block, game: &Game)
     ensures { AppendsText out.old out.new (total_line game.now) }
@@ -54,7 +54,7 @@ pub(crate) fn push_total(out: &mut Block, game: &Game)
     out.push(b"\n");
 }
 
-/// `minimal`, the number of minimal winning coalitions.
+/// Appends the line `minimal`: the number of minimal winning coalitions.
 #[tactic(auto, unfolding(crate::specs::Lines::minimal_line))]
 pub(crate) fn push_count(out: &mut Block, count: u64)
     ensures { AppendsText out.old out.new (minimal_line count) }
@@ -64,7 +64,7 @@ pub(crate) fn push_count(out: &mut Block, count: u64)
     out.push(b"\n");
 }
 
-/// `winning`, the number of winning coalitions.
+/// Appends the line `winning`: the number of winning coalitions.
 #[tactic(auto, unfolding(crate::specs::SwingLines::winning_line))]
 pub(crate) fn push_winning_count(out: &mut Block, swings: &Swings)
     ensures { (g : GameView) → AreWinningCounts g swings.now → AppendsText out.old out.new (winning_line g) }

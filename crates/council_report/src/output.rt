@@ -14,7 +14,7 @@ const ROOM: usize = 65_536;
 /// The bytes that are kept free for the next line, which is no longer.
 pub(crate) const LINE: usize = 4_096;
 
-/// What the constants are, as numbers: clauses name them.
+/// For the prover: the numbers of the constants, which clauses name.
 fn are_these_numbers()
     ensures room { ROOM ≡ 65536 }
     ensures line { LINE ≡ 4096 }
@@ -61,7 +61,7 @@ impl Block {
     ghost use Rattle.council_report.specs.Inner.Ready.{HasRoom, CanCount, AppendsInRoom};
     ghost use Rattle.council_report.specs.Inner.Writing.{Drains, MakesRoom, end_of};
 
-    /// An empty block with all its room.
+    /// Makes an empty block with all its room.
     pub(crate) fn new(alloc: Global) -> Result<Block, AllocError>
         ensures empty { IfOk result (λ block. (block.bytes.items ≡ []) × (block.written ≡ 0)) }
         ensures kept { IfOk result (λ block. block.refused ≡ false) }
@@ -75,7 +75,7 @@ impl Block {
         })
     }
 
-    /// Pushes bytes behind those that are there.
+    /// Appends bytes.
     pub(crate) fn push(&mut self, bytes: &[u8])
         ensures { AppendsInRoom self.old self.new bytes.now }
     {

@@ -5,7 +5,9 @@ ghost use Rattle.council_report.specs.Inner.SharedLine.{HasNoneFrom, SameBefore}
 
 use council_game::Coalition;
 
-/// The first of `members` places at which two coalitions differ; `members` if they are the same.
+/// Returns the first place at which two coalitions differ.
+///
+/// It is `members` if they are the same.
 pub(crate) fn first_difference(members: usize, a: Coalition, b: Coalition) -> usize
     requires few { members ≤ MEMBERS }
     requires a_below { a < 2 ^ members }
@@ -17,7 +19,7 @@ pub(crate) fn first_difference(members: usize, a: Coalition, b: Coalition) -> us
     members - digits
 }
 
-/// The place behind the last one that is in a coalition.
+/// Returns the place after the last one that is in a coalition.
 #[tactic(auto, using(crate::proofs::Differences::last))]
 pub(crate) fn past_last(members: usize, coalition: Coalition) -> usize
     requires few { members ≤ MEMBERS }

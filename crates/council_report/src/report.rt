@@ -30,7 +30,7 @@ use power_index::laws::minimal_coalitions_can_be_counted;
 use std::alloc::Global;
 use swings::Swings;
 
-/// A line for each coalition, if they are shown.
+/// Appends a line for each coalition, if they are shown.
 fn put_shown_coalitions<W: Sink>(
     block: &mut Block,
     writer: &mut W,
@@ -53,7 +53,7 @@ fn put_shown_coalitions<W: Sink>(
     }
 }
 
-/// A line for each size, if they are shown.
+/// Appends a line for each size, if they are shown.
 fn put_shown_sizes<W: Sink>(
     block: &mut Block,
     writer: &mut W,
@@ -71,7 +71,7 @@ fn put_shown_sizes<W: Sink>(
     }
 }
 
-/// The lines after the heading.
+/// Appends the lines after the heading.
 #[tactic(auto, unfolding(crate::specs::Inner::Lines::lines_of))]
 fn put_lines<W: Sink>(
     block: &mut Block,
@@ -93,7 +93,7 @@ fn put_lines<W: Sink>(
     put_members(block, writer, numbers)
 }
 
-/// The lines after the heading, and the flush.
+/// Appends the lines after the heading, and the flush.
 fn send<W: Sink>(
     mut block: Block,
     writer: &mut W,

@@ -16,7 +16,9 @@ pub(crate) struct Seat {
     pub(crate) weights: [u64; limits::RULES],
 }
 
-/// The weights of the member of a rank place, one for each rule, and 0 past the last.
+/// Returns the weights of the member of a rank place, one for each rule.
+///
+/// Past the last rule they are 0.
 #[tactic(auto, unfolding(crate::specs::Inner::SharedLine::weights_under))]
 fn weights_at(game: &Game, place: usize) -> [u64; limits::RULES]
     requires game { IsGame game.now }
@@ -34,7 +36,7 @@ fn weights_at(game: &Game, place: usize) -> [u64; limits::RULES]
 }
 
 impl Seat {
-    /// The seat of a rank place.
+    /// Returns the seat of a rank place.
     fn new(alloc: Global, game: &Game, place: usize) -> Result<Seat, AllocError>
         requires game { IsGame game.now }
         requires place { place < length game.now.names }
@@ -51,7 +53,7 @@ impl Seat {
     }
 }
 
-/// The seats of a game's members, by rank.
+/// Returns the seats of a game's members, by rank.
 pub(crate) fn seats_of(alloc: Global, game: &Game) -> Result<Vec<Seat>, AllocError>
     ensures game { IsGame game.now }
     ensures seats { IfOk result (λ seats. AreSeats game.now (length game.now.names) seats.items) }

@@ -26,14 +26,14 @@ pub(crate) struct SharedLine {
     pub(crate) coalition: Coalition,
     /// The names of its members, each after a TAB.
     pub(crate) names: Vec<u8>,
-    /// How many places were looked at: no member comes behind.
+    /// How many places were looked at: no member comes after.
     pub(crate) end: usize,
     /// How long the names before each place are, and what their members weigh.
     pub(crate) subtotals: [Subtotal; limits::SIZES],
 }
 
 impl SharedLine {
-    /// The line of no member, with room for those of all.
+    /// Returns the line of no member, with room for those of all.
     pub(crate) fn new(alloc: Global, game: &Game) -> Result<SharedLine, AllocError>
         ensures { IfOk result (IsReadyLine game.now) }
     {
@@ -115,7 +115,7 @@ impl SharedLine {
         }
     }
 
-    /// The weight of the coalition under a rule.
+    /// Returns the weight of the coalition under a rule.
     #[tactic(auto, using(crate::proofs::SharedLines::whole_weight))]
     fn weight_under(&self, game: &Game, rule: usize) -> u64
         requires line { IsWholeLine game.now self.now.coalition self.now }
@@ -127,7 +127,7 @@ impl SharedLine {
         subtotal.weights[rule]
     }
 
-    /// The weights of the coalition, one for each rule.
+    /// Appends the weights of the coalition, one for each rule.
     fn push_weights(&self, out: &mut Block, game: &Game)
         requires { IsWholeLine game.now self.now.coalition self.now }
         ensures { AppendsInRoom out.old out.new
@@ -136,7 +136,7 @@ impl SharedLine {
         push_values(out, game.rules(), |r| self.weight_under(game, r));
     }
 
-    /// The names of the coalition's members, in rank order.
+    /// Appends the names of the coalition's members, in rank order.
     #[tactic(auto, using(crate::proofs::SharedLines::whole))]
     fn push_names(&self, out: &mut Block, game: &Game)
         requires { IsWholeLine game.now self.now.coalition self.now }

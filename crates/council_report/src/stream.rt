@@ -18,7 +18,7 @@ use council_base::Sink;
 use council_game::{Coalition, Game};
 use power_index::Counts;
 
-/// A line for each coalition, in the order of the list, whichever that is.
+/// Appends a line for each coalition, in the order of the list, whichever that is.
 pub(crate) fn put_coalitions<W: Sink>(
     block: &mut Block,
     writer: &mut W,
@@ -42,7 +42,7 @@ pub(crate) fn put_coalitions<W: Sink>(
     Ok(())
 }
 
-/// A line for each coalition, piece after piece.
+/// Appends a line for each coalition, piece after piece.
 pub(crate) fn put_pieces<W: Sink>(
     block: &mut Block,
     writer: &mut W,
@@ -64,7 +64,7 @@ pub(crate) fn put_pieces<W: Sink>(
     Ok(())
 }
 
-/// A line for each size that some coalition has.
+/// Appends a line for each size that some coalition has.
 pub(crate) fn put_sizes<W: Sink>(
     block: &mut Block,
     writer: &mut W,
@@ -84,7 +84,7 @@ pub(crate) fn put_sizes<W: Sink>(
     Ok(())
 }
 
-/// A line for each member.
+/// Appends a line for each member.
 pub(crate) fn put_members<W: Sink>(
     block: &mut Block,
     writer: &mut W,

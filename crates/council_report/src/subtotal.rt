@@ -13,7 +13,7 @@ pub(crate) struct Subtotal {
 }
 
 impl Subtotal {
-    /// The subtotal of no member.
+    /// Returns the subtotal of no member.
     pub(crate) fn none() -> Subtotal
         ensures length { result.length ≡ 0 }
         ensures long { length result.weights ≡ RULES }
@@ -25,7 +25,7 @@ impl Subtotal {
         }
     }
 
-    /// The subtotal with one member more.
+    /// Returns the subtotal with one member more.
     pub(crate) fn with(self, seat: &Seat) -> Subtotal
         requires length { self.length + length seat.now.field.items < 2 ^ 64 }
         requires long { length self.weights ≡ RULES }

@@ -8,7 +8,7 @@ use crate::output::Block;
 use council_game::push_joined;
 use itoa::Buffer;
 
-/// A field of bytes.
+/// Appends a field of bytes.
 pub(crate) fn push_field(out: &mut Block, field: &[u8])
     ensures { AppendsInRoom out.old out.new (with_tab field.now) }
 {
@@ -16,7 +16,7 @@ pub(crate) fn push_field(out: &mut Block, field: &[u8])
     out.push(field);
 }
 
-/// A field of one number.
+/// Appends a field of one number.
 pub(crate) fn push_number(out: &mut Block, number: u64)
     ensures { AppendsInRoom out.old out.new (with_tab (decimal number)) }
 {
@@ -24,7 +24,7 @@ pub(crate) fn push_number(out: &mut Block, number: u64)
     push_field(out, buffer.format(number).as_bytes());
 }
 
-/// A field of a value for each of some rules.
+/// Appends a field of a value for each of some rules.
 pub(crate) fn push_values<F: Fn(usize) -> u64>(out: &mut Block, rules: usize, value: F)
     requires { (r : ℕ) → r < rules → F.pre value r }
     ensures { (vs : List ℕ) → length vs ≡ rules → GivesEach (F.post value) vs

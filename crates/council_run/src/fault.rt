@@ -75,7 +75,7 @@ impl RunFault {
         matches!(self.cause, Cause::Gather(GatherFault::TooMany))
     }
 
-    /// A fault before anything was written.
+    /// Returns a fault before anything was written.
     pub(crate) fn early(cause: Cause) -> RunFault
         ensures { result ≡ record { cause = cause; written = 0 } }
     {

@@ -29,4 +29,4 @@ pub use findings::{Findings, find_in_one_thread};
 pub use found::{Coalitions, Found};
 pub use listing::{list_by_walk, list_by_workers};
 pub use number::number_by_states;
-pub use runs::{run, run_by, tally};
+pub use runs::{report_game, run, tally};

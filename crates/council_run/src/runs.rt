@@ -1,5 +1,5 @@
 //! Runs: from the bytes of a game to its report.
-ghost use Rattle.std.specs.Prelude.{◌≡◌, ◌≢◌, IfErr, None, Some};
+ghost use Rattle.std.specs.Prelude.{◌≡◌, ◌≢◌, IfErr, None, Ok, Some};
 ghost use Rattle.council_base.specs.Options.{lines_of, without_list};
 ghost use Rattle.council_base.specs.declared.report_lines.ReportLines.{ReportLines};
 ghost use Rattle.council_file.specs.Reads.{Reads};
@@ -115,29 +115,28 @@ fn lines_of(plan: Plan, options: &Options) -> ReportLines
     }
 }
 
-/// Reads a game, finds what its report shows, and writes it.
+/// Finds what the report of a game shows, and writes the report.
 ///
 /// The coalitions are found as the plan says. It may wait for its workers. It writes nothing else,
-/// and returns the number of bytes written.
+/// and returns the number of bytes written. The gate hears when all is found.
 ///
-/// The contract says which calls the reader and the writer got, whatever they are: no read after
-/// one that failed or gave nothing; each write gets what is left of a block of the report, and
-/// blocks are large; one flush, after the last byte, and no call after one that failed.
+/// The contract says which calls the writer got, whatever it is: each write gets what is left of a
+/// block of the report, and blocks are large; one flush, after the last byte, and no call after one
+/// that failed.
 ///
 /// # Errors
 ///
-/// The first fault that is met, in this order: of the game file; if swings are shown, out of memory
-/// for them, or States; out of memory for the game in the order of contribution, or for its states;
-/// TooMany if few states show it; of the gathering, its
-/// Start before its Memory, Ring and TooMany; out of memory for the row of its pieces, for their
-/// counts or for the report; of the writer. No byte goes out before all memory is there: after each
-/// fault but `Write` the writer took nothing, and after `Write` it has the first bytes of the
-/// report. A write that takes no byte or fails, whatever the cause, is `Write`, and so is a flush
-/// that fails.
-pub fn run_by<T: Threads + Wait + Sync, R: Source, W: Sink, G: Gate + Sync>(
+/// The first fault that is met, in this order: if swings are shown, out of memory for them, or
+/// States; out of memory for the game in the order of contribution, or for its states; TooMany if
+/// few states show it; of the gathering, its Start before its Memory, Ring and TooMany; out of
+/// memory for the row of its pieces, for their counts or for the report; of the writer. No byte
+/// goes out before all memory is there: after each fault but `Write` the writer took nothing, and
+/// after `Write` it has the first bytes of the report. A write that takes no byte or fails,
+/// whatever the cause, is `Write`, and so is a flush that fails.
+pub fn report_game<T: Threads + Wait + Sync, W: Sink, G: Gate + Sync>(
     rt: &T,
     alloc: Global,
-    reader: &mut R,
+    game: &Game,
     options: &Options,
     gate: &G,
     writer: &mut W,
@@ -146,24 +145,58 @@ pub fn run_by<T: Threads + Wait + Sync, R: Source, W: Sink, G: Gate + Sync>(
 ) -> Result<u64, RunFault>
     ensures outcome { IsOutcome (report_of columns (lines_of_plan plan options.now))
         (limit_with columns plan options.now.most (is_too_many result))
-        (Reads R.left R.is_read reader.old reader.new)
+        (λ answer. answer ≡ Ok game.now)
         (λ text. Writes W.held W.is_write W.is_flush text writer.old writer.new)
         (writer.new ≡ writer.old) result }
     ensures threads { plan ≡ plans.Count → GatherFaultIs gather.Start result }
     ensures states { IfErr result (λ fault. fault.cause ≡ cause.States → ShowsSwings columns) }
 {
+    let found = find_all(rt, alloc, game, options, gate, plan, columns)?;
+    gate.finish();
+    Ok(found.write(alloc, game, lines_of(plan, options), writer)?)
+}
+
+/// Reads a game, and reports on it as a plan says.
+fn run_by<T: Threads + Wait + Sync, R: Source, W: Sink, G: Gate + Sync>(
+    rt: &T,
+    alloc: Global,
+    reader: &mut R,
+    options: &Options,
+    gate: &G,
+    writer: &mut W,
+    plan: Plan,
+) -> Result<u64, RunFault>
+    ensures outcome { IsOutcome (report (lines_of_plan plan options.now))
+        (limit_of plan options.now.most (is_too_many result))
+        (Reads R.left R.is_read reader.old reader.new)
+        (λ text. Writes W.held W.is_write W.is_flush text writer.old writer.new)
+        (writer.new ≡ writer.old) result }
+    ensures threads { plan ≡ plans.Count → GatherFaultIs gather.Start result }
+    ensures states { IfErr result (λ fault. fault.cause ≢ cause.States) }
+{
     let game = read_game(alloc, reader)?;
-    let found = find_all(rt, alloc, &game, options, gate, plan, columns)?;
-    Ok(found.write(alloc, &game, lines_of(plan, options), writer)?)
+    report_game(
+        rt,
+        alloc,
+        &game,
+        options,
+        gate,
+        writer,
+        plan,
+        Columns::Minimal,
+    )
 }
 
 /// Reads a game, lists its minimal winning coalitions and writes its report.
 ///
 /// Worker threads list them. There may be at most `most`.
 ///
+/// The contract says which calls the reader and the writer got, whatever they are; there is no read
+/// after one that failed or gave nothing.
+///
 /// # Errors
 ///
-/// As for `run_by`.
+/// The first fault of the game file, or else as for `report_game`.
 pub fn run<T: Threads + Wait + Sync, R: Source, W: Sink, G: Gate + Sync>(
     rt: &T,
     alloc: Global,
@@ -178,17 +211,7 @@ pub fn run<T: Threads + Wait + Sync, R: Source, W: Sink, G: Gate + Sync>(
         (writer.new ≡ writer.old) result }
     ensures states { IfErr result (λ fault. fault.cause ≢ cause.States) }
 {
-    let columns = Columns::Minimal;
-    run_by(
-        rt,
-        alloc,
-        reader,
-        options,
-        gate,
-        writer,
-        Plan::List,
-        columns,
-    )
+    run_by(rt, alloc, reader, options, gate, writer, Plan::List)
 }
 
 /// Reads a game, counts its minimal winning coalitions and writes its report.
@@ -200,8 +223,7 @@ pub fn run<T: Threads + Wait + Sync, R: Source, W: Sink, G: Gate + Sync>(
 ///
 /// # Errors
 ///
-/// As for `run_by`, but there are never too many coalitions, and of the gathering only Start can
-/// come.
+/// As for `run`, but there are never too many coalitions, and of the gathering only Start can come.
 pub fn tally<T: Threads + Wait + Sync, R: Source, W: Sink, G: Gate + Sync>(
     rt: &T,
     alloc: Global,
@@ -217,15 +239,5 @@ pub fn tally<T: Threads + Wait + Sync, R: Source, W: Sink, G: Gate + Sync>(
     ensures threads { GatherFaultIs gather.Start result }
     ensures states { IfErr result (λ fault. fault.cause ≢ cause.States) }
 {
-    let columns = Columns::Minimal;
-    run_by(
-        rt,
-        alloc,
-        reader,
-        options,
-        gate,
-        writer,
-        Plan::Count,
-        columns,
-    )
+    run_by(rt, alloc, reader, options, gate, writer, Plan::Count)
 }

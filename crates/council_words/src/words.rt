@@ -160,6 +160,7 @@ const FLAGS: &[(&str, &str, &[&str])] = &[
     ("explain", "If a game is refused, says where and why", &[]),
 ];
 
+/// Makes an option that takes a number.
 fn number_option<'a>(alloc: Global, number: &Number) -> Arg<'a> {
     Arg::new(alloc, number.name)
         .long(number.name)
@@ -169,6 +170,7 @@ fn number_option<'a>(alloc: Global, number: &Number) -> Arg<'a> {
         .value_parser(value_parser!(u32).range(number.least..=number.greatest))
 }
 
+/// Makes an option that takes nothing.
 fn flag<'a>(
     alloc: Global,
     name: &'a str,

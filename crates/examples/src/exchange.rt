@@ -14,6 +14,7 @@ use game_calls::with_weights;
 use power_index::laws::names_change_no_count;
 use std::alloc::Global;
 
+/// Returns the member that is at a place after two were exchanged.
 fn exchange(first: usize, second: usize, member: usize) -> usize
     ensures { result ≡ exchanged first second member }
 {

@@ -5,7 +5,7 @@ ghost use Rattle.std.specs.Prelude.{◌≡◌, ◌≢◌, ◌↔◌, ◌<◌, �
 
 use power_index::Index;
 
-/// Whether the index of a member is above that of each other.
+/// Returns whether the index of a member is above that of each other.
 fn is_above_others(indices: &[Index], i: usize) -> bool
     requires { i < length indices.now }
     ensures { IsTrue result ↔ ((j : ℕ) → j < length indices.now → j ≢ i →
@@ -38,7 +38,7 @@ pub fn most_powerful(indices: &[Index]) -> Option<usize>
     None
 }
 
-/// Whether an index is this top over this bottom.
+/// Returns whether an index is this top over this bottom.
 fn is_right(index: Index, row_top: u16, row_bottom: u16) -> bool
     ensures { IsTrue result ↔ SameFraction index (row_top, row_bottom) }
 {

@@ -42,6 +42,7 @@ fn assert_same<T: PartialEq + Debug + Drop, L: Debug + Drop>(
     assert_eq!(rt; found, wanted, "{label:?}");
 }
 
+/// Copies texts.
 fn words(rt: &impl Abort, alloc: Global, texts: &[&str]) -> Vec<String> {
     let mut words = Vec::new(alloc);
     for text in texts {
@@ -51,7 +52,7 @@ fn words(rt: &impl Abort, alloc: Global, texts: &[&str]) -> Vec<String> {
     words
 }
 
-/// A rule of these weights.
+/// Returns a rule of these weights.
 fn rule(rt: &impl Abort, alloc: Global, quota: u64, weights: &[u64]) -> Rule
     ensures { length result.weights.items ≡ length weights.now }
 {
@@ -59,7 +60,9 @@ fn rule(rt: &impl Abort, alloc: Global, quota: u64, weights: &[u64]) -> Rule
     Rule { quota, weights }
 }
 
-/// The game of two rules: any two of three by states, and more than the half of the people.
+/// Returns the game of two rules of three states.
+///
+/// Any two of them win by the first rule, and more than half of the people by the second.
 fn two_rules(rt: &impl Abort, alloc: Global) -> Game
     ensures { length result.names ≡ 3 }
 {
@@ -72,18 +75,19 @@ fn two_rules(rt: &impl Abort, alloc: Global) -> Game
     game
 }
 
+/// Asserts that an index is this fraction and these decimals.
 fn assert_index(rt: &impl Abort, index: Index, top: u128, bottom: u128, decimals: &[u8; 8]) {
     assert_same(rt, index.top(), top, "index.top");
     assert_same(rt, index.bottom(), bottom, "index.bottom");
     assert_same(rt, index.decimals(), *decimals, "index.decimals");
 }
 
-/// The game of a file.
+/// Returns the game of a file.
 fn parse(rt: &impl Abort, alloc: Global, file: &[u8]) -> Game {
     parse_game(alloc, file).expect(rt, "a game")
 }
 
-/// The game of five members.
+/// Returns the game of five members.
 fn five(rt: &impl Abort, alloc: Global) -> Game
     ensures { length result.names ≡ 5 }
 {
@@ -118,7 +122,7 @@ fn the_first_is_not_the_lightest(rt: HostRuntime) {
     }
 }
 
-/// Ada, Bo and Cleo of 50, 49 and 1 votes, and a majority of 51.
+/// Returns the game of Ada, Bo and Cleo, of 50, 49 and 1 votes, at 51.
 fn board(rt: &impl Abort, alloc: Global) -> Game {
     game_from_slices(alloc, &["Ada", "Bo", "Cleo"], &[50, 49, 1], 51).expect(rt, "a game")
 }

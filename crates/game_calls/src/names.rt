@@ -7,6 +7,7 @@ ghost use Rattle.std.specs.Prelude.{◌≡◌, ◌<◌, ◌^◌, ℕ, IfErr, IfO
 use crate::membership::with_member;
 use council_game::{Coalition, Game};
 
+/// Returns whether no member has a name.
 fn is_unnamed(game: &Game, name: &str) -> bool
     ensures { result ≡ is_unnamed game.now name.now }
 {
@@ -26,7 +27,9 @@ pub fn first_unnamed(game: &Game, names: &[&str]) -> Option<usize>
     names.iter().position(|name| is_unnamed(game, name))
 }
 
-/// The coalition of the members with these names; a name that nobody has counts for nothing.
+/// Returns the coalition of the members with these names.
+///
+/// A name that nobody has counts for nothing.
 fn coalition_of_names(game: &Game, names: &[&str]) -> Coalition
     ensures members { (i : ℕ) → i < length game.now.names → contains game.now i result
         ≡ list_any (λ name. is_named game.now i name.now) names.now }

@@ -9,9 +9,10 @@ ghost use Rattle.game_calls.specs.Quotas.{at_quota, with_rules, with_weights};
 ghost use Rattle.std.specs.Prelude.{◌≡◌, ◌∷◌, ◌<◌, ◌≤◌, [], All, IfOk, None, length, map, option_map, string_bytes};
 
 use crate::laws::{made_games_have_their_parts, quotas_can_be_changed};
-use council_game::{Game, GameFault, Memory, Rule};
+use council_game::{Game, GameFault, Memory, Rule, copy_title};
 use std::alloc::{AllocError, Global};
 
+/// Copies names.
 fn copy_all(alloc: Global, names: &[&str]) -> Result<Vec<String>, AllocError>
     ensures { IfOk result
         (λ v. map string_bytes v.items ≡ map (λ name. name.now) names.now) }
@@ -45,15 +46,7 @@ pub fn game_from_slices(
     Game::new(alloc, None, names, weights, quota)
 }
 
-fn title_of(alloc: Global, game: &Game) -> Result<Option<String>, AllocError>
-    ensures { IfOk result (λ title. option_map string_bytes title ≡ game.now.title) }
-{
-    match game.title() {
-        Some(title) => Ok(Some(String::from_str(alloc, title)?)),
-        None => Ok(None),
-    }
-}
-
+/// Lists the weights of the first rule.
 fn weights_of(alloc: Global, game: &Game) -> Result<Vec<u64>, AllocError>
     ensures { IfOk result (λ v. v.items ≡ (rule_at game.now.rules 0).weights) }
 {
@@ -80,7 +73,7 @@ pub fn with_rules(alloc: Global, game: &Game, rules: Vec<Rule>) -> Result<Game, 
     ensures game { IfOk result (λ made. made ≡ with_rules game.now (rule_views rules.items)) }
 {
     made_games_have_their_parts();
-    let title = title_of(alloc, game)?;
+    let title = copy_title(alloc, game.title())?;
     let names = game.copy_names(alloc)?;
     Game::with_rules(alloc, title, names, rules)
 }
@@ -122,7 +115,7 @@ pub fn at_quota(alloc: Global, game: &Game, quota: u64) -> Result<Game, Memory>
 {
     game.was_checked();
     quotas_can_be_changed();
-    let title = title_of(alloc, game)?;
+    let title = copy_title(alloc, game.title())?;
     let names = game.copy_names(alloc)?;
     let weights = weights_of(alloc, game)?;
     match Game::new(alloc, title, names, weights, quota) {

@@ -20,7 +20,7 @@ name = \"C\"
 weight = 1
 ";
 
-/// The notation of a game's first rule, or the text of the fault.
+/// Returns the notation of a game's first rule, or the text of the fault.
 fn describe(rt: &impl Abort, alloc: Global, answer: Result<Game, GameFault>) -> String {
     match answer {
         Ok(game) => {
@@ -43,6 +43,7 @@ struct Piecemeal<'a> {
 }
 
 impl<'a> Piecemeal<'a> {
+    /// Returns a reader of these bytes.
     fn new(left: &'a [u8], at_once: usize, error: Option<ErrorKind>) -> Piecemeal<'a> {
         Piecemeal {
             left,
@@ -66,7 +67,7 @@ impl Read for Piecemeal<'_> {
     }
 }
 
-/// A reader answers so, after at most `most` reads.
+/// Checks what a reader answers, after at most `most` reads.
 fn check(rt: &impl Abort, alloc: Global, reader: Piecemeal<'_>, wanted: &str, most: usize) {
     let mut reader = reader;
     let length = reader.left.len();

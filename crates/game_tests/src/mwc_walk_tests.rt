@@ -89,7 +89,7 @@ fn forty_equal_members(rt: HostRuntime) {
     }
 }
 
-/// The walk gives `coalitions` coalitions by `visits` visits.
+/// Checks that the walk gives `coalitions` coalitions by `visits` visits.
 fn check(rt: &impl Abort, walk: &mut Walk<'_>, coalitions: u64, visits: u64) {
     let found = (count(walk), walk.visits());
     assert_same(rt, found, (coalitions, visits), "coalitions and visits");
@@ -150,7 +150,9 @@ fn by_contribution(rt: &impl Abort, alloc: Global, game: Game) -> Game {
     }
 }
 
-/// The walk over a row's statute, its rules in this order, is as the row says.
+/// Checks that the walk over a row's statute is as the row says.
+///
+/// Its rules are in this order.
 fn check_row(rt: &impl Abort, alloc: Global, order: &[usize], row: &Row) {
     let (statute, coalitions, visits) = row;
     let game = by_contribution(rt, alloc, game_by_groups(rt, alloc, order, statute));

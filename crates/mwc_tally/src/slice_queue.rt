@@ -19,6 +19,7 @@ pub(crate) struct SliceQueue<'a, G> {
 }
 
 impl<'a, G: Gate> SliceQueue<'a, G> {
+    /// Begins with no slice taken.
     pub(crate) fn new(
         slices: SlicedGame<'a>,
         taken: &'a AtomicU64,

@@ -113,14 +113,14 @@ impl Watch {
         self.of[slice as usize].load(Ordering::SeqCst)
     }
 
-    /// Whether the slice passed once, and by this worker.
+    /// Returns whether the slice passed once, and by this worker.
     pub(crate) fn is_passed_by(&self, slice: u16, worker: usize) -> bool {
         slice < 1024
             && self.count(slice) == 1
             && self.by[slice as usize].load(Ordering::SeqCst) == worker as u64
     }
 
-    /// Whether each of the first `count` slices passed once, and no other.
+    /// Returns whether each of the first `count` slices passed once, and no other.
     pub(crate) fn has_each_once(&self, count: u16) -> bool {
         for slice in 0..count {
             if self.count(slice) != 1 {
@@ -135,7 +135,7 @@ impl Watch {
         self.workers.load(Ordering::SeqCst)
     }
 
-    /// Whether each slice that passed was lower than the one before.
+    /// Returns whether each slice that passed was lower than the one before.
     pub(crate) fn is_descending(&self) -> bool {
         self.ascents.load(Ordering::SeqCst) == 0
     }

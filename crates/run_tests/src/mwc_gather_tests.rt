@@ -156,6 +156,7 @@ struct Behind<'a> {
 }
 
 impl<'a> Behind<'a> {
+    /// Notes a look.
     fn note(&mut self)
         ensures { self.new.batch ≡ self.old.batch }
     {

@@ -1,8 +1,8 @@
 -- What the scanner of a bracket text gives.
 use Rattle.std.specs.Prelude.{ℕ, Bool, true, false, List, [], ◌∷◌, Option, Some, None, option_map}
 use Rattle.std.specs.Str.Parse.{AllDigits}
-use Rattle.council_file.specs.declared.token.Token.{Token}
-use Rattle.council_file.specs.declared.token.Token.TheVariants.{Number, Opening, Closing, Comma, Semicolon, Other}
+use Rattle.council_file.specs.declared.scanner.Token.{Token}
+use Rattle.council_file.specs.declared.scanner.Token.TheVariants.{Number, Opening, Closing, Comma, Semicolon, Other}
 use Rattle.council_file.specs.Bracket.{Symbol, number, opening, closing, comma, semicolon, other, is_blank, value_of}
 
 abbrev pub symbol : Token → Symbol
@@ -26,12 +26,12 @@ IsWhole Comma = Unit {0}
 IsWhole Semicolon = Unit {0}
 IsWhole Other = Unit {0}
 
--- the number that stands first, and the symbols behind it
+-- the number that stands first, and the symbols after it
 abbrev pub first_number : List Symbol → Option (ℕ × List Symbol)
 first_number (number ds ∷ ps) = option_map (λ n. (n, ps)) (value_of ds)
 first_number ps = None
 
--- the symbols behind a mark that stands first
+-- the symbols after a mark that is first
 abbrev pub after_opening : List Symbol → Option (List Symbol)
 after_opening (opening ∷ ps) = Some ps
 after_opening ps = None

@@ -14,7 +14,7 @@ pub record IsReady (block : Block) : Type 0 where
   pub free : length block.bytes.items + LINE ≤ ROOM
   pub kept : block.refused ≡ false
 
--- with this text behind those told before, the number of bytes still fits 64 bits
+-- with this text after those counted before, the number of bytes still fits 64 bits
 abbrev pub CanCount : Block → List ℕ → Type 0
 CanCount block text = block.written + length block.bytes.items + length text < 2 ^ 64
 

@@ -7,7 +7,7 @@ use game_calls::{everyone, member_indices, with_rules, with_weights};
 use mwc_walk::{list_all, list_slice};
 use power_index::{Counts, all_indices};
 
-/// All members but one, or the only one.
+/// Returns how many members are all but one, or the only one.
 fn all_but(members: usize) -> u64 {
     (members as u64).saturating_sub(1).max(1)
 }
@@ -26,7 +26,7 @@ fn agreeing(rt: &impl Abort, alloc: Global, members: usize, count: usize) -> Vec
     rules
 }
 
-/// The game of these members, each of one vote, by all of whom but one it is won.
+/// Returns the game that all but one of the members win, each of one vote.
 fn all_but_one(rt: &impl Abort, alloc: Global, members: usize) -> Game {
     let letters = [
         "A", "B", "C", "D", "E", "F", "G", "H", "I", "J", "K", "L", "M", "N", "O", "P", "Q", "R",
@@ -39,7 +39,7 @@ fn all_but_one(rt: &impl Abort, alloc: Global, members: usize) -> Game {
     game_from_slices(alloc, &letters[..members], &weights[..members], quota).expect(rt, "a game")
 }
 
-/// The lists of the game, and the indices, are there.
+/// Checks that the lists of the game, and the indices, are there.
 fn check_lists(rt: &impl Abort, alloc: Global, game: &Game, wanted: usize) {
     let answer = list_all(alloc, game, 40).expect(rt, "memory");
     let list = answer.expect(rt, "a list of few");
@@ -57,7 +57,7 @@ fn check_lists(rt: &impl Abort, alloc: Global, game: &Game, wanted: usize) {
     }
 }
 
-/// The members of all, and those that are critical there, are listed.
+/// Checks that the members of all, and those critical there, are listed.
 fn check_members(rt: &impl Abort, alloc: Global, game: &Game) {
     let all = everyone(game);
     let members = game.members_of(alloc, all).expect(rt, "memory");
@@ -69,7 +69,7 @@ fn check_members(rt: &impl Abort, alloc: Global, game: &Game) {
     assert_same(rt, names.len(), game.members(), "copy_names");
 }
 
-/// With other weights, at another quota: each game is made.
+/// Checks that games with other weights and at another quota are made.
 fn check_other_games(rt: &impl Abort, alloc: Global, game: &Game) {
     assert!(rt; game.members() <= 40);
     let weights = [1; 40][..game.members()]
@@ -83,7 +83,7 @@ fn check_other_games(rt: &impl Abort, alloc: Global, game: &Game) {
     assert_same(rt, all.quota(), quota, "at_quota");
 }
 
-/// The game under as many rules by which all but one have to agree.
+/// Returns the game under as many rules by which all but one have to agree.
 fn of_rules(rt: &impl Abort, alloc: Global, game: &Game, count: usize) -> Game {
     let rules = agreeing(rt, alloc, game.members(), count);
     assert!(rt; 1 <= rules.len() && rules.len() <= 4);

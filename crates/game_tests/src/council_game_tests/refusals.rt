@@ -6,7 +6,7 @@ use std::alloc::Global;
 use std::io::Print;
 use std::process::Abort;
 
-/// Three members.
+/// Returns three members.
 fn names(rt: &impl Abort, alloc: Global) -> Vec<String> {
     let mut names = Vec::new(alloc);
     for name in ["A", "B", "C"] {
@@ -16,7 +16,7 @@ fn names(rt: &impl Abort, alloc: Global) -> Vec<String> {
     names
 }
 
-/// Their votes.
+/// Returns their votes.
 fn votes(rt: &impl Abort, alloc: Global) -> Vec<u64> {
     [50, 49, 1].to_vec(alloc).expect(rt, "weights")
 }

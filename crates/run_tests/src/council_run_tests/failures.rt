@@ -1,16 +1,6 @@
-//! A reader or a writer that fails once, in the wrappers of the program: no call follows.
+//! A reader or a writer that fails once: no call follows.
 use super::*;
-use council_base::Recorder;
-use council_progress::{Wipe, Wiping};
 use mwc_gather::NoGate;
-
-/// A line that is never there.
-#[derive(Drop)]
-struct NoLine;
-
-impl Wipe for NoLine {
-    fn wipe(&self) {}
-}
 
 /// Runs with a read and a write or flush that fail, and returns the cause and the calls of each.
 fn runs<R: Threads + Wait + Sync>(
@@ -20,16 +10,11 @@ fn runs<R: Threads + Wait + Sync>(
     write: u64,
 ) -> (Option<Cause>, u64, u64) {
     let mut reader = Stream::failing(b"[51; 35, 20, 15, 15, 15]", read);
-    let mut recorder = Recorder::new(&mut reader, None);
-    let mut writer = Wiping {
-        line: NoLine,
-        writer: Stream::failing(b"", write),
-    };
+    let mut writer = Stream::failing(b"", write);
     let options = options(1, 0);
-    let answer = run(rt, alloc, &mut recorder, &options, &NoGate, &mut writer);
-    drop(recorder);
+    let answer = run(rt, alloc, &mut reader, &options, &NoGate, &mut writer);
     let cause = answer.err().map(|fault| fault.cause);
-    (cause, reader.calls, writer.writer.calls)
+    (cause, reader.calls, writer.calls)
 }
 
 /// The 24 bytes come by four reads, and the fifth finds the end. The 411 bytes of the report take

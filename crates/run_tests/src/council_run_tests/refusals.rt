@@ -5,7 +5,7 @@ use crate::helpers::print_line;
 use mwc_gather::NoGate;
 use std::io::Print;
 
-/// Where a run that was refused something found no room.
+/// Returns where a run that was refused something found no room.
 fn place_of(cause: Cause) -> &'static str {
     match cause {
         Cause::Game(GameFault::Memory) => "no memory for the game",

@@ -6,7 +6,7 @@ use mwc_pipe::{Refused, Unfinished};
 use mwc_tally::TallyFault;
 use std::fmt::Display;
 
-/// The fault says so.
+/// Checks what a fault says.
 fn says<T: Display + Drop>(rt: &impl Abort, alloc: Global, fault: T, wanted: &str) {
     let text = format!(in alloc; "{fault}").expect(rt, "a text");
     assert_same(rt, text.as_str(), wanted, "what a fault says");

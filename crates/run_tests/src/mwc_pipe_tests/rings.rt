@@ -32,7 +32,7 @@ fn fills_rings_of_many_capacities(rt: HostRuntime) {
 /// How many words go from one thread to the other.
 const WORDS: u32 = 100_000;
 
-/// The word of this number.
+/// Returns the word of this number.
 fn word_of(number: u32) -> Word {
     Word::One(Coalition::of_mask(u64::from(number)))
 }

@@ -1,2 +1,0 @@
--- What only private functions and calls of `Source` need.
-pub mod Recorder
