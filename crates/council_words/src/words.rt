@@ -1,6 +1,7 @@
 //! The words of the command line.
+use clap::builder::ValueParser;
 use clap::parser::ValueSource;
-use clap::{Arg, ArgAction, ArgMatches, Command, Error, value_parser};
+use clap::{Arg, ArgAction, ArgMatches, Command, Error};
 use council_base::{Options, Plan, limits};
 use std::alloc::{AllocError, Global};
 
@@ -103,8 +104,8 @@ struct Number {
     value: &'static str,
     default: &'static str,
     help: &'static str,
-    least: i64,
-    greatest: i64,
+    least: u32,
+    greatest: u32,
 }
 
 /// The options that take a number.
@@ -115,7 +116,7 @@ const NUMBERS: &[Number] = &[
         default: "4",
         help: "Worker threads, 1 to 16",
         least: 1,
-        greatest: limits::WORKERS as i64,
+        greatest: limits::WORKERS as u32,
     },
     Number {
         name: "bits",
@@ -123,7 +124,7 @@ const NUMBERS: &[Number] = &[
         default: "6",
         help: "Tuning only: how the work is cut, 0 to 10",
         least: 0,
-        greatest: limits::BITS as i64,
+        greatest: limits::BITS as u32,
     },
     Number {
         name: "most",
@@ -133,7 +134,7 @@ const NUMBERS: &[Number] = &[
 without it and --list, a game with more is counted
 if it has few states",
         least: 1,
-        greatest: limits::COALITIONS as i64,
+        greatest: limits::COALITIONS,
     },
 ];
 
@@ -167,7 +168,7 @@ fn number_option<'a>(alloc: Global, number: &Number) -> Arg<'a> {
         .value_name(number.value)
         .help(number.help)
         .default_value(number.default)
-        .value_parser(value_parser!(u32).range(number.least..=number.greatest))
+        .value_parser(ValueParser::Signed(i64::from(number.least), i64::from(number.greatest)))
 }
 
 /// Makes an option that takes nothing.

@@ -1,11 +1,9 @@
 //! The best of a walk.
-ghost use Rattle.council_game.specs.Members.{size_of};
 ghost use Rattle.council_game.specs.Game.{votes_of};
-ghost use Rattle.council_game.specs.Votes.{minimal_coalitions, rule_at, weight, wins};
-ghost use Rattle.std.specs.Prelude.{◌≡◌, ◌<◌, ◌≤◌, ◌^◌, ℕ, All, Contains, IfSome, IsSome, length, true};
+ghost use Rattle.council_game.specs.Votes.{minimal_coalitions, rule_at, weight};
+ghost use Rattle.std.specs.Prelude.{◌≤◌, All, Contains, IfSome, IsSome};
 
 use council_game::{Coalition, Game};
-use game_calls::laws::{subsets_are_no_larger, winning_coalitions_have_minimal_ones};
 use mwc_walk::Walk;
 use mwc_walk::laws::{one_slice_is_the_whole, steps_keep_the_least, steps_keep_the_whole};
 use power_index::laws::minimal_coalitions_can_be_counted;
@@ -31,32 +29,6 @@ pub fn lightest(game: &Game) -> Option<Coalition>
     let mut best = walk.next()?;
     while let Some(coalition) = walk.next() {
         if game.weight_of(coalition) < game.weight_of(best) {
-            best = coalition;
-        }
-    }
-    Some(best)
-}
-
-/// Returns a minimal winning coalition with the least number of members.
-///
-/// It is the best of a walk.
-pub fn smallest(game: &Game) -> Option<Coalition>
-    ensures some { IsSome result }
-    ensures listed { IfSome result (Contains (minimal_coalitions (votes_of game.now))) }
-    ensures least { IfSome result (λ best. (c : ℕ) → c < 2 ^ length game.now.names
-        → wins (votes_of game.now).rules c ≡ true → size_of game.now best ≤ size_of game.now c) }
-{
-    game.was_checked();
-    one_slice_is_the_whole();
-    minimal_coalitions_can_be_counted();
-    winning_coalitions_have_minimal_ones();
-    subsets_are_no_larger();
-    steps_keep_the_whole();
-    steps_keep_the_least();
-    let mut walk = Walk::new(game, 0, 0);
-    let mut best = walk.next()?;
-    while let Some(coalition) = walk.next() {
-        if game.size_of(coalition) < game.size_of(best) {
             best = coalition;
         }
     }

@@ -6,12 +6,7 @@
 mod all_indices;
 mod best;
 mod blocking;
-mod exchange;
-mod games;
-mod indices;
-mod lists;
 mod names;
-mod power;
 mod quotas;
 mod reports;
 mod rings;

@@ -3,14 +3,11 @@ mod every_size;
 
 ghost use Rattle.std.specs.Prelude.{◌≡◌, length};
 
-use crate::best::{lightest, smallest};
+use crate::all_indices::indices_of;
+use crate::best::lightest;
 use crate::blocking::is_blocking;
-use crate::exchange::exchange_weights;
-use crate::games::{are_ranked_alike, of_one_rule, of_two_rules, quota_in_millionths};
-use crate::indices::{both_indices, first_of_bytes, indices_add_up};
-use crate::lists::{coalitions_with, is_dummy, list_twice};
 use crate::names::{find_critical, win_together};
-use crate::power::{have_equal_power, vetoers_in_order, weigh_the_same};
+use crate::quotas::counts_at_quotas;
 use crate::reports::report_into_memory;
 use crate::rings::through_a_ring;
 use crate::slices::{Passes, words_of_slice};
@@ -21,8 +18,8 @@ use council_file::parse_game;
 use council_game::{Coalition, Game, GameFault, Rule, plain_list};
 use council_report::ReportLines;
 use game_calls::{
-    at_quota, coalition_named, count_by_walk, critical_members, first_unnamed, game_from_slices,
-    has_member, outsiders, with_member, without_member,
+    at_quota, coalition_named, critical_members, first_unnamed, game_from_slices, has_member,
+    outsiders, vetoers, with_member, without_member,
 };
 use mwc_pipe::Word;
 use power_index::{Fraction, Index, lowest};
@@ -42,39 +39,6 @@ fn assert_same<T: PartialEq + Debug + Drop, L: Debug + Drop>(
     assert_eq!(rt; found, wanted, "{label:?}");
 }
 
-/// Copies texts.
-fn words(rt: &impl Abort, alloc: Global, texts: &[&str]) -> Vec<String> {
-    let mut words = Vec::new(alloc);
-    for text in texts {
-        let word = String::from_str(alloc, text).expect(rt, "a word");
-        words.push(word).expect(rt, "room");
-    }
-    words
-}
-
-/// Returns a rule of these weights.
-fn rule(rt: &impl Abort, alloc: Global, quota: u64, weights: &[u64]) -> Rule
-    ensures { length result.weights.items ≡ length weights.now }
-{
-    let weights = weights.to_vec(alloc).expect(rt, "weights");
-    Rule { quota, weights }
-}
-
-/// Returns the game of two rules of three states.
-///
-/// Any two of them win by the first rule, and more than half of the people by the second.
-fn two_rules(rt: &impl Abort, alloc: Global) -> Game
-    ensures { length result.names ≡ 3 }
-{
-    let names = words(rt, alloc, &["Large", "Small", "Tiny"]);
-    let states = rule(rt, alloc, 2, &[1, 1, 1]);
-    let people = rule(rt, alloc, 60, &[55, 25, 20]);
-    assert!(rt; names.len() == 3);
-    let game = of_two_rules(alloc, names, states, people).expect(rt, "a game");
-    assert!(rt; game.members() == 3);
-    game
-}
-
 /// Asserts that an index is this fraction and these decimals.
 fn assert_index(rt: &impl Abort, index: Index, top: u128, bottom: u128, decimals: &[u8; 8]) {
     assert_same(rt, index.top(), top, "index.top");
@@ -82,27 +46,24 @@ fn assert_index(rt: &impl Abort, index: Index, top: u128, bottom: u128, decimals
     assert_same(rt, index.decimals(), *decimals, "index.decimals");
 }
 
-/// Returns the game of a file.
-fn parse(rt: &impl Abort, alloc: Global, file: &[u8]) -> Game {
-    parse_game(alloc, file).expect(rt, "a game")
-}
-
 /// Returns the game of five members.
 fn five(rt: &impl Abort, alloc: Global) -> Game
     ensures { length result.names ≡ 5 }
 {
-    let game = parse(rt, alloc, FIVE);
+    let game = parse_game(alloc, FIVE).expect(rt, "a game");
     assert!(rt; game.members() == 5);
     game
 }
 
 #[test]
-fn indices_of_bytes(rt: HostRuntime) {
-    let answer = first_of_bytes(rt.alloc(), FIVE).expect(&rt, "memory");
-    let (first, second) = answer.expect(&rt, "a list of few");
-    assert_index(&rt, first, 3, 10, b"0.300000");
-    assert_index(&rt, second, 4, 15, b"0.266666");
-    let both = [second, first];
+fn indices_of_all_members(rt: HostRuntime) {
+    let game = five(&rt, rt.alloc());
+    let answer = indices_of(rt.alloc(), &game).expect(&rt, "memory");
+    let indices = answer.expect(&rt, "a list of few");
+    assert!(rt; indices.len() == 5);
+    let both = [indices[0].public_good, indices[0].deegan_packel];
+    assert_index(&rt, both[1], 3, 10, b"0.300000");
+    assert_index(&rt, both[0], 4, 15, b"0.266666");
     assert_same(&rt, most_powerful(&both), Some(1), "most_powerful");
     let wrong = first_wrong_row(&both, &[(8, 30), (31, 100)]);
     assert_same(&rt, wrong, Some(1), "first_wrong_row");
@@ -110,7 +71,7 @@ fn indices_of_bytes(rt: HostRuntime) {
 
 #[test]
 fn the_first_is_not_the_lightest(rt: HostRuntime) {
-    let game = parse(&rt, rt.alloc(), b"[51; 40, 30, 11, 11]");
+    let game = parse_game(rt.alloc(), b"[51; 40, 30, 11, 11]").expect(&rt, "a game");
     assert_same(
         &rt,
         lightest(&game),
@@ -151,6 +112,8 @@ fn members_of_coalitions(rt: HostRuntime) {
     );
     assert_same(&rt, first_unnamed(&game, &["Bo", "Di"]), Some(1), "Di");
     assert!(rt; is_blocking(&game, two));
+    let needed = vetoers(alloc, &game).expect(&rt, "memory");
+    assert!(rt; needed.as_slice() == [0].as_slice());
     let answer = find_critical(alloc, &game, &["Cleo", "Ada", "Bo"]).expect(&rt, "memory");
     let critical = answer.expect(&rt, "members of these names");
     assert!(rt; critical.as_slice() == [0].as_slice());
@@ -162,112 +125,12 @@ fn members_of_coalitions(rt: HostRuntime) {
 }
 
 #[test]
-fn power_of_members(rt: HostRuntime) {
-    let alloc = rt.alloc();
-    let game = board(&rt, alloc);
-    assert!(rt; game.members() == 3);
-    let needed = vetoers_in_order(alloc, &game).expect(&rt, "memory");
-    assert!(rt; needed.as_slice() == [0].as_slice());
-    let equal = have_equal_power(alloc, &game, 1, 2).expect(&rt, "memory");
-    assert_same(&rt, equal, Some(true), "have_equal_power");
-    let game = five(&rt, alloc);
-    assert_same(
-        &rt,
-        smallest(&game),
-        Some(Coalition::of_mask(24)),
-        "smallest",
-    );
-    assert_same(&rt, weigh_the_same(&game, 0, 1), false, "weigh_the_same");
-    assert_same(&rt, weigh_the_same(&game, 2, 4), true, "weigh_the_same 2");
-    assert!(rt; game.rules() == 1);
-    let made = exchange_weights(alloc, &game, 0, 4).expect(&rt, "memory");
-    assert!(rt; made.members() == 5);
-    assert_same(&rt, made.weight(0), 15, "exchange_weights");
-    assert_same(&rt, made.weight(4), 35, "exchange_weights 2");
-}
-
-#[test]
 fn other_quotas(rt: HostRuntime) {
     let alloc = rt.alloc();
     let game = board(&rt, alloc);
     assert!(rt; game.total() == 100);
-    let all = at_quota(alloc, &game, 100).expect(&rt, "memory");
-    assert_same(&rt, all.quota(), 100, "quota");
-    assert_same(&rt, count_by_walk(&all), 1, "count_by_walk");
-}
-
-#[test]
-fn a_game_of_two_rules(rt: HostRuntime) {
-    let alloc = rt.alloc();
-    let game = two_rules(&rt, alloc);
-    assert_same(&rt, count_by_walk(&game), 2, "count_by_walk");
-    assert_same(
-        &rt,
-        is_dummy(alloc, &game, 2).expect(&rt, "memory"),
-        Some(false),
-        "is_dummy",
-    );
-    let answer = both_indices(alloc, &game, 0).expect(&rt, "memory");
-    let (first, second) = answer.expect(&rt, "a list of few");
-    assert_index(&rt, first, 1, 2, b"0.500000");
-    assert_index(&rt, second, 1, 2, b"0.500000");
-    indices_add_up(&game);
-}
-
-#[test]
-fn a_dummy_and_a_share(rt: HostRuntime) {
-    let alloc = rt.alloc();
-    let names = words(&rt, alloc, &["D", "F", "I", "B", "N", "L"]);
-    let weights = [4, 4, 4, 2, 2, 1].to_vec(alloc).expect(&rt, "weights");
-    assert!(rt; weights.len() == names.len());
-    let game = of_one_rule(alloc, names, weights, 12).expect(&rt, "memory");
-    assert!(rt; game.members() == 6);
-    assert_same(
-        &rt,
-        is_dummy(alloc, &game, 0).expect(&rt, "memory"),
-        Some(false),
-        "is_dummy",
-    );
-    assert_same(
-        &rt,
-        is_dummy(alloc, &game, 5).expect(&rt, "memory"),
-        Some(true),
-        "is_dummy 2",
-    );
-    assert_same(
-        &rt,
-        quota_in_millionths(&game),
-        705_882,
-        "quota_in_millionths",
-    );
-}
-
-#[test]
-fn games_that_rank_alike(rt: HostRuntime) {
-    let alloc = rt.alloc();
-    let five = five(&rt, alloc);
-    let alike = parse(&rt, alloc, b"[7; 9, 4, 1, 1, 1]");
-    let other = parse(&rt, alloc, b"[7; 4, 9, 1, 1, 1]");
-    assert!(rt; alike.members() == 5);
-    assert!(rt; other.members() == 5);
-    assert!(rt; are_ranked_alike(&five, &alike));
-    assert!(rt; !are_ranked_alike(&five, &other));
-}
-
-#[test]
-fn coalitions_with_a_member(rt: HostRuntime) {
-    let alloc = rt.alloc();
-    let game = five(&rt, alloc);
-    let list = plain_list(alloc, &game).expect(&rt, "memory");
-    assert!(rt; list.len() == 5);
-    let answer = list_twice(alloc, &game).expect(&rt, "memory");
-    let (walked, tried) = answer.expect(&rt, "a list of few");
-    assert_same(&rt, walked.as_slice(), list.as_slice(), "walked");
-    assert_same(&rt, tried.as_slice(), list.as_slice(), "tried");
-    let found = coalitions_with(alloc, &game, &list, 1).expect(&rt, "memory");
-    assert!(rt; found.len() == 2);
-    assert_same(&rt, found[0], Coalition::of_mask(24), "found[0]");
-    assert_same(&rt, found[1], Coalition::of_mask(15), "found[1]");
+    let counts = counts_at_quotas(alloc, &game, &[51, 100]).expect(&rt, "memory");
+    assert!(rt; counts.as_slice() == [2, 1].as_slice());
 }
 
 #[test]
@@ -310,7 +173,7 @@ fn words_of_a_slice(rt: HostRuntime) {
 
 #[test]
 fn a_report_in_memory(rt: HostRuntime) {
-    let game = parse(&rt, rt.alloc(), b"[2; 1, 1]");
+    let game = parse_game(rt.alloc(), b"[2; 1, 1]").expect(&rt, "a game");
     let shown = ReportLines {
         list: false,
         sizes: false,
