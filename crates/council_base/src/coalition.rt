@@ -1,5 +1,5 @@
 //! Coalitions.
-ghost use Rattle.std.specs.Prelude.{◌≡◌, ◌≢◌, ◌^◌, ◌<◌, ◌≤◌, ◌-◌, ℕ, if◌then◌else◌, false, true};
+ghost use Rattle.std.specs.Prelude.{◌≡◌, ◌≢◌, ◌↔◌, ◌^◌, ◌<◌, ◌≤◌, ◌-◌, ◌&&◌, ◌||◌, ℕ, IsTrue, bit_and, if◌then◌else◌, false, true};
 ghost use Rattle.council_base.specs.declared.limits.TheConstants.{MEMBERS};
 ghost use Rattle.council_base.specs.Coalitions.{has, with_member, without, size};
 
@@ -104,6 +104,35 @@ impl Coalition {
         } else {
             self
         }
+    }
+
+    /// Returns the coalition of all who are in one of the two, or in both.
+    pub fn union(self, other: Coalition) -> Coalition
+        ensures members { (n p : ℕ) → has n p result ≡ (has n p self || has n p other) }
+        ensures below { (n : ℕ) → self < 2 ^ n → other < 2 ^ n → result < 2 ^ n }
+    {
+        Coalition {
+            mask: self.mask | other.mask,
+        }
+    }
+
+    /// Returns the coalition of all who are in both.
+    pub fn intersection(self, other: Coalition) -> Coalition
+        ensures members { (n p : ℕ) → has n p result ≡ (has n p self && has n p other) }
+        ensures below { (n : ℕ) → self < 2 ^ n → result < 2 ^ n }
+        ensures mask { result ≡ bit_and self other }
+    {
+        Coalition {
+            mask: self.mask & other.mask,
+        }
+    }
+
+    /// Returns whether each member is in the other coalition too.
+    pub fn is_subset_of(self, other: Coalition) -> bool
+        ensures { (n : ℕ) → self < 2 ^ n → other < 2 ^ n → IsTrue result
+            ↔ ((p : ℕ) → p < n → has n p self ≡ true → has n p other ≡ true) }
+    {
+        self.intersection(other) == self
     }
 
     /// Returns how many members are in, 0 to 40.
