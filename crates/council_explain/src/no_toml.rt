@@ -40,6 +40,26 @@ const QUOTES: &[char] = &['"', '\''];
 /// What may stand after a number as people write it.
 const UNITS: &[char] = &['%', '/', ';', '_'];
 
+/// Returns what separates the columns of a line, if it has several.
+fn columns_of(line: &str) -> Option<&'static str> {
+    for (sign, name) in COLUMNS {
+        if line.contains(*sign) {
+            return Some(name);
+        }
+    }
+    None
+}
+
+/// Returns whether each part between two separators has three digits.
+fn are_thousands(parts: &str) -> bool {
+    for part in parts.split(SEPARATORS) {
+        if part.len() != 3 {
+            return false;
+        }
+    }
+    true
+}
+
 impl Explanation<'_> {
     /// Says that the text looks like a table, and returns whether it does.
     ///
@@ -47,17 +67,15 @@ impl Explanation<'_> {
     fn explain_table(&mut self) -> bool {
         for (index, line) in self.text.lines().enumerate() {
             if line.starts_with('#') || line.starts_with('[') || line.contains('=') {
-                break;
+                return false;
             }
-            for (sign, name) in COLUMNS {
-                if line.contains(*sign) {
-                    let number = index.saturating_add(1);
-                    self.line(format_args!("line {number}: {}", short(line)));
-                    self.line(format_args!(
-                        "that looks like a table, with {name} between its columns: council-tools from-table makes a game file of it"
-                    ));
-                    return true;
-                }
+            if let Some(name) = columns_of(line) {
+                let number = index.saturating_add(1);
+                self.line(format_args!("line {number}: {}", short(line)));
+                self.line(format_args!(
+                    "that looks like a table, with {name} between its columns: council-tools from-table makes a game file of it"
+                ));
+                return true;
             }
         }
         false
@@ -101,10 +119,7 @@ impl Explanation<'_> {
     /// Says what helps with a number that has separators.
     fn explain_separators(&mut self, number: &str) {
         let (_, rest) = number.split_once(SEPARATORS).unwrap_or((number, ""));
-        let mut is_thousands = true;
-        for part in rest.split(SEPARATORS) {
-            is_thousands = is_thousands && part.len() == 3;
-        }
+        let is_thousands = are_thousands(rest);
         if number.contains(',') && !(is_thousands && rest.contains(SEPARATORS)) {
             self.line("a number may have no comma");
             let (_, last) = number.rsplit_once(',').unwrap_or(("", ""));

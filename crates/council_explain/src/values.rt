@@ -14,16 +14,27 @@ const NAME: &str = "a name is a text in quotes, of 1 to 64 bytes, on one line";
 
 const TITLE: &str = "a title is a text in quotes, of at most 200 bytes, on one line";
 
-/// Returns whether a file may have a key at its top.
-fn is_top_key(key: &str) -> bool {
-    matches!(key, "title" | "quota" | "quotas" | "member")
+/// The keys that a file may have at its top.
+const TOP_KEYS: &[&str] = &["title", "quota", "quotas", "member"];
+
+/// The keys that a member may have.
+const MEMBER_KEYS: &[&str] = &["name", "weight", "weights"];
+
+/// Returns whether a key is one of these.
+fn is_among(key: &str, keys: &[&str]) -> bool {
+    for known in keys {
+        if *known == key {
+            return true;
+        }
+    }
+    false
 }
 
 impl Explanation<'_> {
     /// Says which key the file, or else a member, may not have.
     pub fn explain_unknown_key(&mut self) {
         for key in self.table.keys() {
-            if !is_top_key(key.as_str()) {
+            if !is_among(key.as_str(), TOP_KEYS) {
                 self.explain_key(None, key.as_str());
                 let key = short(key);
                 return self.line(format_args!(
@@ -36,13 +47,13 @@ impl Explanation<'_> {
                 continue;
             };
             for key in table.keys() {
-                if matches!(key.as_str(), "name" | "weight" | "weights") {
+                if is_among(key.as_str(), MEMBER_KEYS) {
                     continue;
                 }
                 self.explain_key(Some(index.saturating_add(1)), key.as_str());
                 let keys = "name, weight and weights";
                 self.line(format_args!("a member has no key {}: its keys are {keys}", short(key)));
-                if is_top_key(key.as_str()) {
+                if is_among(key.as_str(), TOP_KEYS) {
                     self.line("what belongs to the game stands before the first [[member]]");
                 }
                 return;
