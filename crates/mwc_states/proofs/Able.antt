@@ -1,7 +1,7 @@
 -- Members that a minimal set may have.
 use Rattle.mwc_states.proofs.Imports.{list_all, and_parts, both_ways, not-true, nat_tests, list_all-map, get_or-range_with_len, sum_by-cons}
 use Rattle.mwc_states.proofs.Imports.{◌≡◌, ◌∙◌, ℕ, ◌+◌, ◌≤◌, Bool, true, false, not, cond, List, [], ◌∷◌, get_or, sym, arith, zero-add}
-use Rattle.mwc_states.proofs.Imports.{Minimal, weigh, meets, without_one, needs_each, fits, weigh_able}
+use Rattle.mwc_states.proofs.Imports.{MOST, min, weigh, meets, without_one, needs_each, fits, weigh_able}
 use Rattle.std.proofs.lemmas.Bool.{cond-true, cond_both, false_from_ne_true, true_from_ne_false}
 use Rattle.std.proofs.lemmas.List.Folds.{list_any_at}
 use Rattle.mwc_states.specs.Inner.Later.{is_able}
@@ -46,12 +46,12 @@ within-able need row (member ∷ members) (true ∷ set) others each meets_need 
     )
 
 -- where all able members miss the row, each minimal set does
-pub missed : (need row able : List ℕ) (members : List (List ℕ)) (set : List Bool) → ((r : ℕ) → get_or able r 0 ≡ weigh_able need row members r)
-    → meets (λ r. get_or able r 0) row ≡ false → fits Minimal members need set ≡ true → meets (weigh members set) row ≡ false
-missed need row able members set is not_met fitting =
-    let parts = and_parts (meets (weigh members set) need) (needs_each Minimal members set need) fitting in
+pub missed : (need row able : List ℕ) (members : List (List ℕ)) (set : List Bool) → ((r : ℕ) → get_or able r 0 ≡ min (weigh_able need row members r) MOST)
+    → ((r : ℕ) → get_or row r 0 ≤ MOST) → meets (λ r. get_or able r 0) row ≡ false → fits members need set ≡ true → meets (weigh members set) row ≡ false
+missed need row able members set is small not_met fitting =
+    let parts = and_parts (meets (weigh members set) need) (needs_each members set need) fitting in
     false_from_ne_true _ (λ e. both_ways _ not_met (reached _ row (λ r lt.
     let within = within-able need row members set (λ r. 0)
     ((λ i. list_all (λ less. not (meets (λ r. zero-add (weigh members less r) i) need)) (without_one set)) ∙ parts.1)
     (λ k below. omega (arith, reach _ need parts.0 k below)) (λ k below. omega (arith, reach _ row e k below)) r in
-    omega (arith, within, is r, reach _ row e r lt))))
+    omega (arith, within, is r, small r, reach _ row e r lt))))

@@ -2,15 +2,15 @@
 -- pass a test.
 use Rattle.mwc_states.proofs.Imports.{winning_coalitions, What, Minimal, Winning, weigh, meets, without_one, count_sets, completes, accepts}
 use Rattle.mwc_states.proofs.Imports.{◌≡◌, ◌∙◌, ℕ, zero, suc, ◌<◌, ◌≤◌, Bool, true, false, not, ◌&&◌, ◌==◌, List, [], ◌∷◌, length, get_or}
-use Rattle.mwc_states.proofs.Imports.{get_or-set_other, ◌^◌, and_parts, not-true, cases_eq, cases_lt, nat_tests, get_or_past, sum_by-cons}
-use Rattle.mwc_states.proofs.Imports.{get_or_default, list_all-map, size, rule_at, down, weight, votes_of, minimal_coalitions}
-use Rattle.mwc_states.proofs.Imports.{set, filter, refl, sym, ap, arith, inl, inr, leb, sum_by, length-set, get_or-set_same}
+use Rattle.mwc_states.proofs.Imports.{get_or-set_other, ◌^◌, and_parts, not-true, cases_eq, cases_lt, nat_tests, get_or_past}
+use Rattle.mwc_states.proofs.Imports.{list_all-map, size, rule_at, down, weight, votes_of, minimal_coalitions}
+use Rattle.mwc_states.proofs.Imports.{set, filter, refl, sym, ap, arith, inl, inr, leb, length-set, get_or-set_same}
 use Rattle.mwc_states.proofs.Imports.{AreSizesOf, AreRowsOf}
-use Rattle.std.proofs.lemmas.List.{FromFn.fill_by_all, FromFn.get_or-map-range_with_len, FromFn.length-map-range_with_len, Sums.sum_by-le}
-use Rattle.std.proofs.{Common.sum, lemmas.Bool.and_from, lemmas.Bool.not_from_false}
+use Rattle.std.proofs.lemmas.List.{FromFn.fill_by_all, FromFn.get_or-map-range_with_len, FromFn.length-map-range_with_len}
+use Rattle.std.proofs.{lemmas.Bool.and_from, lemmas.Bool.not_from_false}
 use Rattle.council_base.specs.Coalitions.{has, without}
 use Rattle.council_base.proofs.Shared.{Digits.has-kept, Digits.has-gone, Lists.filter-both}
-use Rattle.council_game.specs.Votes.{RuleView, Votes, IsVotes, wins, minimal}
+use Rattle.council_game.specs.Votes.{Votes, IsVotes, wins, minimal}
 use Rattle.council_game.proofs.Shared.{Lists.all-at, Lists.all-of, Lists.all-rules, Meanings.needs-each-member, WinningByPlaces.rule-is}
 use Rattle.council_game.specs.Game.{GameView, IsGame, AreNonemptyCoalitions}
 use Rattle.power_index.specs.Tables.{AreSizeCounts}
@@ -58,16 +58,6 @@ set-less n c p lt inside =
       | inr other ↦ get_or-set_other (set_of n c) p q false false other ∙ set-at n c q below ∙ sym (has-kept n q p c below lt other inside)
     ])
 
--- ---- sums under a rule
-column-sum : (rows : List (List ℕ)) (ws : List ℕ) (r : ℕ) → length rows ≡ length ws
-    → ((p : ℕ) → p < length rows → get_or (get_or rows p []) r 0 ≡ get_or ws p 0) → sum_by (λ member. get_or member r 0) rows ≡ sum ws
-column-sum [] [] r long same = refl
-column-sum [] (w ∷ ws) r long same = absurd (omega arith)
-column-sum (row ∷ rows) [] r long same = absurd (omega arith)
-column-sum (row ∷ rows) (w ∷ ws) r long same =
-    let rest = column-sum rows ws r (omega arith) (λ p lt. same (suc p) (omega arith)) in
-    omega (arith, same 0 (omega arith), rest, sum_by-cons (λ (member : List ℕ). get_or member r 0) row rows, sum_by-cons (λ (x : ℕ). x) w ws)
-
 -- ---- who wins meets the quotas
 all-past : (t : ℕ → Bool) (k n : ℕ) → k ≤ n → ((i : ℕ) → k ≤ i → t i ≡ true) → list_all t (range_with_len 0 n) ≡ list_all t (range_with_len 0 k)
 all-past t k n le past = same_test _ _
@@ -97,43 +87,23 @@ module _ (v : Votes) (members : List (List ℕ)) (need : List ℕ) (game : IsVot
       same_test _ _
       (λ min.
       let parts = law.0 min in
-      and_from _ _ (sym (wins-meets c) ∙ parts.0) (and_from _ _ (all-less f (set_of n c) (λ p lt inside.
+      and_from _ _ (and_from _ _ (sym (wins-meets c) ∙ parts.0) (all-less f (set_of n c) (λ p lt inside.
       (let below : p < n = omega (arith, lt, long-set n c) in
       let here : has n p c ≡ true = sym (set-at n c p below) ∙ inside in
-      less p below here ∙ not_from_false _ (parts.1 p below here)))) refl))
+      less p below here ∙ not_from_false _ (parts.1 p below here))))) refl)
       (λ done.
       let outer = and_parts _ _ done in
-      let inner = and_parts _ _ outer.1 in
+      let inner = and_parts _ _ outer.0 in
       law.1 (
-        wins-meets c ∙ outer.0,
+        wins-meets c ∙ inner.0,
         λ p lt inside. not-true _ (sym (less p lt inside)
-            ∙ each-less f (set_of n c) inner.0 p (omega (arith, lt, long-set n c)) (set-at n c p lt ∙ inside)),
+            ∙ each-less f (set_of n c) inner.1 p (omega (arith, lt, long-set n c)) (set-at n c p lt ∙ inside)),
       ))
 
   counted-completes : (what : What) (c : ℕ) → is_counted what v c ≡ completes what members (need ∷ []) (set_of n c)
   unfolding completes
   counted-completes Minimal c = minimal-completes c
   counted-completes Winning c = grind (arith, nat_tests, wins-meets c)
-
-  -- what all members weigh together under a rule
-  pub light : (r : ℕ) → sum_by (λ member. get_or member r 0) members ≤ 40000000000000
-  light r = elim (cases_lt r (length v.rules)) [
-    | inl lt ↦ (let rule = rule-is v r game lt in
-        omega (
-          arith,
-          rule.light,
-          column-sum members (rule_at v.rules r).weights r (rows.long ∙ sym rule.full)
-              (λ p below. rows.weights p r (omega (arith, below, rows.long))),
-        ))
-    | inr past ↦ omega (
-      arith,
-      sum_by-le (λ member. get_or member r 0) 0 members (λ p d below.
-          (let none : get_or (get_or members p []) r 0 ≡ 0 =
-          rows.weights p r (omega (arith, below, rows.long))
-          ∙ ap (λ (rule : RuleView). get_or rule.weights p 0) (get_or_past v.rules r (record { quota = 0; weights = [] }) past) in
-          omega (arith, none, ap (λ (member : List ℕ). get_or member r 0) (get_or_default members p d [] below)))),
-    )
-  ]
 
   -- how many of the counted coalitions pass a test, from how many sets that a graph accepts do
   pub sizes-are : (what : What) (levels : List (List ℕ)) (test : List Bool → Bool) (p : ℕ → Bool) (sizes : List ℕ) → length levels ≡ n

@@ -11,5 +11,4 @@ mod Meeting
 mod Merging
 mod SetCounts
 mod Tables
-mod Weights
 mod Worth

@@ -1,6 +1,6 @@
 -- Rows lowered to the least of the later ones.
 use Rattle.mwc_states.proofs.Imports.{◌≡◌, ◌∙◌, ℕ, ◌+◌, ◌-◌, ◌<◌, ◌≤◌, List, [], length, get_or, set, min, max, ltb, Bool, true, ap, arith}
-use Rattle.mwc_states.proofs.Imports.{inl, inr, length-set, get_or-set_same, get_or-set_other, cases_lt, RULES, weigh, meets, row_at}
+use Rattle.mwc_states.proofs.Imports.{inl, inr, length-set, get_or-set_same, get_or-set_other, cases_lt, RULES, MOST, weigh, meets, row_at}
 use Rattle.mwc_states.proofs.Imports.{HasSum, IsAscending, AreListed, AreSums}
 use Rattle.std.proofs.{Common.ltb-true, lemmas.List.get_or_read}
 use Rattle.mwc_states.proofs.Meeting.{reach, reached}
@@ -34,10 +34,10 @@ pub sums-lowered : {rule : ℕ} {members rows new : List (List ℕ)} → AreList
 unfolding HasSum
 sums-lowered {rule = rule} {members = members} listed long least below same = record {
   ascending = λ i j. least i j rule;
-  least = λ set at r lt before.
+  least = λ set number at r small le lt before.
       let found = listed.all set in
       let later : at ≤ found.0 = elim (cases_lt found.0 at) [
-        | inl early ↦ absurd (omega (arith, before found.0 early, same rule found.0 listed.ascending, found.2.same))
+        | inl early ↦ absurd (omega (arith, small, le, before found.0 early, same rule found.0 listed.ascending, found.2.same))
         | inr late ↦ late
       ] in
       omega (arith, least at found.0 r later (omega (arith, found.1)), below found.0 r, found.2.below r);
@@ -47,12 +47,13 @@ sums-lowered {rule = rule} {members = members} listed long least below same = re
 pub meets-raised : {rule : ℕ} {members rows : List (List ℕ)} (row raised least result : List ℕ) (at : ℕ) (set : List Bool) → rule < RULES
     → AreSums rule members rows → at < length rows → ((k : ℕ) (d : List ℕ) → 0 ≤ k → k < at → ltb (get_or (get_or rows k d) rule 0) (get_or row rule 0) ≡ true)
     → least ≡ get_or rows at least → ((r : ℕ) → get_or result r 0 ≡ max (get_or raised r 0) (get_or least r 0))
-    → meets (weigh members set) row ≡ true → meets (weigh members set) raised ≡ true → meets (weigh members set) result ≡ true
-meets-raised {rule = rule} {members = members} {rows = rows} row raised least result at set in' sums lt before read made meets_row meets_raised =
+    → get_or row rule 0 ≤ MOST → meets (weigh members set) row ≡ true → meets (weigh members set) raised ≡ true → meets (weigh members set) result ≡ true
+meets-raised {rule = rule} {members = members} {rows = rows} row raised least result at set in' sums lt before read made small meets_row meets_raised =
     reached (weigh members set) result (λ r below. omega (
       arith,
       made r,
       ap (λ x. get_or x r 0) (get_or_read rows at least lt read []),
-      sums.least set at r lt (λ k early. omega (arith, ltb-true _ _ (before k [] (omega arith) early), reach (weigh members set) row meets_row rule in')),
+      sums.least set (get_or row rule 0) at r small (reach (weigh members set) row meets_row rule in') lt
+          (λ k early. ltb-true _ _ (before k [] (omega arith) early)),
       reach (weigh members set) raised meets_raised r below,
     ))

@@ -1,6 +1,7 @@
 -- Weights that meet rows.
 use Rattle.mwc_states.proofs.Imports.{◌≡◌, ℕ, ◌-◌, ◌<◌, ◌≤◌, Bool, true, false, cond, List, [], ◌∷◌, get_or, max, sum_by, refl}
-use Rattle.mwc_states.proofs.Imports.{arith, zero-add, get_or-range_with_len, sum_by-cons, RULES, weigh, meets}
+use Rattle.mwc_states.proofs.Imports.{arith, zero-add, get_or-range_with_len, sum_by-cons, RULES, MOST, weigh, meets}
+use Rattle.mwc_states.specs.Inner.Later.{IsTotal}
 use Rattle.std.proofs.lemmas.{Bool.Decides.same_from_decides, List.Sums.list_all-from_AllPass}
 use Rattle.std.proofs.Common.{leb-true, le-leb}
 
@@ -52,6 +53,7 @@ weigh-within (member ∷ members) (true ∷ set) r = simp sum_by-cons (omega (ar
 weigh-within (member ∷ members) (false ∷ set) r = simp sum_by-cons (omega (arith, weigh-within members set r))
 
 -- ---- all members together
-pub meets-total : (members : List (List ℕ)) (total row : List ℕ) (set : List Bool) → ((r : ℕ) → get_or total r 0 ≡ sum_by (λ member. get_or member r 0) members)
+pub meets-total : (members : List (List ℕ)) (total row : List ℕ) (set : List Bool) → IsTotal members total → ((r : ℕ) → get_or row r 0 ≤ MOST)
     → meets (weigh members set) row ≡ true → meets (λ r. get_or total r 0) row ≡ true
-meets-total members total row set is met = reached _ row (λ r lt. omega (arith, is r, weigh-within members set r, reach _ row met r lt))
+meets-total members total row set is small met =
+    reached _ row (λ r lt. omega (arith, is r, small r, weigh-within members set r, reach _ row met r lt))

@@ -3,7 +3,7 @@ use Rattle.mwc_states.proofs.Imports.{◌++◌, ◌≡◌, ◌∙◌, ℕ, zero,
 use Rattle.mwc_states.proofs.Imports.{length, drop, get_or, sym, ap, arith, nat_tests, drop-cons, drop_all, get_or_append_left, get_or_past, get_or_push, get_or-map, length-map, map-append}
 use Rattle.mwc_states.proofs.Imports.{has, count_sets, accepts, over_choices, later, link_at, lists, step, rows_at, count_at, AreLeading, AreCompleting, worth, with_member}
 use Rattle.std.proofs.Common.{◌/◌, pow_mono, refl, Vec, Global}
-use Rattle.mwc_states.proofs.Imports.{All, get_or_default, sum_at, sum_by-cons, worth_of}
+use Rattle.mwc_states.proofs.Imports.{All, IsWithin, get_or_default, sum_by-cons}
 use Rattle.std.proofs.lemmas.List.Elements.{All-cons, All-nil}
 use Rattle.mwc_states.specs.Inner.Links.{IsGraph}
 use Rattle.mwc_states.specs.declared.choices.Choices.{Choices}
@@ -24,19 +24,23 @@ choices-few levels (suc i) c value few =
     rw more (omega (arith, rest))
 
 -- the choice of no member
-pub lead-root : (levels : List (List ℕ)) (some : Vec Choices Global) → 1 ≤ rows_at levels 0 → some.items ≡ record { row = 0; count = 1 } ∷ [] → AreLeading levels 0 (some ∷ [])
-unfolding over_choices sum_at
-lead-root levels some root is = record {
-  within =
-      let first : Choices → Type 0 = λ some. some.row < rows_at levels 0 in
-      let one : All first some.items = rw is (All-cons first (record { row = 0; count = 1 }) [] root (All-nil first)) in
-      All-cons (λ (list : Vec Choices Global). All first list.items) some [] one (All-nil (λ (list : Vec Choices Global). All first list.items));
-  sums = λ value. omega (
-    arith,
-    ap (λ choices. worth_of choices (λ row. value row 0)) is,
-    sum_by-cons (λ (some : Choices). some.count * value some.row 0) (record { row = 0; count = 1 }) [],
-  );
-}
+pub lead-root : (levels : List (List ℕ)) (choices : List Choices) → 1 ≤ rows_at levels 0 → choices ≡ record { size = 0; row = 0; count = 1 } ∷ [] → AreLeading levels 0 choices
+unfolding over_choices
+lead-root levels choices root is = rw is (record {
+  within = All-cons (IsWithin (rows_at levels 0) 0) (record { size = 0; row = 0; count = 1 }) [] (record { row = root; size = omega arith }) (All-nil (IsWithin (rows_at levels 0) 0));
+  sums = λ value. omega (arith, sum_by-cons (λ (some : Choices). some.count * value some.row some.size) (record { size = 0; row = 0; count = 1 }) []);
+})
+
+-- two values of each row
+pub worth-both : (choices : List Choices) (f g : ℕ → ℕ → ℕ) → worth choices (λ p a. f p a + g p a) ≡ worth choices f + worth choices g
+worth-both [] f g = omega arith
+worth-both (some ∷ rest) f g = omega (
+  arith,
+  worth-both rest f g,
+  sum_by-cons (λ some. some.count * (f some.row some.size + g some.row some.size)) some rest,
+  sum_by-cons (λ some. some.count * f some.row some.size) some rest,
+  sum_by-cons (λ some. some.count * g some.row some.size) some rest,
+)
 
 -- no size more
 pub later-none : (f : ℕ → ℕ) (s : ℕ) → later 0 f s ≡ f s
@@ -121,18 +125,29 @@ module _ {levels : List (List ℕ)} {i : ℕ} {links : List ℕ} (graph : IsGrap
   front = let e : i + 1 ≡ suc i = omega arith in (λ t. h.is t ∷ drop (e t) levels) ∙ sym (drop-cons levels i [] h.within)
 
   -- ---- one member more
-  module _ {choices : List (Vec Choices Global)} (are : AreLeading levels i choices) where
+  module _ {choices : List Choices} (are : AreLeading levels i choices) where
     one_more : (value : ℕ → ℕ → ℕ) → over_choices levels i (step links value) ≡ over_choices levels (i + 1) value
     unfolding over_choices
     one_more value = let e : i + 1 ≡ suc i = omega arith in (λ t. over_choices levels i (step (h.is t) value)) ∙ ap (λ (k : ℕ). over_choices levels k value) (sym e)
 
-    pub lead-step : (value : ℕ → ℕ → ℕ) → worth choices (step links value) ≡ over_choices levels (i + 1) value
+    lead-step : (value : ℕ → ℕ → ℕ) → worth choices (step links value) ≡ over_choices levels (i + 1) value
     lead-step value = are.sums (step links value) ∙ one_more value
 
-    pub lead-few : worth choices (step links (λ _ _. 1)) < 2 ^ 64
+    -- where they lead without the member, and with it
+    pub lead-next : (value : ℕ → ℕ → ℕ) → worth choices (λ p a. value (link_at links p 0) (a + 0)) + worth choices (λ p a. value (link_at links p 1) (a + 1))
+        ≡ over_choices levels (i + 1) value
+    lead-next value =
+        let none : (a : ℕ) → a + 0 ≡ a = λ a. omega arith in
+        (λ t. worth choices (λ p a. value (link_at links p 0) (none a t)) + worth choices (λ p a. value (link_at links p 1) (a + 1)))
+        ∙ sym (worth-both choices (λ p a. value (link_at links p 0) a) (λ p a. value (link_at links p 1) (a + 1))) ∙ lead-step value
+
+    pub lead-few : worth choices (λ _ _. 1) ≤ 2 ^ 40
     lead-few =
-        let up : 2 ^ (i + 1) ≤ 2 ^ 40 = pow_mono {j = 40} (omega (arith, h.within, graph.few)) in
-        omega (arith, lead-step (λ _ _. 1), choices-few levels (i + 1) 1 (λ _ _. 1) (λ p a. omega arith), up)
+        let up : 2 ^ i ≤ 2 ^ 40 = pow_mono {j = 40} (omega (arith, h.within, graph.few)) in
+        omega (arith, are.sums (λ _ _. 1), choices-few levels i 1 (λ _ _. 1) (λ p a. omega arith), up)
+
+    pub lead-within : All (IsWithin (length links / 2) 40) choices
+    lead-within k d lt = record { row = omega (arith, level-rows, (are.within k d lt).row); size = omega (arith, h.within, graph.few, (are.within k d lt).size) }
 
     pub with-sum : {sizes : List (List ℕ)} → AreCompleting levels (i + 1) sizes → (s : ℕ)
         → worth choices (with_member links sizes s) ≡ count_sets (length levels) (λ set. has i set && accepts levels 0 set) s

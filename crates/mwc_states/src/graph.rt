@@ -1,6 +1,6 @@
 //! The graph of states, level by level.
-ghost use Rattle.std.specs.Prelude.{◌≡◌, ◌<◌, ◌≤◌, ◌^◌, ℕ, [], ◌∷◌, IfOk, IfSome, length, map, slice_index, sum_by};
-ghost use Rattle.council_base.specs.declared.limits.TheConstants.{MEMBERS, RULES, TOTAL};
+ghost use Rattle.std.specs.Prelude.{◌≡◌, ◌≤◌, [], ◌∷◌, IfOk, IfSome, length, map};
+ghost use Rattle.council_base.specs.declared.limits.TheConstants.{MEMBERS, RULES};
 ghost use Rattle.mwc_states.specs.Inner.Graphs.{IsGraphOf};
 
 use crate::later::Later;
@@ -12,10 +12,13 @@ use council_base::{Gate, Memory};
 use std::alloc::Global;
 
 /// Returns how many sums of later members are listed under each rule, if a level has these states.
-fn sums_for(states: usize, rules: usize) -> usize {
+///
+/// It takes longer to list them than to merge few states by them, so there are few if there is
+/// little room.
+fn sums_for(states: usize, rules: usize, room: usize) -> usize {
     states
         .saturating_mul(4)
-        .saturating_add(1 << 13)
+        .saturating_add((room / 4).min(1 << 13))
         .min((1 << 20) / rules.max(1))
 }
 
@@ -44,25 +47,25 @@ pub(crate) fn build<G: Gate>(
     requires some { 1 ≤ length members.now }
     requires few { length members.now ≤ MEMBERS }
     requires rules { rules ≤ RULES }
-    requires light { (r : ℕ) → r < RULES → sum_by (λ member. slice_index member r) members.now ≤ TOTAL }
     ensures { IfOk result (λ o. IfSome o (λ levels.
         IsGraphOf what members.now need.now (map (λ links. links.items) levels.items))) }
 {
     let mut levels = Vec::with_capacity(alloc, members.len())?;
     let mut table = first_table(alloc, need)?;
-    let mut room = room.min(1 << 26);
+    let mut left = room.min(1 << 26);
     for level in 0..members.len() {
-        if table.len() > room {
+        if table.len() > left {
             return Ok(None);
         }
-        room -= table.len();
+        left -= table.len();
         let later = Later::new(
             alloc,
             &members[level + 1..],
             rules,
-            sums_for(table.len(), rules),
+            sums_for(table.len(), rules, room),
         )?;
-        let Some((links, next)) = decide_level(alloc, what, &table, &members[level], &later)? else {
+        let Some((links, next)) = decide_level(alloc, what, &table, &members[level], &later, room)?
+        else {
             return Ok(None);
         };
         levels.push(links)?;

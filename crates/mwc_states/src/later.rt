@@ -1,17 +1,15 @@
 //! The later members.
-ghost use Rattle.std.specs.Prelude.{◌≡◌, ◌<◌, ◌≤◌, ℕ, true, false, Bool, List, slice_index, sum_by, IfOk};
-ghost use Rattle.std.specs.Bool.{MatchBool};
+ghost use Rattle.std.specs.Prelude.{◌≡◌, ◌≤◌, ◌&&◌, true, false, not, Bool, List, IfOk, OnOk};
 ghost use Rattle.std.specs.List.{All};
-ghost use Rattle.council_base.specs.declared.limits.TheConstants.{RULES, TOTAL};
+ghost use Rattle.council_base.specs.declared.limits.TheConstants.{RULES};
 ghost use Rattle.mwc_states.specs.Inner.Sets.{weigh, meets};
 ghost use Rattle.mwc_states.specs.Inner.Sums.{AreSums};
-ghost use Rattle.mwc_states.specs.Inner.Later.{IsTotal, AddsMiss, fits, is_able};
-ghost use Rattle.mwc_states.specs.declared.what.What.TheVariants.{Minimal};
+ghost use Rattle.mwc_states.specs.Inner.Later.{IsTotal, is_able};
+ghost use Rattle.mwc_states.specs.Inner.States.{fits, misses_all};
 
 use crate::misses;
 use crate::row::{self, Row, ZERO};
 use crate::sums::Sums;
-use crate::what::What;
 use council_base::{Memory, limits};
 use std::alloc::Global;
 
@@ -34,7 +32,6 @@ pub(crate) struct Later<'m> {
     total: Row,
     sums: Vec<Sums>,
     ghost is_total: { IsTotal members.now total },
-    ghost few: { (r : ℕ) → r < RULES → slice_index total r ≤ TOTAL },
     ghost are_sums: { All (λ list. AreSums list.rule members.now list.rows.items) sums.items },
 }
 
@@ -53,8 +50,6 @@ impl<'m> Later<'m> {
         limit: usize,
     ) -> Result<Later<'m>, Memory>
         requires rules { rules ≤ RULES }
-        requires few { (r : ℕ) → r < RULES
-            → sum_by (λ member. slice_index member r) members.now ≤ TOTAL }
         ensures { IfOk result (λ later. later.members.now ≡ members.now) }
     {
         let mut sums = Vec::new(alloc);
@@ -87,6 +82,7 @@ impl<'m> Later<'m> {
         ensures { (set : List Bool)
             → meets (weigh self.now.members.now set) need.now ≡ true → result ≡ true }
     {
+        row::is_row(need);
         row::meets(&self.total, need)
     }
 
@@ -95,9 +91,10 @@ impl<'m> Later<'m> {
     /// The answer is yes if all members that may be in such a set miss the row together. It may be
     /// no where yes is true.
     fn is_missed(&self, need: &Row, row: &Row) -> bool
-        ensures { (set : List Bool) → fits Minimal self.now.members.now need.now set ≡ true
+        ensures { (set : List Bool) → fits self.now.members.now need.now set ≡ true
             → result ≡ true → meets (weigh self.now.members.now set) row.now ≡ false }
     {
+        row::is_row(row);
         let mut able = ZERO;
         for member in self.members {
             if is_able(need, row, member) {
@@ -110,42 +107,44 @@ impl<'m> Later<'m> {
         !row::meets(&able, row)
     }
 
-    /// Returns whether a miss can be left out because all sets that fit the need miss it.
-    fn is_redundant(&self, what: What, need: &Row, row: &Row) -> bool
-        ensures { (set : List Bool) → fits what self.now.members.now need.now set ≡ true
-            → result ≡ true → meets (weigh self.now.members.now set) row.now ≡ false }
+    /// Returns a row that the sets that meet a need miss just if they miss another one.
+    ///
+    /// It is the need itself if no such set misses that one.
+    fn raise_miss(&self, need: &Row, miss: &Row) -> Row
+        ensures { (set : List Bool) → meets (weigh self.now.members.now set) need.now ≡ true
+            → meets (weigh self.now.members.now set) result ≡ meets (weigh self.now.members.now set) miss.now }
     {
-        match what {
-            What::Minimal => self.is_missed(need, row),
-            What::Winning => false,
+        if row::meets(need, miss) {
+            *need
+        } else {
+            self.raise(&row::max(miss, need))
         }
     }
 
-    /// Adds a row to the misses of a state with this need.
-    ///
-    /// Returns false if the need itself meets the row: then no set completes the state.
+    /// Adds a row to the misses of a state with this need, if it tells anything.
     ///
     /// # Errors
     ///
     /// Returns `Memory` if memory was refused.
     pub(crate) fn add_miss(
         &self,
-        what: What,
         need: &Row,
         miss: &Row,
         misses: &mut Vec<Row>,
-    ) -> Result<bool, Memory>
-        ensures { IfOk result (λ added. MatchBool added
-            (AddsMiss what self.now.members.now need.now miss.now misses.old.items misses.new.items)
-            (meets (slice_index need.now) miss.now ≡ true)) }
+    ) -> Result<(), Memory>
+        ensures { OnOk result ((set : List Bool) → fits self.now.members.now need.now set ≡ true
+            → misses_all (weigh self.now.members.now set) misses.new.items
+            ≡ (misses_all (weigh self.now.members.now set) misses.old.items
+            && not (meets (weigh self.now.members.now set) miss.now))) }
     {
-        if row::meets(need, miss) {
-            return Ok(false);
+        let miss = self.raise_miss(need, miss);
+        if misses::is_implied(misses, &miss) {
+            return Ok(());
         }
-        let miss = self.raise(&row::max(miss, need));
-        if !self.is_redundant(what, need, &miss) {
-            misses::add(misses, &miss)?;
+        if self.is_missed(need, &miss) {
+            return Ok(());
         }
-        Ok(true)
+        misses::add(misses, &miss)?;
+        Ok(())
     }
 }

@@ -11,9 +11,6 @@ use crate::what::What;
 use council_base::Memory;
 use std::alloc::Global;
 
-/// The most rows that the states of a level may have before equal ones are merged.
-const ROWS: usize = 1 << 22;
-
 /// Where each state of a level leads without its member, and then with it.
 pub(crate) type Links = Vec<u32>;
 
@@ -28,13 +25,14 @@ pub(crate) fn link_at(links: &Links, row: usize, choice: usize) -> u32
 
 /// Decides a member in each state of a level, and returns the links to the next one and its states.
 ///
-/// Returns `None` if these have too many rows.
+/// Returns `None` if these have more than `room` rows, before equal ones are merged.
 pub(crate) fn decide_level(
     alloc: Global,
     what: What,
     table: &Table,
     member: &Row,
     later: &Later,
+    room: usize,
 ) -> Result<Option<(Links, Table)>, Memory>
     requires { length table.now ≤ 2 ^ 26 }
     ensures { IfOk result (λ o. IfSome o (λ level. IsLevel what member.now later.now.members.now
@@ -43,7 +41,7 @@ pub(crate) fn decide_level(
     let mut next = Table::new(alloc);
     let mut left = Vec::new(alloc);
     for place in 0..table.len() {
-        if next.rows() > ROWS {
+        if next.rows() > room {
             return Ok(None);
         }
         decide(what, table.state(place), member, false, later, &mut left)?;
@@ -51,8 +49,8 @@ pub(crate) fn decide_level(
         decide(what, table.state(place), member, true, later, &mut left)?;
         next.push(&left)?;
     }
-    match next.sort(alloc)? {
-        Some((links, next)) => Ok(Some((links, next))),
-        None => Ok(None),
-    }
+    let Some(level) = next.sort(alloc)? else {
+        return Ok(None);
+    };
+    Ok(Some(level))
 }

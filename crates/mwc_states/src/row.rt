@@ -1,7 +1,6 @@
 //! Rows.
-ghost use Rattle.std.specs.Prelude.{◌≡◌, ◌+◌, ◌-◌, ◌<◌, ◌^◌, ℕ, min, max, slice_index, sum_by, if◌then◌else◌};
-ghost use Rattle.council_base.specs.declared.limits.TheConstants.{RULES};
-ghost use Rattle.mwc_states.specs.Inner.Sets.{meets};
+ghost use Rattle.std.specs.Prelude.{◌≡◌, ◌+◌, ◌-◌, ◌≤◌, ℕ, min, max, slice_index, if◌then◌else◌};
+ghost use Rattle.mwc_states.specs.Inner.Sets.{MOST, meets};
 ghost use Rattle.mwc_states.specs.Inner.Later.{IsTotal};
 
 use council_base::limits;
@@ -13,18 +12,16 @@ pub(crate) type Row = [u64; limits::RULES];
 /// The row of zeros.
 pub(crate) const ZERO: Row = [0; limits::RULES];
 
-/// Returns the sum of two rows.
+/// Returns the sum of two rows, up to the greatest number of 64 bits.
 #[inline]
 pub(crate) fn add(a: &Row, b: &Row) -> Row
-    requires { (r : ℕ) → r < RULES → slice_index a.now r + slice_index b.now r < 2 ^ 64 }
-    ensures { (r : ℕ) → slice_index result r ≡ slice_index a.now r + slice_index b.now r }
+    ensures { (r : ℕ) → slice_index result r ≡ min (slice_index a.now r + slice_index b.now r) MOST }
 {
-    array::from_fn(|r| a[r] + b[r])
+    array::from_fn(|r| a[r].saturating_add(b[r]))
 }
 
-/// Returns the sum of some rows.
+/// Returns the sum of some rows, up to the greatest number of 64 bits.
 pub(crate) fn sum(rows: &[Row]) -> Row
-    requires { (r : ℕ) → r < RULES → sum_by (λ row. slice_index row r) rows.now < 2 ^ 64 }
     ensures { IsTotal rows.now result }
 {
     let mut sum = ZERO;
@@ -71,4 +68,12 @@ pub(crate) fn meets(weights: &Row, row: &Row) -> bool
     ensures { result ≡ meets (slice_index weights.now) row.now }
 {
     (0..limits::RULES).all(|r| weights[r] >= row[r])
+}
+
+/// Lets proofs know that the numbers of a row have 64 bits.
+#[inline]
+pub(crate) fn is_row(row: &Row)
+    ensures { (r : ℕ) → slice_index row.now r ≤ MOST }
+{
+    let _numbers = (row[0], row[1], row[2], row[3]);
 }

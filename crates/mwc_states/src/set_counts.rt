@@ -1,7 +1,7 @@
 //! Counts of the sets that a graph accepts.
 ghost use Rattle.std.specs.Prelude.{◌≡◌, ℕ, ◌+◌, ◌/◌, ◌<◌, ◌≤◌, ◌^◌, [], true, All, IfOk, length, slice_index, slice_index_or};
 ghost use Rattle.council_base.specs.declared.limits.TheConstants.{SIZES};
-ghost use Rattle.mwc_states.specs.Inner.Counting.{AreCompleting, AreLeading, AreWithin, count_at, later, with_member, worth, worth_of};
+ghost use Rattle.mwc_states.specs.Inner.Counting.{AreCompleting, AreLeading, count_at, later, with_member, worth};
 ghost use Rattle.mwc_states.specs.Inner.Links.{AreSizesOf, IsGraph, link_at, lists};
 ghost use Rattle.mwc_states.specs.Inner.Sets.{has};
 
@@ -48,38 +48,16 @@ fn sizes_of_root(sizes: &[Vec<u64>]) -> SizeCounts
     all
 }
 
-/// Counts the choices of one size, each with each set that completes where it leads with a member.
-fn count_pairs(links: &Links, choices: &[Choices], completing: &[u64]) -> u64
-    requires within { All (λ some. some.row < length links.now.items / 2) choices.now }
-    requires fits { worth_of choices.now (λ row. slice_index completing.now (link_at links.now.items row 1)) < 2 ^ 64 }
-    ensures { result
-        ≡ worth_of choices.now (λ row. slice_index completing.now (link_at links.now.items row 1)) }
-{
-    let mut sum = 0;
-    for some in choices {
-        sum += some.count * count_of(completing, link_at(links, some.row as usize, 1));
-    }
-    sum
-}
-
 /// Counts the accepted sets of one size that have the member of a level.
-fn count_size_with(
-    links: &Links,
-    choices: &[Vec<Choices>],
-    completing: &[Vec<u64>],
-    size: usize,
-) -> u64
-    requires within { AreWithin (length links.now.items / 2) choices.now }
+fn count_size_with(links: &Links, choices: &[Choices], completing: &[Vec<u64>], size: usize) -> u64
+    requires within { All (λ some. some.row < length links.now.items / 2) choices.now }
     requires fits { worth choices.now (with_member links.now.items (lists completing.now) size) < 2 ^ 64 }
     ensures { result ≡ worth choices.now (with_member links.now.items (lists completing.now) size) }
 {
     let mut sum = 0;
-    for first in 0..choices.len() {
-        sum += count_pairs(
-            links,
-            &choices[first],
-            counts_of(completing, size, first + 1),
-        );
+    for some in choices {
+        let counts = counts_of(completing, size, some.size as usize + 1);
+        sum += some.count * count_of(counts, link_at(links, some.row as usize, 1));
     }
     sum
 }
@@ -88,7 +66,7 @@ fn count_size_with(
 fn count_with(
     levels: &[Links],
     level: usize,
-    choices: &[Vec<Choices>],
+    choices: &[Choices],
     completing: &[Vec<u64>],
 ) -> SizeCounts
     requires graph { IsGraph (lists levels.now) }
@@ -174,7 +152,7 @@ fn count_from(
     alloc: Global,
     levels: &[Links],
     level: usize,
-    choices: &[Vec<Choices>],
+    choices: &[Choices],
     each: &mut [SizeCounts; limits::MEMBERS],
 ) -> Result<Vec<Vec<u64>>, Memory>
     requires graph { IsGraph (lists levels.now) }
@@ -209,9 +187,13 @@ pub(crate) fn count(alloc: Global, levels: &[Links]) -> Result<Box<SetCounts>, M
         → AreSizesOf (lists levels.now) (has i) (slice_index_or counts.value.each i [])) }
 {
     let mut root = Vec::new(alloc);
-    root.push(Choices { row: 0, count: 1 })?;
+    root.push(Choices {
+        size: 0,
+        row: 0,
+        count: 1,
+    })?;
     let mut each = [[0; limits::SIZES]; limits::MEMBERS];
-    let completing = count_from(alloc, levels, 0, &[root], &mut each)?;
+    let completing = count_from(alloc, levels, 0, &root, &mut each)?;
     let all = sizes_of_root(&completing);
     Ok(Box::new(alloc, SetCounts { all, each })?)
 }

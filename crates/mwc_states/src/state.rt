@@ -1,71 +1,75 @@
 //! States.
-ghost use Rattle.std.specs.Prelude.{◌≡◌, ◌<◌, ℕ, List, [], length, drop, IfOk};
-ghost use Rattle.std.specs.Bool.{MatchBool};
+ghost use Rattle.std.specs.Prelude.{◌≡◌, ◌<◌, List, Bool, true, [], ◌∷◌, length, drop, OnOk};
 ghost use Rattle.mwc_states.specs.Inner.Sums.{row_at};
-ghost use Rattle.mwc_states.specs.Inner.Later.{IsLeft, HasNoneLeft};
+ghost use Rattle.mwc_states.specs.Inner.Sets.{meets, weigh};
+ghost use Rattle.mwc_states.specs.Inner.Later.{misses_left};
+ghost use Rattle.mwc_states.specs.Inner.States.{fits, misses_all};
 ghost use Rattle.mwc_states.specs.Inner.Tables.{Leads};
+ghost use Rattle.mwc_states.specs.declared.what.What.TheVariants.{Minimal};
 
 use crate::later::Later;
+use crate::misses;
 use crate::row::{self, Row};
 use crate::what::What;
 use council_base::Memory;
 
-/// Adds a state's need to the misses of the later members, if a member is taken that a minimal set
-/// cannot spare.
-///
-/// Returns false if no set that fits the later need misses it.
-fn add_need(
-    what: What,
-    state_need: &Row,
-    taken: bool,
-    later: &Later,
-    need: &Row,
-    misses: &mut Vec<Row>,
-) -> Result<bool, Memory>
-    requires { misses.old.items ≡ [] }
-    ensures { IfOk result (λ added. (member : List ℕ) → MatchBool added
-        (IsLeft what later.now.members.now member taken state_need.now [] need.now misses.new.items)
-        (HasNoneLeft what later.now.members.now member taken state_need.now [] need.now)) }
-{
-    match what {
-        What::Minimal if taken => later.add_miss(what, need, state_need, misses),
-        _ => Ok(true),
-    }
-}
-
-/// Lists what the later members must miss once a member is decided.
-///
-/// Returns false if no set that fits the later need misses all that.
+/// Lists what the later members must miss once a member is decided: what was to be missed before,
+/// and the need, if the member is taken, since a minimal set cannot spare it.
 ///
 /// # Errors
 ///
 /// Returns `Memory` if memory was refused.
 fn list_misses(
-    what: What,
     state: &[Row],
     member: &Row,
     taken: bool,
     later: &Later,
     need: &Row,
     misses: &mut Vec<Row>,
-) -> Result<bool, Memory>
+) -> Result<(), Memory>
     requires some { 0 < length state.now }
     requires none { misses.old.items ≡ [] }
-    ensures { IfOk result (λ listed. MatchBool listed
-        (IsLeft what later.now.members.now member.now taken (row_at state.now 0) (drop 1 state.now)
-        need.now misses.new.items)
-        (HasNoneLeft what later.now.members.now member.now taken (row_at state.now 0)
-        (drop 1 state.now) need.now)) }
+    ensures { OnOk result ((set : List Bool) → fits later.now.members.now need.now set ≡ true
+        → misses_all (weigh later.now.members.now set) misses.new.items
+        ≡ misses_left later.now.members.now member.now taken (row_at state.now 0) (drop 1 state.now) set) }
 {
-    if !add_need(what, &state[0], taken, later, need, misses)? {
-        return Ok(false);
-    }
     for miss in &state[1..] {
-        if !later.add_miss(what, need, &row::reduce(miss, member, taken), misses)? {
-            return Ok(false);
-        }
+        later.add_miss(need, &row::reduce(miss, member, taken), misses)?;
     }
-    Ok(true)
+    if taken {
+        later.add_miss(need, &state[0], misses)?;
+        return Ok(());
+    }
+    Ok(())
+}
+
+/// Puts the need and the misses that a state leaves into `left`, or no row if no minimal set
+/// completes it.
+///
+/// # Errors
+///
+/// Returns `Memory` if memory was refused.
+fn leave(
+    state: &[Row],
+    member: &Row,
+    taken: bool,
+    later: &Later,
+    need: &Row,
+    left: &mut Vec<Row>,
+) -> Result<(), Memory>
+    requires some { 0 < length state.now }
+    requires none { left.old.items ≡ [] }
+    requires alike { (set : List Bool) → meets (weigh later.now.members.now set) need.now
+        ≡ meets (weigh (member.now ∷ later.now.members.now) (taken ∷ set)) (row_at state.now 0) }
+    ensures { OnOk result (Leads Minimal later.now.members.now member.now taken state.now left.new.items) }
+{
+    list_misses(state, member, taken, later, need, left)?;
+    if misses::is_implied(left, need) {
+        left.clear();
+        return Ok(());
+    }
+    left.insert(0, *need)?;
+    Ok(())
 }
 
 /// Decides a member in a state, and puts what is left into `left`: no row if no set completes it.
@@ -81,7 +85,7 @@ pub(crate) fn decide(
     later: &Later,
     left: &mut Vec<Row>,
 ) -> Result<(), Memory>
-    ensures { IfOk result (λ _. Leads what later.now.members.now member.now taken state.now left.new.items) }
+    ensures { OnOk result (Leads what later.now.members.now member.now taken state.now left.new.items) }
 {
     left.clear();
     if state.is_empty() {
@@ -91,10 +95,9 @@ pub(crate) fn decide(
     if !later.is_reachable(&need) {
         return Ok(());
     }
-    if !list_misses(what, state, member, taken, later, &need, left)? {
-        left.clear();
-        return Ok(());
+    match what {
+        What::Minimal => leave(state, member, taken, later, &need, left)?,
+        What::Winning => left.push(need)?,
     }
-    left.insert(0, need)?;
     Ok(())
 }

@@ -1,5 +1,5 @@
 //! Sums of the subsets of some members.
-ghost use Rattle.std.specs.Prelude.{◌≡◌, ◌+◌, ◌<◌, ◌≤◌, ◌^◌, ℕ, true, Bool, List, length, slice_index, sum_by, IfOk, OnOk};
+ghost use Rattle.std.specs.Prelude.{◌≡◌, ◌<◌, ◌≤◌, ℕ, true, Bool, List, length, slice_index, IfOk, OnOk};
 ghost use Rattle.council_base.specs.declared.limits.TheConstants.{RULES};
 ghost use Rattle.mwc_states.specs.Inner.Sets.{weigh, meets};
 ghost use Rattle.mwc_states.specs.Inner.Sums.{row_at, IsAscending, AddsSum, AddsMember, AreListed, AreSums};
@@ -29,8 +29,6 @@ fn push(sums: &mut Vec<Row>, sum: &Row, rule: usize) -> Result<(), Memory>
 fn add_member(alloc: Global, sums: &[Row], member: &Row, rule: usize) -> Result<Vec<Row>, Memory>
     requires rule { rule < RULES }
     requires ascending { IsAscending rule sums.now }
-    requires room { (k r : ℕ) → r < RULES
-        → slice_index (row_at sums.now k) r + slice_index member.now r < 2 ^ 64 }
     ensures { IfOk result (λ all. AddsMember rule member.now sums.now all.items) }
 {
     let mut all = Vec::new(alloc);
@@ -54,8 +52,6 @@ fn add_member(alloc: Global, sums: &[Row], member: &Row, rule: usize) -> Result<
 /// Stops early once there are more than `limit` sums.
 fn list(alloc: Global, members: &[Row], rule: usize, limit: usize) -> Result<Vec<Row>, Memory>
     requires rule { rule < RULES }
-    requires few { (r : ℕ) → r < RULES
-        → sum_by (λ member. slice_index member r) members.now < 2 ^ 64 }
     ensures { IfOk result (λ sums. length sums.items ≤ limit
         → AreListed rule members.now sums.items) }
 {
@@ -104,8 +100,6 @@ impl Sums {
         limit: usize,
     ) -> Result<Sums, Memory>
         requires rule { rule < RULES }
-        requires few { (r : ℕ) → r < RULES
-            → sum_by (λ member. slice_index member r) members.now < 2 ^ 64 }
         ensures { IfOk result (λ sums. AreSums sums.rule members.now sums.rows.items) }
     {
         let mut rows = list(alloc, members, rule, limit)?;
@@ -128,6 +122,7 @@ impl Sums {
             → meets (weigh members set) row.now ≡ true
             → meets (weigh members set) raised.now ≡ true → meets (weigh members set) result ≡ true }
     {
+        row::is_row(row);
         let rule = self.rule;
         let at = self.rows.partition_point(|sum| sum[rule] < row[rule]);
         if at < self.rows.len() {

@@ -1,9 +1,13 @@
 -- Sets of members, and what they weigh. A set is a list that says of each member whether it has it;
 -- members past its end are not in it. A row has a number for each rule.
-use Rattle.std.specs.Prelude.{ℕ, zero, suc, ◌+◌, Bool, true, false, not, nat_le, List, [], ◌∷◌, map, slice_index, slice_index_or}
+use Rattle.std.specs.Prelude.{ℕ, zero, suc, ◌+◌, ◌-◌, ◌^◌, Bool, true, false, not, nat_le, List, [], ◌∷◌, map, slice_index, slice_index_or}
 use Rattle.std.specs.Prelude.{if◌then◌else◌}
 use Rattle.std.specs.List.{list_all, range_with_len}
 use Rattle.council_base.specs.declared.limits.TheConstants.{RULES}
+
+-- the greatest number of 64 bits
+abbrev pub MOST : ℕ
+MOST = 2 ^ 64 - 1
 
 -- what a set of these members weighs under rule r
 unfoldable pub weigh : List (List ℕ) → List Bool → ℕ → ℕ

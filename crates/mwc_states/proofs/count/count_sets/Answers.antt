@@ -1,16 +1,9 @@
 use Rattle.mwc_states.proofs.Imports.{◌∙◌, ◌≡◌, Bool, true, List, [], length, map, get_or, refl, sym, ap, arith, length-map, votes_of}
 use Rattle.mwc_states.proofs.Imports.{AreRowsOf, IsGraphOf}
 use Rattle.council_game.specs.Votes.{has}
-use Rattle.mwc_states.proofs.Coalitions.{counted-few, counted-nonempty, light, sizes-are, set-at}
+use Rattle.mwc_states.proofs.Coalitions.{counted-few, counted-nonempty, sizes-are, set-at}
 use Rattle.mwc_states.specs.Inner.Sets.{has as set_has}
 use Rattle.mwc_states.proofs.count.count_sets.Goals as goal
-
-pub build-requires-clause-light : goal.build-requires-clause-light
-build-requires-clause-light g c =
-    let v = votes_of c.args.game.now in
-    let rows : AreRowsOf v c.in_ok-members.members.items c.quotas-need.result =
-    record { long = c.in_ok-members.ensures.long; weights = c.in_ok-members.ensures.weights; quotas = c.quotas-need.ensures } in
-    λ r lt. rw c.deref.ensures.value (light v c.in_ok-members.members.items c.quotas-need.result c.was_checked.ensures.votes rows r)
 
 pub returns : goal.returns
 returns g c =

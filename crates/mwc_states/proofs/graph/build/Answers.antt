@@ -1,21 +1,11 @@
-use Rattle.mwc_states.proofs.Imports.{◌∙◌, ◌+◌, ℕ, List, [], drop, get_or, sum_by, ap, arith, map-append, take_rest}
-use Rattle.mwc_states.proofs.Imports.{sum_by-take-drop, IsLevel}
+use Rattle.mwc_states.proofs.Imports.{◌∙◌, ◌+◌, [], drop, get_or, arith, map-append, take_rest}
+use Rattle.mwc_states.proofs.Imports.{IsLevel}
 use Rattle.mwc_states.proofs.Building.{built-none, built-more, built-all}
 use Rattle.mwc_states.proofs.graph.build.Goals as goal
 
 pub loop-level-init : goal.loop-level-init
 loop-level-init g c = rw c.in_ok-levels.ensures.items
-    (rw c.in_ok-table.ensures (built-none c.args.what c.args.members.now c.args.need.now _ c.requires.some c.requires.few (omega (arith, c.min-room.ensures))))
-
-pub new-requires-clause-rules : goal.new-requires-clause-rules
-new-requires-clause-rules g c = c.requires.rules
-
-pub new-requires-clause-few : goal.new-requires-clause-few
-new-requires-clause-few g c r lt =
-    let members = c.args.members.now in
-    let weight = λ (member : List ℕ). get_or member r 0 in
-    let after = take_rest members (c.loop-level.level + 1) in
-    omega (arith, ap (sum_by weight) after, sum_by-take-drop weight members (c.loop-level.level + 1), c.requires.light r lt)
+    (rw c.in_ok-table.ensures (built-none c.args.what c.args.members.now c.args.need.now _ c.requires.some c.requires.few (omega (arith, c.min-left.ensures))))
 
 pub loop-level-preserved : goal.loop-level-preserved
 loop-level-preserved g c =
@@ -24,8 +14,8 @@ loop-level-preserved g c =
     let level : IsLevel c.args.what (get_or members c.loop-level.level []) (drop (c.loop-level.level + 1) members) c.loop-level.table
     c.in-Some.links.items c.in-Some.next = rw later at (rw c.in-Some.is at c.in_ok-links.ensures) in
     rw (c.in_ok-push.ensures.items, map-append) (built-more c.args.what members c.args.need.now _ c.loop-level.table c.in-Some.next c.in-Some.links.items
-    c.loop-level.level c.loop-level.room _ c.loop-level-test.true c.loop-level.invariant level (omega (arith, c.if-len-room.false, c.len.ensures)) (omega arith))
+    c.loop-level.level c.loop-level.left _ c.loop-level-test.true c.loop-level.invariant level (omega (arith, c.if-len-left.false, c.len.ensures)) (omega arith))
 
 pub returns-then-is_last : goal.returns-then-is_last
-returns-then-is_last g c = built-all c.args.what c.args.members.now c.args.need.now _ c.loop-level.table c.loop-level.level c.loop-level.room
+returns-then-is_last g c = built-all c.args.what c.args.members.now c.args.need.now _ c.loop-level.table c.loop-level.level c.loop-level.left
     (omega (arith, c.loop-level-test.false, c.loop-level.auto.level-end)) (c.is_last.ensures c.if-is_last.true) c.loop-level.invariant

@@ -6,7 +6,7 @@ loop-place-preserved c = rw (c.in_ok-push-2.ensures, c.in_ok-push.ensures) (deci
     c.loop-place.next _ _ c.loop-place.place c.loop-place.invariant (rw c.deref.ensures.value (rw c.state.ensures at c.in_ok-decide.ensures))
     (rw c.deref-in-loop-place.ensures.value (rw c.state-in-loop-place.ensures at c.in_ok-decide-2.ensures)))
 
-pub returns-in-Some : goal.returns-in-Some
-returns-in-Some c =
+pub returns : goal.returns
+returns c =
     level-found _ _ _ _ _ _ _ (rw (let all : c.loop-place.place ≡ length c.args.table.now = omega (arith, c.loop-place-test.false, c.loop-place.auto.place-end, c.len-place-end.ensures) in all) at c.loop-place.invariant)
-    (rw c.in-Some.is at c.in_ok-links.ensures)
+    (rw c.in-Some.is at c.in_ok-level.ensures)

@@ -1,10 +1,7 @@
-use Rattle.mwc_states.proofs.Imports.{arith, ◌∙◌, ◌&&◌, not, get_or, ap, rules, meets, misses_all}
+use Rattle.mwc_states.proofs.Imports.{◌∙◌, ◌&&◌, not, get_or, ap, rules, meets, misses_all}
 use Rattle.std.proofs.{Common.tests, lemmas.Fn.filter_same}
-use Rattle.mwc_states.proofs.Implied.{misses_all-implied, misses_all-filter, misses_all-insert}
+use Rattle.mwc_states.proofs.Implied.{misses_all-filter, misses_all-insert}
 use Rattle.mwc_states.proofs.misses.add.Goals as goal
-
-pub returns-then-is_implied : goal.returns-then-is_implied
-returns-then-is_implied c weights = grind (arith, misses_all-implied)
 
 pub returns : goal.returns
 returns c weights =

@@ -1,15 +1,10 @@
-use Rattle.mwc_states.proofs.Imports.{◌≡◌, ◌∙◌, ◌<◌, ◌==◌, ◌∷◌, [], ℕ, Bool, false, List, length, ap, sym, arith, refl, nat_tests, What}
-use Rattle.mwc_states.proofs.Imports.{and_parts, both_ways, MatchBool-at_true, MatchBool-at_false, weigh, meets, needs_each, completes}
-use Rattle.mwc_states.proofs.Leaving.{leads-dead, leads-open}
+use Rattle.mwc_states.proofs.Imports.{◌≡◌, ◌∙◌, ◌<◌, ◌==◌, ◌∷◌, ℕ, Bool, false, List, length, ap, sym, arith, nat_tests, both_ways}
+use Rattle.std.proofs.lemmas.Bool.{false_from_ne_true}
+use Rattle.mwc_states.proofs.Leaving.{alike-left, leads-unmet, leads-winning, no-state}
 use Rattle.mwc_states.proofs.state.decide.Goals as goal
 
 some-rows : {b : Bool} (state : List (List ℕ)) → b ≡ (length state == 0) → b ≡ false → 0 < length state
 some-rows {b} state is none = grind (arith, nat_tests)
-
-no-state : (what : What) (members state : List (List ℕ)) (set : List Bool) → length state ≡ 0 → completes what members state set ≡ false
-unfolding completes
-no-state what members [] set none = refl
-no-state what members (row ∷ rows) set none = absurd (omega arith)
 
 pub returns-then-is_empty : goal.returns-then-is_empty
 returns-then-is_empty c set =
@@ -17,17 +12,13 @@ returns-then-is_empty c set =
     ∙ sym (no-state _ _ _ set (ap (λ (rows : List (List ℕ)). length rows) c.clear.ensures.items))
 
 pub returns-then-not-is_reachable : goal.returns-then-not-is_reachable
-returns-then-not-is_reachable c set = leads-dead _ _ _ _ _ _ _ (some-rows c.args.state.now c.is_empty.ensures c.if-is_empty.false) c.reduce.ensures c.raise-need.ensures
-    (λ set fitting. absurd (both_ways _ c.if-not-is_reachable.true (c.is_reachable.ensures set
-    (and_parts (meets (weigh c.args.later.now.members.now set) c.raise-need.result) (needs_each c.args.what c.args.later.now.members.now set c.raise-need.result) fitting).0))) set
-    ∙ sym (no-state _ _ _ set (ap (λ (rows : List (List ℕ)). length rows) c.clear.ensures.items))
+returns-then-not-is_reachable c = rw c.clear.ensures.items (leads-unmet _ _ _ _ _ (some-rows c.args.state.now c.is_empty.ensures c.if-is_empty.false)
+    (alike-left _ _ _ _ _ _ c.reduce.ensures c.raise-need.ensures) c.args.what
+    (λ set. false_from_ne_true _ (λ e. both_ways _ c.if-not-is_reachable.true (c.is_reachable.ensures set e))))
 
-pub returns-then-not-branch : goal.returns-then-not-branch
-returns-then-not-branch c set = leads-dead _ _ _ _ _ _ _ (some-rows c.args.state.now c.is_empty.ensures c.if-is_empty.false) c.reduce.ensures c.raise-need.ensures
-    (MatchBool-at_false _ _ c.if-not-branch.true c.in_ok-list_misses.ensures) set
-    ∙ sym (no-state _ _ _ set (ap (λ (rows : List (List ℕ)). length rows) c.clear-then-not-branch.ensures.items))
+pub leave-requires-clause-alike : goal.leave-requires-clause-alike
+leave-requires-clause-alike c = alike-left _ _ _ _ _ _ c.reduce.ensures c.raise-need.ensures
 
-pub returns : goal.returns
-returns c set = leads-open _ _ _ _ _ _ _ (some-rows c.args.state.now c.is_empty.ensures c.if-is_empty.false) c.reduce.ensures c.raise-need.ensures
-    (MatchBool-at_true _ _ c.if-not-branch.false c.in_ok-list_misses.ensures) set
-    ∙ ap (λ rows. completes c.args.what c.args.later.now.members.now rows set) (sym c.in_ok-insert.ensures.items)
+pub returns-in_ok-push-in-Winning : goal.returns-in_ok-push-in-Winning
+returns-in_ok-push-in-Winning c = rw (c.in_ok-push-in-Winning.ensures.items, c.clear.ensures.items, c.in-Winning.is)
+    (leads-winning _ _ _ _ _ (some-rows c.args.state.now c.is_empty.ensures c.if-is_empty.false) (alike-left _ _ _ _ _ _ c.reduce.ensures c.raise-need.ensures))

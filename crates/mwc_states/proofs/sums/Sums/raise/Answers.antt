@@ -13,4 +13,4 @@ returns-then-at-len-clause-met c members set given met_row met_raised =
     let point = IsPartitionPoint-from_clause (λ row. ltb (entry row) (entry c.args.row.now)) rows at c.partition_point-at.ensures.partitioned parted
     (λ a r q k. search rules) in
     meets-raised c.args.row.now c.args.raised.now c.index.result.now c.max.result at set (omega arith) sums (omega (arith, c.deref.ensures.len)) point.0
-    (c.index.ensures ∙ ap (λ rows. get_or rows at c.index.result.now) (sym c.deref.ensures.value)) c.max.ensures met_row met_raised
+    (c.index.ensures ∙ ap (λ rows. get_or rows at c.index.result.now) (sym c.deref.ensures.value)) c.max.ensures (c.is_row.ensures c.args.self.now.rule) met_row met_raised

@@ -1,0 +1,10 @@
+use Rattle.mwc_states.proofs.Imports.{◌∙◌, sym}
+use Rattle.mwc_states.proofs.Leaving.{leads-dead, leads-open}
+use Rattle.mwc_states.proofs.state.leave.Goals as goal
+
+pub returns-then-is_implied : goal.returns-then-is_implied
+returns-then-is_implied c = rw c.clear.ensures.items (leads-dead _ _ _ _ _ c.requires.some c.requires.alike _
+    (leads-open _ _ _ _ _ c.requires.some c.requires.alike _ c.in_ok-list_misses.ensures) (rw c.deref.ensures.value at (sym c.is_implied.ensures ∙ c.if-is_implied.true)))
+
+pub returns : goal.returns
+returns c = rw c.in_ok-insert.ensures.items (leads-open _ _ _ _ _ c.requires.some c.requires.alike _ c.in_ok-list_misses.ensures)
