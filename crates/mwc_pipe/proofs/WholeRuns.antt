@@ -6,7 +6,7 @@ use Rattle.std.proofs.{Math.Bool.or-false, Math.Bool.or-true, Math.Bool.or_assoc
 use Rattle.std.proofs.lemmas.{Bool.Decides.nat_tests, List.map-append, List.take_more, List.Folds.list_any-append, Option.slice_get-map}
 use Rattle.std.proofs.lemmas.{Bool.cases_Bool, Grind.common_steps}
 use Rattle.std.specs.List.{list_any}
-use Rattle.mwc_pipe.specs.declared.{reply.Reply.Reply, reply.Reply.TheVariants.Accepted, reply.Reply.TheVariants.First, step.Step.Step}
+use Rattle.mwc_pipe.specs.declared.{step.Reply.Reply, step.Reply.TheVariants.Accepted, step.Reply.TheVariants.First, step.Step.Step}
 use Rattle.mwc_pipe.specs.declared.step.Step.TheVariants.{Put, Take, Close}
 use Rattle.mwc_pipe.specs.PipeView.{PipeView, Leaves, IsStep}
 use Rattle.mwc_pipe.specs.History.{Event, item_in, item_out, is_close, has_close, items_in, items_out, reply_to, history_after, history}

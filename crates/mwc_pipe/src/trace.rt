@@ -7,10 +7,7 @@ ghost use Rattle.mwc_pipe.specs.History.{history, replies, items_in, items_out, 
 ghost use Rattle.mwc_pipe.specs.Laws.{NothingEntersAfterClose};
 
 use crate::pipe::Pipe;
-use crate::refused::Refused;
-use crate::reply::Reply;
-use crate::step::Step;
-use crate::taken::Taken;
+use crate::step::{Refused, Reply, Step, Taken};
 use council_base::Memory;
 use std::alloc::Global;
 
