@@ -3,10 +3,10 @@ ghost use Rattle.std.specs.Prelude.{◌≡◌, ◌≢◌, ℕ, ◌*◌, ◌+◌,
 ghost use Rattle.std.specs.Prelude.{IfSome, MatchOption};
 ghost use Rattle.council_base.specs.declared.limits.TheConstants.{BITS, MEMBERS};
 ghost use Rattle.council_game.specs.Game.{votes_of};
-ghost use Rattle.council_game.specs.Votes.{has, without, minimal};
+ghost use Rattle.council_game.specs.Votes.{has, without};
 ghost use Rattle.mwc_walk.specs.Inner.Places.{reaches, wins_at, NothingBelow, AreExcesses, CanSpare};
 ghost use Rattle.mwc_walk.specs.Inner.Prices.{ArePrices};
-ghost use Rattle.mwc_walk.specs.Inner.Spared.{ExcessIs, IsNeed, NoneSpared, Tried};
+ghost use Rattle.mwc_walk.specs.Inner.Spared.{CanPassBy, ExcessIs, IsNeed, NoneSpared, Tried};
 ghost use Rattle.mwc_walk.specs.Inner.Cursor.{CursorIs, Steps, SomeSteps, Starts};
 
 use crate::lane::{Lane, all_reach, all_win, lanes_of, leave_out, take_in};
@@ -285,13 +285,8 @@ impl Cursor {
         requires is { CursorIs (votes_of game.now) self.now }
         requires rules { rules ≡ length (votes_of game.now).rules }
         requires prices { IfSome prices (λ t. ArePrices (votes_of game.now) t.now) }
-        ensures some { result ≡ true →
-            NothingBelow (votes_of game.now) self.now.place self.now.prefix }
+        ensures passes { CanPassBy (votes_of game.now) self.now.place self.now.prefix result }
         ensures one { result ≡ true → rules ≡ 1 → self.now.place ≡ self.now.bits }
-        ensures none { result ≡ false →
-            wins_at (votes_of game.now).rules self.now.place self.now.prefix ≡ true →
-            minimal (votes_of game.now)
-            (self.now.prefix * 2 ^ ((votes_of game.now).members - self.now.place)) ≡ true }
     {
         if self.spares_one(game, rules) {
             return true;
@@ -309,17 +304,35 @@ impl Cursor {
     fn spares_one(&self, game: &Game, rules: usize) -> bool
         requires is { CursorIs (votes_of game.now) self.now }
         requires rules { rules ≡ length (votes_of game.now).rules }
-        ensures some { result ≡ true →
-            NothingBelow (votes_of game.now) self.now.place self.now.prefix }
+        ensures passes { CanPassBy (votes_of game.now) self.now.place self.now.prefix result }
         ensures one { result ≡ true → rules ≡ 1 → self.now.place ≡ self.now.bits }
-        ensures none { result ≡ false →
-            wins_at (votes_of game.now).rules self.now.place self.now.prefix ≡ true →
-            minimal (votes_of game.now)
-            (self.now.prefix * 2 ^ ((votes_of game.now).members - self.now.place)) ≡ true }
     {
         if self.place > self.bits && (rules == 1 || self.prefix % 2 == 0) {
             return false;
         }
+        if rules == 1 {
+            return self.spares_fixed(game);
+        }
+        self.spares_here(game)
+    }
+
+    /// Whether the prefix has a member that each rule can spare. Kept out of line for one rule, which
+    /// asks it only at the fixed places: inlined, each coalition would pay for the excess of all
+    /// lanes.
+    #[inline(never)]
+    fn spares_fixed(&self, game: &Game) -> bool
+        requires { CursorIs (votes_of game.now) self.now }
+        ensures { CanPassBy (votes_of game.now) self.now.place self.now.prefix result }
+    {
+        self.spares_here(game)
+    }
+
+    /// Whether the prefix has a member that each rule can spare.
+    #[inline(always)]
+    fn spares_here(&self, game: &Game) -> bool
+        requires { CursorIs (votes_of game.now) self.now }
+        ensures { CanPassBy (votes_of game.now) self.now.place self.now.prefix result }
+    {
         self.has_spared(game, &self.excess(game))
     }
 

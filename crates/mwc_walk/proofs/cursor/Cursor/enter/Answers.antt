@@ -9,7 +9,7 @@ returns-then-not-reaches-clause-steps c = elim c.then-not-reaches.branch [
   | then-not-reaches-via-then-not-reaches w ↦
       enter-dead c.requires.is c.requires.fresh (sym c.reaches.ensures ∙ w.if-not-reaches.true)
   | then-not-reaches-via-else-not-reaches+then-passes_by w ↦
-      enter-spare c.requires.is c.requires.fresh (w.if-passes_by.ensures.some refl)
+      enter-spare c.requires.is c.requires.fresh (w.if-passes_by.ensures.passes.0 refl)
       (λ one. w.if-passes_by.ensures.one refl (c.requires.rules ∙ one))
 ]
 
@@ -31,7 +31,7 @@ pub returns-clause-steps : goal.returns-clause-steps
 returns-clause-steps c =
     let won = sym c.wins.ensures ∙ c.if-not-wins.false in
     enter-give c.requires.is won c.requires.fresh _ (c.of_mask-found.ensures ∙ c.mask_of.ensures.mask)
-    (c.if-passes_by.ensures.none refl won)
+    (c.if-passes_by.ensures.passes.1 refl won)
 
 pub overflow_mul-self : goal.overflow_mul-self
 overflow_mul-self c =
