@@ -174,6 +174,3 @@ module _ {T : Type 0} where
 
 -- what the laws rest on
 pub ruleset laws = (nothing_is_lost_lem, nothing_enters_after_close_lem, each_reply_is_counted_lem, each_pipe_has_a_past_lem)
-
--- what a whole history rests on
-pub ruleset replaying = (replayed_closed, replayed_short)

@@ -34,7 +34,6 @@ pub struct Trace<T> {
 /// # Errors
 ///
 /// `Memory` if a growth was refused.
-#[tactic(auto, using(crate::proofs::WholeRuns::replaying))]
 pub fn replay<T: Copy>(alloc: Global, capacity: u32, steps: &[Step<T>]) -> Result<Trace<T>, Memory>
     requires { (1 ≤ capacity) × (capacity ≤ 2 ^ 23) }
     ensures replies { IfOk result (λ trace. trace.replies.items ≡ replies capacity steps.now) }
