@@ -194,8 +194,8 @@ impl Cursor {
         Seek::NotYet
     }
 
-    /// Steps to the next coalition of the slice, or to its end. Inlined where `rules` is 1: each loop
-    /// over the rules is then a step of a few instructions, and a walk takes a third less time.
+    /// Steps to the next coalition of the slice, or to its end. Inlined where it is called with one
+    /// rule, so no step loops over the rules there.
     #[inline(always)]
     fn next(&mut self, game: &Game, rules: usize, prices: Option<&PriceTable>) -> Seek
         requires is { CursorIs (votes_of game.now) self.old }
@@ -316,9 +316,9 @@ impl Cursor {
         self.spares_here(game)
     }
 
-    /// Whether the prefix has a member that each rule can spare. Kept out of line for one rule, which
-    /// asks it only at the fixed places: inlined, each coalition would pay for the excess of all
-    /// lanes.
+    /// Whether the prefix has a member that each rule can spare. One rule asks it only at the fixed
+    /// places. Kept out of line: inlined, it computes the excess of all lanes for each coalition,
+    /// which costs a walk a third of its time.
     #[inline(never)]
     fn spares_fixed(&self, game: &Game) -> bool
         requires { CursorIs (votes_of game.now) self.now }

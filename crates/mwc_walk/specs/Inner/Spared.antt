@@ -24,7 +24,8 @@ pub record Tried (v : Votes) (p x : ℕ) (es : List ℕ) (rest : ℕ) : Type 0 w
   pub kept : (q : ℕ) → q < v.members → has v.members q (x * 2 ^ (v.members - p)) ≡ true → has v.members q rest ≡ false
       → CanSpare v es q → ⊥
 
--- a prefix is passed by if nothing below it is minimal; one that wins and is not passed by is minimal
+-- nothing below a prefix that is passed by is minimal; a winning one that is not passed by is
+-- minimal
 abbrev pub CanPassBy : Votes → ℕ → ℕ → Bool → Type 0
 CanPassBy v p x passed = (passed ≡ true → NothingBelow v p x)
     × (passed ≡ false → wins_at v.rules p x ≡ true → minimal v (x * 2 ^ (v.members - p)) ≡ true)
