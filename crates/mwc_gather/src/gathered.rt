@@ -26,7 +26,6 @@ impl Gathered {
     /// # Errors
     ///
     /// `Memory` if an allocation was refused.
-    #[tactic(auto, using(crate::proofs::Searches::for_in_order))]
     pub fn in_order(&self, alloc: Global) -> Result<Vec<Coalition>, Memory>
         ensures { (slice : ℕ → List ℕ) → All (HasPieces slice) self.now.parts.items
             → IfOk result (λ all. all.items ≡ flat_map slice (range_with_len 0 self.now.slices)) }

@@ -77,7 +77,6 @@ pub fn gather<R: Threads + Wait + Sync, G: Gate + Sync>(
 }
 
 /// Starts the workers, gives them slices while they run, and joins them.
-#[tactic(auto, using(std::proofs::lemmas::Grind::common_steps))]
 fn run<'s, E, R: Threads + Wait + Sync, G: SliceObserver + Sync>(
     scope: &Scope<'s, E>,
     rt: &'s R,

@@ -28,7 +28,6 @@ impl Scheduler {
     /// Gives a worker that has finished its slices the next one, or says there is none.
     ///
     /// It is the lowest slice without a holder. After a refused growth or a cut no slice is given.
-    #[tactic(auto, using(std::proofs::lemmas::Grind::common_steps))]
     fn assign_next<R: Wait>(
         &mut self,
         rt: &R,
@@ -110,7 +109,6 @@ impl Scheduler {
     /// Hands out the slices and reads the rings in turn, until each worker has ended.
     ///
     /// It waits if no word has arrived.
-    #[tactic(auto, using(std::proofs::lemmas::Grind::common_steps))]
     pub fn read_all<R: Wait, G>(
         &mut self,
         rt: &R,

@@ -21,7 +21,6 @@ use std::sync::Wait;
 ///
 /// Returns false if the pipe refuses a word for good. Before it waits it wakes the other side, and
 /// then it sleeps until its own waker wakes it.
-#[tactic(auto, using(std::proofs::lemmas::Grind::common_steps))]
 pub(crate) fn send<W: PutsRows<P>, R: Wait, P: PipeIn<Word>>(
     rt: &R,
     words: &[Word],

@@ -106,7 +106,6 @@ pub fn work<R: Wait, G: Gate>(
 /// Works as `work` does, with wakers for both sides of its rings.
 ///
 /// It wakes the other side after it has put words in or taken tasks, and sleeps until it is woken.
-#[tactic(auto, using(std::proofs::lemmas::Grind::common_steps))]
 pub(crate) fn run_worker<R: Wait, G: SliceObserver>(
     rt: &R,
     job: &Job<'_, G>,

@@ -61,7 +61,6 @@ impl WorkerHandle {
     ghost use Rattle.mwc_gather.specs.Inner.WorkerHandles.{IsOf, IsSameWorker, view_of, IsPartOfWorker, CanEndWith};
 
     /// Makes room for what a worker sends, and starts it.
-    #[tactic(auto, using(std::proofs::lemmas::Grind::common_steps))]
     pub fn open<'s, E, R: Threads + Wait + Sync, G: SliceObserver + Sync>(
         scope: &Scope<'s, E>,
         rt: &'s R,

@@ -4,9 +4,9 @@ use Rattle.std.proofs.Common.{sym, arith, drop, append_assoc, length-append, app
 use Rattle.std.proofs.lemmas.{Grind.common_steps, List.nil_from_length, List.Elements.filter_map-append, List.Folds.list_any-append}
 use Rattle.std.proofs.Math.{Bool.or-false, Seq.take-append_seam}
 use Rattle.std.proofs.{Common.length-take, Common.min, Common.take, lemmas.List.take-append-drop}
-use Rattle.mwc_pipe.specs.declared.{reply.Reply.Reply, step.Step.TheVariants.Put, step.Step.TheVariants.Take, step.Step.TheVariants.Close}
+use Rattle.mwc_pipe.specs.declared.{step.Reply.Reply, step.Step.TheVariants.Put, step.Step.TheVariants.Take, step.Step.TheVariants.Close}
 use Rattle.mwc_pipe.specs.{PipeView.PipeView, PipeView.Leaves, declared.step.Step.Step}
-use Rattle.mwc_pipe.specs.declared.reply.Reply.TheVariants.{Accepted, Full, Closed, First, Again, Item, Empty}
+use Rattle.mwc_pipe.specs.declared.step.Reply.TheVariants.{Accepted, Full, Closed, First, Again, Item, Empty}
 use Rattle.mwc_pipe.specs.History.{Event, is_close, items_in, items_out, reply_of_take, reply_to, has_close}
 use Rattle.mwc_pipe.specs.RowSteps.{puts_of, takes_of, AreAnswered, IsSeenByIn, IsSeenByOut}
 

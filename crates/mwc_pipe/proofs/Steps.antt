@@ -2,12 +2,12 @@
 use Rattle.std.proofs.Common.{◌≡◌, ◌<◌, ◌==◌, Bool, true, false, [], ◌∷◌, ◌++◌, length, refl, arith, not}
 use Rattle.std.proofs.{Math.Bool.or-false, Math.Bool.or-true, lemmas.Bool.Decides.nat_tests, lemmas.Grind.common_steps}
 use Rattle.std.proofs.lemmas.Bool.{cases_Bool}
-use Rattle.mwc_pipe.specs.declared.{reply.Reply.Reply, step.Step.TheVariants.Put, step.Step.TheVariants.Take, step.Step.TheVariants.Close}
+use Rattle.mwc_pipe.specs.declared.{step.Reply.Reply, step.Step.TheVariants.Put, step.Step.TheVariants.Take, step.Step.TheVariants.Close}
 use Rattle.mwc_pipe.specs.{PipeView.PipeView, PipeView.IsStep, declared.step.Step.Step}
-use Rattle.mwc_pipe.specs.{Calls.reply_of_taken, Calls.reply_of_close, Calls.TakesOut, declared.taken.Taken.Taken}
-use Rattle.mwc_pipe.specs.declared.reply.Reply.TheVariants.{Accepted, Full, Closed, Item, Empty, Ended}
+use Rattle.mwc_pipe.specs.{Calls.reply_of_taken, Calls.reply_of_close, Calls.TakesOut, declared.step.Taken.Taken}
+use Rattle.mwc_pipe.specs.declared.step.Reply.TheVariants.{Accepted, Full, Closed, Item, Empty, Ended}
 use Rattle.mwc_pipe.proofs.Counting.{reply_in, stepped, reply_is, leaves_step}
-use Rattle.mwc_pipe.specs.declared.taken.Taken.TheVariants as taken
+use Rattle.mwc_pipe.specs.declared.step.Taken.TheVariants as taken
 
 module _ {T : Type 0} where
   -- an answer and a new state that the items inside give are a step

@@ -6,7 +6,7 @@ use Rattle.std.proofs.{Math.Bool.or-false, Math.Bool.or-true, Math.Bool.or_assoc
 use Rattle.std.proofs.lemmas.{Bool.Decides.nat_tests, List.map-append, List.take_more, List.Folds.list_any-append, Option.slice_get-map}
 use Rattle.std.proofs.lemmas.{Bool.cases_Bool, Grind.common_steps}
 use Rattle.std.specs.List.{list_any}
-use Rattle.mwc_pipe.specs.declared.{reply.Reply.Reply, reply.Reply.TheVariants.Accepted, reply.Reply.TheVariants.First, step.Step.Step}
+use Rattle.mwc_pipe.specs.declared.{step.Reply.Reply, step.Reply.TheVariants.Accepted, step.Reply.TheVariants.First, step.Step.Step}
 use Rattle.mwc_pipe.specs.declared.step.Step.TheVariants.{Put, Take, Close}
 use Rattle.mwc_pipe.specs.PipeView.{PipeView, Leaves, IsStep}
 use Rattle.mwc_pipe.specs.History.{Event, item_in, item_out, is_close, has_close, items_in, items_out, reply_to, history_after, history}
@@ -174,6 +174,3 @@ module _ {T : Type 0} where
 
 -- what the laws rest on
 pub ruleset laws = (nothing_is_lost_lem, nothing_enters_after_close_lem, each_reply_is_counted_lem, each_pipe_has_a_past_lem)
-
--- what a whole history rests on
-pub ruleset replaying = (replayed_closed, replayed_short)

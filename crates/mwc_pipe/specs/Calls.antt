@@ -1,11 +1,9 @@
 -- The calls of a pipe, and their replies.
 use Rattle.std.specs.Prelude.{◌≡◌, Bool, true, false, [], ◌∷◌, Option, Some, None, Result, Ok, Err, if◌then◌else◌}
-use Rattle.mwc_pipe.specs.declared.refused.Refused.{Refused}
-use Rattle.mwc_pipe.specs.declared.refused.Refused.TheVariants as refused
-use Rattle.mwc_pipe.specs.declared.taken.Taken.{Taken}
-use Rattle.mwc_pipe.specs.declared.taken.Taken.TheVariants as taken
-use Rattle.mwc_pipe.specs.declared.reply.Reply.{Reply}
-use Rattle.mwc_pipe.specs.declared.reply.Reply.TheVariants as reply
+use Rattle.mwc_pipe.specs.declared.step.Refused.TheVariants as refused
+use Rattle.mwc_pipe.specs.declared.step.Taken.TheVariants as taken
+use Rattle.mwc_pipe.specs.declared.step.{Refused.Refused, Taken.Taken, Reply.Reply}
+use Rattle.mwc_pipe.specs.declared.step.Reply.TheVariants as reply
 use Rattle.mwc_pipe.specs.PipeView.{PipeView}
 
 module _ {T : Type 0} where

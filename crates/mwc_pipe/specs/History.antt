@@ -4,8 +4,8 @@ use Rattle.std.specs.Prelude.{if◌then◌else◌}
 use Rattle.std.specs.List.{filter_map, list_any}
 use Rattle.mwc_pipe.specs.declared.step.Step.{Step}
 use Rattle.mwc_pipe.specs.declared.step.Step.TheVariants.{Put, Take, Close}
-use Rattle.mwc_pipe.specs.declared.reply.Reply.{Reply}
-use Rattle.mwc_pipe.specs.declared.reply.Reply.TheVariants.{Accepted, Full, Closed, Item, Empty, Ended, First, Again}
+use Rattle.mwc_pipe.specs.declared.step.Reply.{Reply}
+use Rattle.mwc_pipe.specs.declared.step.Reply.TheVariants.{Accepted, Full, Closed, Item, Empty, Ended, First, Again}
 
 -- a step and the reply to it
 abbrev pub Event : Type 0 → Type 0

@@ -2,8 +2,8 @@
 use Rattle.std.specs.Prelude.{◌≡◌, ℕ, ◌<◌, ◌≤◌, List, length, take, Some, slice_get}
 use Rattle.mwc_pipe.specs.declared.step.Step.{Step}
 use Rattle.mwc_pipe.specs.declared.step.Step.TheVariants.{Put, Close}
-use Rattle.mwc_pipe.specs.declared.reply.Reply.{Reply}
-use Rattle.mwc_pipe.specs.declared.reply.Reply.TheVariants.{Closed}
+use Rattle.mwc_pipe.specs.declared.step.Reply.{Reply}
+use Rattle.mwc_pipe.specs.declared.step.Reply.TheVariants.{Closed}
 use Rattle.mwc_pipe.specs.History.{Event, history, items_in, items_out, replies, reply_to, IsLawful}
 use Rattle.mwc_pipe.specs.PipeView.{PipeView, Leaves}
 

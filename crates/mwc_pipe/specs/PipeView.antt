@@ -1,7 +1,6 @@
 -- What contracts see of a pipe, and how a history leads to it.
 use Rattle.std.specs.Prelude.{◌≡◌, ℕ, Bool, List, [], ◌∷◌, ◌++◌}
-use Rattle.mwc_pipe.specs.declared.step.Step.{Step}
-use Rattle.mwc_pipe.specs.declared.reply.Reply.{Reply}
+use Rattle.mwc_pipe.specs.declared.step.{Step.Step, Reply.Reply}
 use Rattle.mwc_pipe.specs.History.{Event, items_in, items_out, has_close, reply_to, IsLawful}
 
 -- the capacity, the items inside, oldest first, and whether it was closed

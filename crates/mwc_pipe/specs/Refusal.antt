@@ -1,7 +1,7 @@
 -- What a put answers.
 use Rattle.std.specs.Prelude.{◌≡◌, Bool, true, List, [], ◌∷◌, ◌++◌, Result, Ok, Err}
-use Rattle.mwc_pipe.specs.declared.refused.Refused.{Refused}
-use Rattle.mwc_pipe.specs.declared.refused.Refused.TheVariants.{Closed, Full, Memory}
+use Rattle.mwc_pipe.specs.declared.step.Refused.{Refused}
+use Rattle.mwc_pipe.specs.declared.step.Refused.TheVariants.{Closed, Full, Memory}
 
 module _ {T : Type 0} where
   -- the item that is handed back

@@ -1,7 +1,7 @@
 -- Rows of items that are put or taken in one call, as steps of a pipe.
 use Rattle.std.specs.Prelude.{◌≡◌, ℕ, ◌≤◌, Bool, false, List, [], ◌∷◌, ◌++◌, drop, length, take, map, if◌then◌else◌}
 use Rattle.mwc_pipe.specs.declared.step.Step.TheVariants.{Put, Take}
-use Rattle.mwc_pipe.specs.declared.reply.Reply.TheVariants.{Accepted, Full, Item, Empty}
+use Rattle.mwc_pipe.specs.declared.step.Reply.TheVariants.{Accepted, Full, Item, Empty}
 use Rattle.mwc_pipe.specs.History.{Event, history_after, has_close, items_in, items_out}
 
 module _ {T : Type 0} where

@@ -8,7 +8,7 @@ ghost use Rattle.mwc_pipe.specs.declared.step.Step.TheVariants.{Put};
 
 use crate::pipe::Pipe;
 use crate::pipe_in::PipeIn;
-use crate::refused::Refused;
+use crate::step::Refused;
 use crate::word::Word;
 use std::alloc::Global;
 use std::marker::Model;

@@ -5,8 +5,7 @@ ghost use Rattle.mwc_pipe.specs.Refusal.{handed_back};
 ghost use Rattle.mwc_pipe.specs.Calls.{reply_of_put, reply_of_taken, reply_of_close, TakesOut};
 ghost use Rattle.mwc_pipe.specs.declared.step.Step.TheVariants.{Put, Take, Close};
 
-use crate::refused::Refused;
-use crate::taken::Taken;
+use crate::step::{Refused, Taken};
 use std::alloc::Global;
 use std::collections::VecDeque;
 use std::marker::Model;

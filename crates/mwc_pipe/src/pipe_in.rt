@@ -2,7 +2,7 @@
 ghost use Rattle.std.specs.Prelude.{◌≡◌, List, Bool};
 ghost use Rattle.mwc_pipe.specs.Refusal.{PutsIn};
 
-use crate::refused::Refused;
+use crate::step::Refused;
 
 /// A pipe that items can be put into.
 ///

@@ -8,7 +8,7 @@ ghost use Rattle.mwc_pipe.specs.RingName.{RingName};
 
 use crate::closed::{Closed, Unfinished};
 use crate::pipe_in::PipeIn;
-use crate::refused::Refused;
+use crate::step::Refused;
 use crate::word::Word;
 use rtrb::{Producer, PushError};
 use std::marker::Model;

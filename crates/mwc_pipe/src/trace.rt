@@ -7,10 +7,7 @@ ghost use Rattle.mwc_pipe.specs.History.{history, replies, items_in, items_out, 
 ghost use Rattle.mwc_pipe.specs.Laws.{NothingEntersAfterClose};
 
 use crate::pipe::Pipe;
-use crate::refused::Refused;
-use crate::reply::Reply;
-use crate::step::Step;
-use crate::taken::Taken;
+use crate::step::{Refused, Reply, Step, Taken};
 use council_base::Memory;
 use std::alloc::Global;
 
@@ -37,7 +34,6 @@ pub struct Trace<T> {
 /// # Errors
 ///
 /// `Memory` if a growth was refused.
-#[tactic(auto, using(crate::proofs::WholeRuns::replaying))]
 pub fn replay<T: Copy>(alloc: Global, capacity: u32, steps: &[Step<T>]) -> Result<Trace<T>, Memory>
     requires { (1 ≤ capacity) × (capacity ≤ 2 ^ 23) }
     ensures replies { IfOk result (λ trace. trace.replies.items ≡ replies capacity steps.now) }

@@ -4,7 +4,7 @@ pub use Rattle.council_game.proofs.Shared.{Listing.listing-is, Meanings.needs-ea
 pub use Rattle.council_game.specs.Game.{votes_of}
 pub use Rattle.council_game.specs.Votes.{IsRanked, IsRule, IsVotes, RuleView, Votes, rule_at, weight}
 pub use Rattle.mwc_walk.specs.Inner.{Lanes.lane_at, Lanes.lane_with, Lanes.lane_without}
-pub use Rattle.mwc_walk.specs.declared.{price.Price.Price, step.Step.TheVariants.End, step.Step.TheVariants.Give, step.Step.TheVariants.On}
+pub use Rattle.mwc_walk.specs.declared.{price.Price.Price, seek.Seek.TheVariants.End, seek.Seek.TheVariants.Found, seek.Seek.TheVariants.NotYet}
 pub use Rattle.mwc_walk.specs.{declared.cursor.Cursor.Cursor, declared.lane.Lane.Lane}
 pub use Rattle.mwc_walk.specs.Inner.{Prices.IsPrice, Prices.IsRow, Spared.ExcessIs, Spared.IsNeed, Spared.Tried}
 pub use Rattle.mwc_walk.specs.Inner.Cursor.{CursorIs, IsPlace, SomeSteps, steps_left}

@@ -1,12 +1,12 @@
 -- What is still to come is the end of the slice; the slice at no bits is the whole list.
-use Rattle.mwc_walk.proofs.Imports.{pow-add, nat_tests, Votes, minimal_coalitions, minimal_below, slice, On, Give, End, sym, ap, ◌∙◌, arith}
+use Rattle.mwc_walk.proofs.Imports.{pow-add, nat_tests, Votes, minimal_coalitions, minimal_below, slice, NotYet, Found, End, sym, ap, ◌∙◌, arith}
 use Rattle.mwc_walk.proofs.Imports.{◌*◌, ◌^◌, ◌≤◌, Bool, true, List, [], ◌∷◌, ◌++◌, length, get_or, take, drop, mul-le, CursorIs, SomeSteps}
 use Rattle.mwc_walk.proofs.Imports.{common_steps, cond_both, length-drop, filter-append, in_slice, slice_below, Cursor, ◌≡◌, ℕ, ◌+◌, ◌-◌}
 use Rattle.mwc_walk.proofs.Imports.{IsPlace, IsVotes, votes_of, listing-is, append-nil, get_or-drop}
 use Rattle.std.proofs.Common.{Contains, subst, refl}
 use Rattle.std.proofs.lemmas.List.Elements.{All-contains, All-contains_itself, All-filter, Contains-append_right}
 use Rattle.council_game.proofs.Shared.Listing.{listed-is}
-use Rattle.mwc_walk.specs.{Listed.IsListed, Listed.ListsAll, declared.step.Step.Step}
+use Rattle.mwc_walk.specs.{Listed.IsListed, Listed.ListsAll, declared.seek.Seek.Seek}
 use Rattle.mwc_walk.specs.Inner.Cursor.{rest_of_slice, bound, Follows, GivesNext, FindsEnd}
 use Rattle.std.proofs.{Common.if◌then◌else◌, Common.mul-add, Common.take-append-drop, lemmas.List.take_more}
 use Rattle.mwc_walk.proofs.{Rest.down-split, Shared.Joined.slices-joined}
@@ -49,9 +49,9 @@ pub given-whole : {v : Votes} {a : Cursor} → CursorIs v a → given-by v a ++ 
 given-whole is = grind (arith, rest-is, take-append-drop)
 
 -- ---- after some steps
-pub follows-of : {v : Votes} {a b : Cursor} (s : Step) → SomeSteps v a s b → Follows v a b
-follows-of On h = h.0
-follows-of (Give c) h = h.follows
+pub follows-of : {v : Votes} {a b : Cursor} (s : Seek) → SomeSteps v a s b → Follows v a b
+follows-of NotYet h = h.0
+follows-of (Found c) h = h.follows
 follows-of End h = h.follows
 
 module _ {v : Votes} {a b : Cursor} where

@@ -1,11 +1,13 @@
 -- The moves of a cursor, and where it starts.
 use Rattle.mwc_walk.proofs.Imports.{slice_below, reaches, wins_at, NothingBelow, CursorIs, IsVotes, minimal, false_from_ne_true, cond-true}
 use Rattle.mwc_walk.proofs.Imports.{cond-false, cond_both, list_all, RuleView, Votes, ◌≡◌, ℕ, suc, ◌+◌, ◌-◌, ◌*◌, ◌/◌, ◌%◌, ◌^◌, ◌<◌, ◌≤◌}
-use Rattle.mwc_walk.proofs.Imports.{min, true, false, List, ◌++◌, map, length, take, get_or, refl, Lane, Cursor, On, Give, End, lane_with}
+use Rattle.mwc_walk.proofs.Imports.{min, true, false, List, ◌++◌, map, length, take, get_or, refl, Lane, Cursor, NotYet, Found, End, lane_with}
 use Rattle.mwc_walk.proofs.Imports.{lane_without, IsPlace, lane_at, LanesStand, ap, ◌∙◌, arith, common_steps, shr-shr, pow_pos, pow_mono}
 use Rattle.mwc_walk.proofs.Imports.{cases_lt, both_ways, sum_by-take-drop, weight, weight-le, rule_at, LaneIs, leb, get_or-take}
-use Rattle.mwc_walk.proofs.Imports.{get_or_default, sum, sym, drop, length-take, nat_tests}
-use Rattle.mwc_walk.specs.Inner.{Cursor.Steps, Cursor.Starts, Lanes.no_lane, Lanes.lane_reaches, Lanes.lane_wins, Places.LanesAre}
+use Rattle.mwc_walk.proofs.Imports.{get_or_default, sum, sym, drop, length-take, nat_tests, zero, w64, trailing_zeros, steps_left, []}
+use Rattle.std.proofs.lemmas.Nat.Bits.{bit_at-trailing_zeros, bit_at-zero}
+use Rattle.std.specs.Int.Count.{trailing_of_zero}
+use Rattle.mwc_walk.specs.Inner.{Cursor.Steps, Cursor.Starts, Cursor.rest_of_slice, Lanes.no_lane, Lanes.lane_reaches, Lanes.lane_wins, Places.LanesAre}
 use Rattle.std.proofs.Common.{All, cond, ltb, pow-suc, lt-ltb, le-ltb}
 use Rattle.std.proofs.lemmas.Nat.{shl_below, shl_whole}
 use Rattle.mwc_walk.proofs.Rest.{dead-nothing, left-nothing, left-won, left-take, left-none, left-all}
@@ -105,73 +107,75 @@ module _ {v : Votes} {a : Cursor} (is : CursorIs v a) where
   sum-here i below = is.lanes.1 i (omega (arith, below, is.rules))
 
   -- ---- coming back, if the last place is not a fixed one
-  module _ (stale : a.fresh ≡ false) (more : a.place ≡ a.bits → ⊥) where
+  module _ (stale : a.fresh ≡ false) (more : a.bits < a.place) where
     -- back to the place before, which is not in
-    pub back-up : (a.prefix % 2 ≡ 1 → ⊥) → Steps v a On (record a { prefix = a.prefix / 2; place = a.place - 1 })
+    back-up : a.prefix % 2 ≡ 0 → Steps v a NotYet (record a { prefix = a.prefix / 2; place = a.place - 1 })
     back-up even =
         let place = place-up v a.bits a.number (a.place - 1) a.place (a.prefix / 2) a.prefix is.game (omega arith) refl
-        (omega (arith, is.place.from)) is.place in
+        (omega arith) is.place in
         grind (arith, cond-false, halves, lanes-up v (a.place - 1) a.place (a.prefix / 2) a.prefix)
 
     -- the last member is left out
-    module _ (odd : a.prefix % 2 ≡ 1) where
-      pub back-out : (ls : List Lane) → IsPart (lane_without (a.place - 1)) a.lanes ls a.rules
-          → Steps v a On (record a { lanes = ls; prefix = a.prefix - 1; fresh = true })
+    module _ (odd : a.prefix % 2 ≡ 1) {k : ℕ} (all : k ≡ length v.rules) where
+      back-out : (ls : List Lane) → IsPart (lane_without (a.place - 1)) a.lanes ls k
+          → Steps v a NotYet (record a { lanes = ls; prefix = a.prefix - 1; fresh = true })
       back-out ls part =
           let up = place-up v a.bits a.number (a.place - 1) a.place (a.prefix / 2) a.prefix is.game (omega arith) refl
           (omega arith) is.place in
           let place = place-down v a.bits a.number (a.place - 1) a.place (a.prefix / 2) (a.prefix - 1) (omega arith) (omega arith)
-          (omega (arith, is.place.to)) (is.place.passed (omega (arith, is.place.from))) up in
+          (omega (arith, is.place.to)) (is.place.passed more) up in
           let lanes = lanes-out v (a.place - 1) a.place a.prefix (a.prefix - 1) (omega (arith, is.place.to)) (omega arith)
-          a.lanes ls a.rules (omega arith) (omega arith) is.rules part is.lanes in
+          a.lanes ls k (omega arith) (omega arith) all part is.lanes in
           grind (arith, cond-false)
 
-      pub out-fits : All (λ l. get_or l.weights (a.place - 1) 0 ≤ l.sum) (take a.rules a.lanes)
+      out-fits : All (λ l. get_or l.weights (a.place - 1) 0 ≤ l.sum) (take k a.lanes)
       out-fits = λ i d lt.
-          let below : i < a.rules = omega (arith, lt, length-take a.rules a.lanes) in
+          let first : i < k = omega (arith, lt, length-take k a.lanes) in
+          let below : i < a.rules = omega (arith, first, all, is.rules) in
           let own = lane-here i below in
-          let step = weight-step own.rule (a.place - 1) a.place (a.prefix / 2) a.prefix 1 (omega (arith, is.place.to, is.place.from))
+          let step = weight-step own.rule (a.place - 1) a.place (a.prefix / 2) a.prefix 1 (omega (arith, is.place.to))
           (omega arith) (omega arith) (omega arith) in
-          rw (get_or-take a.rules a.lanes i d below, get_or_default a.lanes i d no_lane (omega (arith, below, is.room)))
-          (omega (arith, step, sum-here i below, lane-weight own (a.place - 1) (omega (arith, is.place.to, is.place.from))))
+          rw (get_or-take k a.lanes i d first, get_or_default a.lanes i d no_lane (omega (arith, below, is.room)))
+          (omega (arith, step, sum-here i below, lane-weight own (a.place - 1) (omega (arith, is.place.to))))
 
-  -- nothing is left
-  pub back-end : a.fresh ≡ false → a.place ≡ a.bits → Steps v a End a
-  back-end stale done = grind (arith, cond-false, left-none v a.bits a.number)
+  -- at the fixed places nothing is left
+  none-left : a.fresh ≡ false → a.place ≡ a.bits → rest_of_slice v a ≡ []
+  none-left stale done = grind (arith, cond-false, left-none v a.bits a.number)
 
   -- ---- a fresh place
   -- what the tests on the lanes say of the rules
-  pub reach-is : list_all (lane_reaches a.place) (take a.rules a.lanes) ≡ reaches v.rules a.place a.prefix
-  unfolding reaches
-  reach-is =
-      rw (← is.rules) at (lanes-pass (λ r. leb r.quota (weight (take a.place r.weights) a.prefix + sum (drop a.place r.weights)))
-      (lane_reaches a.place) v.rules a.lanes (omega (arith, is.rules, is.room)) (λ i lt.
-      let own = lane-here i (omega (arith, lt, is.rules)) in
-      let here = sum-here i (omega (arith, lt, is.rules)) in
-      rw (own.quota, here, own.rest a.place is.place.to) (grind (arith, nat_tests))))
+  module _ {k : ℕ} (all : k ≡ length v.rules) where
+    pub reach-is : list_all (lane_reaches a.place) (take k a.lanes) ≡ reaches v.rules a.place a.prefix
+    unfolding reaches
+    reach-is =
+        rw (← all) at (lanes-pass (λ r. leb r.quota (weight (take a.place r.weights) a.prefix + sum (drop a.place r.weights)))
+        (lane_reaches a.place) v.rules a.lanes (omega (arith, is.rules, is.room)) (λ i lt.
+        let own = lane-here i (omega (arith, lt, is.rules)) in
+        let here = sum-here i (omega (arith, lt, is.rules)) in
+        rw (own.quota, here, own.rest a.place is.place.to) (grind (arith, nat_tests))))
 
-  pub win-is : list_all lane_wins (take a.rules a.lanes) ≡ wins_at v.rules a.place a.prefix
-  unfolding wins_at
-  win-is =
-      rw (← is.rules) at (lanes-pass (λ r. leb r.quota (weight (take a.place r.weights) a.prefix)) lane_wins v.rules a.lanes
-      (omega (arith, is.rules, is.room)) (λ i lt.
-      let own = lane-here i (omega (arith, lt, is.rules)) in
-      let here = sum-here i (omega (arith, lt, is.rules)) in rw (own.quota, here) refl))
+    pub win-is : list_all lane_wins (take k a.lanes) ≡ wins_at v.rules a.place a.prefix
+    unfolding wins_at
+    win-is =
+        rw (← all) at (lanes-pass (λ r. leb r.quota (weight (take a.place r.weights) a.prefix)) lane_wins v.rules a.lanes
+        (omega (arith, is.rules, is.room)) (λ i lt.
+        let own = lane-here i (omega (arith, lt, is.rules)) in
+        let here = sum-here i (omega (arith, lt, is.rules)) in rw (own.quota, here) refl))
 
   module _ (fresh : a.fresh ≡ true) where
     -- a prefix is passed by, if nothing is left below it and no visit is owed
     pass-by : slice_below v a.bits a.number (a.prefix * 2 ^ (v.members - a.place)) ≡ slice_below v a.bits a.number
         ((a.prefix + 1) * 2 ^ (v.members - a.place))
         → (length v.rules ≡ 1 → cond (reaches v.rules a.place a.prefix) (a.place - a.bits) 0 ≡ 0)
-        → Steps v a On (record a { fresh = false })
+        → Steps v a NotYet (record a { fresh = false })
     pass-by same none = grind (arith, cond-true, cond-false, pow_pos)
 
     -- a prefix that cannot reach some quota is passed by
-    pub enter-dead : reaches v.rules a.place a.prefix ≡ false → Steps v a On (record a { fresh = false })
+    pub enter-dead : reaches v.rules a.place a.prefix ≡ false → Steps v a NotYet (record a { fresh = false })
     enter-dead dead = grind (arith, cond-false, dead-nothing, left-nothing, pass-by)
 
     -- so is one with nothing below it: with one rule, at the fixed places
-    pub enter-spare : NothingBelow v a.place a.prefix → (a.rules ≡ 1 → a.place ≡ a.bits) → Steps v a On (record a { fresh = false })
+    pub enter-spare : NothingBelow v a.place a.prefix → (length v.rules ≡ 1 → a.place ≡ a.bits) → Steps v a NotYet (record a { fresh = false })
     enter-spare nothing fixed = grind (arith, left-nothing, open-most, pass-by)
 
   -- a prefix that reaches and does not win has a place after it
@@ -179,31 +183,33 @@ module _ {v : Votes} {a : Cursor} (is : CursorIs v a) where
     pub in-room : a.place < v.members
     in-room = grind (arith, both_ways, full-reach)
 
-    pub in-fits : All (λ l. l.sum + get_or l.weights a.place 0 < 2 ^ 64) (take a.rules a.lanes)
-    in-fits = λ i d lt.
-        let below : i < a.rules = omega (arith, lt, length-take a.rules a.lanes) in
-        let own = lane-here i below in
-        let cut = sum_by-take-drop (λ (y : ℕ). y) (rule_at v.rules i).weights a.place in
-        rw (get_or-take a.rules a.lanes i d below, get_or_default a.lanes i d no_lane (omega (arith, below, is.room))) (omega (
-          arith,
-          cut,
-          rest-step own.rule a.place in-room,
-          weight-le (take a.place (rule_at v.rules i).weights) a.prefix,
-          own.rule.light,
-          sum-here i below,
-          lane-weight own a.place in-room,
-        ))
+    module _ {k : ℕ} (all : k ≡ length v.rules) where
+      pub in-fits : All (λ l. l.sum + get_or l.weights a.place 0 < 2 ^ 64) (take k a.lanes)
+      in-fits = λ i d lt.
+          let first : i < k = omega (arith, lt, length-take k a.lanes) in
+          let below : i < a.rules = omega (arith, first, all, is.rules) in
+          let own = lane-here i below in
+          let cut = sum_by-take-drop (λ (y : ℕ). y) (rule_at v.rules i).weights a.place in
+          rw (get_or-take k a.lanes i d first, get_or_default a.lanes i d no_lane (omega (arith, below, is.room))) (omega (
+            arith,
+            cut,
+            rest-step own.rule a.place in-room,
+            weight-le (take a.place (rule_at v.rules i).weights) a.prefix,
+            own.rule.light,
+            sum-here i below,
+            lane-weight own a.place in-room,
+          ))
 
-    -- the next member is taken in
-    pub enter-in : a.fresh ≡ true → (ls : List Lane) (t : ℕ) → t ≡ min (a.visits + 1) (2 ^ 64 - 1) → a.visits < 2 ^ 64
-        → IsPart (lane_with a.place) a.lanes ls a.rules
-        → Steps v a On (record a { lanes = ls; prefix = 2 * a.prefix + 1; place = a.place + 1; visits = t })
-    enter-in fresh ls t counted holds part =
-        let place = place-down v a.bits a.number a.place (a.place + 1) a.prefix (2 * a.prefix + 1) refl (omega arith)
-        in-room lost is.place in
-        let lanes = lanes-in v a.place (a.place + 1) a.prefix (2 * a.prefix + 1) in-room refl a.lanes ls a.rules
-        refl is.rules part is.lanes in
-        grind (arith, cond-true, reaches-in, slice-short, halves)
+      -- the next member is taken in
+      pub enter-in : a.fresh ≡ true → (ls : List Lane) (t : ℕ) → t ≡ min (a.visits + 1) (2 ^ 64 - 1) → a.visits < 2 ^ 64
+          → IsPart (lane_with a.place) a.lanes ls k
+          → Steps v a NotYet (record a { lanes = ls; prefix = 2 * a.prefix + 1; place = a.place + 1; visits = t })
+      enter-in fresh ls t counted holds part =
+          let place = place-down v a.bits a.number a.place (a.place + 1) a.prefix (2 * a.prefix + 1) refl (omega arith)
+          in-room lost is.place in
+          let lanes = lanes-in v a.place (a.place + 1) a.prefix (2 * a.prefix + 1) in-room refl a.lanes ls k
+          refl all part is.lanes in
+          grind (arith, cond-true, reaches-in, slice-short, halves)
 
   -- the number of a prefix with zeros after it
   pub enter-short : a.prefix * 2 ^ (v.members - a.place) < 2 ^ v.members
@@ -216,7 +222,7 @@ module _ {v : Votes} {a : Cursor} (is : CursorIs v a) where
     last-in lt = won-odd v.members a.place a.prefix v.rules (omega arith) is.place.to is.game.rules won (is.place.passed lt)
 
     -- and with one rule it is minimal there
-    pub one-is : a.bits < a.place → a.rules ≡ 1 → minimal v (a.prefix * 2 ^ (v.members - a.place)) ≡ true
+    pub one-is : a.bits < a.place → length v.rules ≡ 1 → minimal v (a.prefix * 2 ^ (v.members - a.place)) ≡ true
     one-is lt one = grind (arith, one-minimal)
 
     -- there was a visit for it
@@ -225,9 +231,72 @@ module _ {v : Votes} {a : Cursor} (is : CursorIs v a) where
 
     -- a minimal one is given
     pub enter-give : a.fresh ≡ true → (m : ℕ) → m ≡ a.prefix * 2 ^ (a.members - a.place)
-        → minimal v (a.prefix * 2 ^ (v.members - a.place)) ≡ true → Steps v a (Give m) (record a { fresh = false })
+        → minimal v (a.prefix * 2 ^ (v.members - a.place)) ≡ true → Steps v a (Found m) (record a { fresh = false })
     enter-give fresh m found min =
         rw (found, is.members) (grind (arith, cond-true, cond-false, in-slice, left-take, open-most, left-won, won-visited))
+
+-- ---- back to the last member that is in
+-- the cursor is some places further up, and the places that it left are not in
+record GoesUp (v : Votes) (a b : Cursor) : Type 0 where
+  is : CursorIs v b
+  same : rest_of_slice v b ≡ rest_of_slice v a
+  falls : steps_left v b ≤ steps_left v a
+
+module _ {v : Votes} {a : Cursor} (is : CursorIs v a) (stale : a.fresh ≡ false) where
+  short-prefix : a.prefix < 2 ^ 64
+  short-prefix = let up : 2 ^ a.place ≤ 2 ^ 40 = pow_mono {j = 40} (omega (arith, is.place.to, is.game.few)) in
+      omega (arith, up, is.place.short)
+
+  out-after : (x i : ℕ) → x < 2 ^ 64 → i < trailing_zeros w64 x → x / 2 ^ i % 2 ≡ 0
+  out-after zero i short lt = bit_at-zero i
+  out-after (suc x) i short lt = (bit_at-trailing_zeros w64 (suc x) (omega arith) short).2 i lt
+
+  last-digit : (x : ℕ) → x < 2 ^ 64 → trailing_zeros w64 x < 64 → x / 2 ^ trailing_zeros w64 x % 2 ≡ 1
+  last-digit zero short lt = absurd (omega (arith, lt, trailing_of_zero 64))
+  last-digit (suc x) short lt = (bit_at-trailing_zeros w64 (suc x) (omega arith) short).1
+
+  up : (t x p : ℕ) → p + t ≡ a.place → a.bits ≤ p → t ≤ trailing_zeros w64 a.prefix → x ≡ a.prefix / 2 ^ t
+      → GoesUp v a (record a { prefix = x; place = p })
+  up zero x p ep low le ex =
+      rw ((let e : x ≡ a.prefix = omega (arith, ex) in e), (let e : p ≡ a.place = omega arith in e))
+      (record { is = is; same = refl; falls = omega arith })
+  up (suc t) x p ep low le ex =
+      let before = up t (a.prefix / 2 ^ t) (p + 1) (omega arith) (omega arith) (omega arith) refl in
+      let step = back-up before.is stale (omega arith) (out-after a.prefix t short-prefix (omega arith)) in
+      let half : a.prefix / 2 ^ t / 2 ≡ x = shr-shr a.prefix t 1 ∙ ap (λ (i : ℕ). a.prefix / 2 ^ i) (let e : t + 1 ≡ suc t = omega arith in e) ∙ sym ex in
+      let back : p + 1 - 1 ≡ p = omega arith in
+      let on : Steps v _ NotYet (record a { prefix = x; place = p }) = rw (half, back) at step in
+      record { is = on.follows.is; same = on.same ∙ before.same; falls = omega (arith, on.falls, before.falls) }
+
+  -- nothing is left, if the places that are not fixed are not in
+  pub back-end : a.place - trailing_zeros w64 a.prefix ≤ a.bits → Steps v a End a
+  back-end few =
+      let top = up (a.place - a.bits) (a.prefix / 2 ^ (a.place - a.bits)) a.bits (omega (arith, is.place.from)) (omega arith) (omega arith) refl in
+      let none = sym top.same ∙ none-left top.is stale refl in
+      record {
+        follows = record { is = is; bits = refl; number = refl; counted = omega arith };
+        none = none;
+        none_after = none;
+        stale = stale;
+      }
+
+  -- the last member is left out
+  module _ (x p : ℕ) (low : a.bits < p) (ep : p ≡ a.place - trailing_zeros w64 a.prefix) (ex : x ≡ a.prefix / 2 ^ trailing_zeros w64 a.prefix)
+      {k : ℕ} (all : k ≡ length v.rules) where
+    here : GoesUp v a (record a { prefix = x; place = p })
+    here = up (trailing_zeros w64 a.prefix) x p (omega arith) (omega arith) (omega arith) ex
+
+    pub odd : x % 2 ≡ 1
+    odd = rw ex (last-digit a.prefix short-prefix (omega (arith, is.place.to, is.game.few)))
+
+    pub back-fits : All (λ l. get_or l.weights (p - 1) 0 ≤ l.sum) (take k a.lanes)
+    back-fits = out-fits here.is stale low odd all
+
+    pub back-to : (ls : List Lane) → IsPart (lane_without (p - 1)) a.lanes ls k
+        → Steps v a NotYet (record a { lanes = ls; prefix = x - 1; place = p; fresh = true })
+    back-to ls part =
+        let on = back-out here.is stale low odd all ls part in
+        record { follows = record { is = on.follows.is; bits = refl; number = refl; counted = omega arith }; same = on.same ∙ here.same; falls = omega (arith, on.falls, here.falls) }
 
 -- the lanes, when the walk starts
 pub lanes-first : (v : Votes) (k x m : ℕ) (ls : List Lane) → k ≤ v.members → m ≡ x * 2 ^ (v.members - k) → LanesStand v ls

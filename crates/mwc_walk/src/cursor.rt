@@ -3,15 +3,15 @@ ghost use Rattle.std.specs.Prelude.{◌≡◌, ◌≢◌, ℕ, ◌*◌, ◌+◌,
 ghost use Rattle.std.specs.Prelude.{IfSome, MatchOption};
 ghost use Rattle.council_base.specs.declared.limits.TheConstants.{BITS, MEMBERS};
 ghost use Rattle.council_game.specs.Game.{votes_of};
-ghost use Rattle.council_game.specs.Votes.{has, without, minimal};
+ghost use Rattle.council_game.specs.Votes.{has, without};
 ghost use Rattle.mwc_walk.specs.Inner.Places.{reaches, wins_at, NothingBelow, AreExcesses, CanSpare};
 ghost use Rattle.mwc_walk.specs.Inner.Prices.{ArePrices};
-ghost use Rattle.mwc_walk.specs.Inner.Spared.{ExcessIs, IsNeed, NoneSpared, Tried};
+ghost use Rattle.mwc_walk.specs.Inner.Spared.{CanPassBy, ExcessIs, IsNeed, NoneSpared, Tried};
 ghost use Rattle.mwc_walk.specs.Inner.Cursor.{CursorIs, Steps, SomeSteps, Starts};
 
 use crate::lane::{Lane, all_reach, all_win, lanes_of, leave_out, take_in};
 use crate::price::PriceTable;
-use crate::step::Step;
+use crate::seek::Seek;
 use council_game::{Coalition, Game, limits};
 
 /// After so many steps without a coalition a walk over several rules also asks what the prices say.
@@ -89,35 +89,35 @@ impl Cursor {
     ///
     /// Under several rules the first steps do without the prices; `prices` keeps them after they
     /// were needed once.
-    pub(crate) fn find(&mut self, game: &Game, prices: &mut Option<PriceTable>) -> Step
+    pub(crate) fn find(&mut self, game: &Game, prices: &mut Option<PriceTable>) -> Seek
         requires is { CursorIs (votes_of game.now) self.old }
         requires prices { IfSome prices.old (ArePrices (votes_of game.now)) }
         ensures steps { SomeSteps (votes_of game.now) self.old result self.new }
-        ensures comes { result ≢ Step.On }
+        ensures comes { result ≢ Seek.NotYet }
         ensures prices { IfSome prices.new (ArePrices (votes_of game.now)) }
     {
         if self.rules == 1 {
-            return self.next(game, None);
+            return self.next(game, 1, None);
         }
         match self.some_steps(game, NEAR) {
-            Step::On => {}
+            Seek::NotYet => {}
             step => return step,
         }
         if prices.is_none() {
             self.find_prices(game, prices);
         }
-        self.next(game, prices.as_ref())
+        self.next(game, self.rules, prices.as_ref())
     }
 
     /// Does as `find`, but stops after `visits` more visits. Under one rule it never stops before a
     /// coalition or the end.
-    pub(crate) fn seek(&mut self, game: &Game, prices: &mut Option<PriceTable>, visits: u64) -> Step
+    pub(crate) fn seek(&mut self, game: &Game, prices: &mut Option<PriceTable>, visits: u64) -> Seek
         requires is { CursorIs (votes_of game.now) self.old }
         requires prices { IfSome prices.old (ArePrices (votes_of game.now)) }
         ensures steps { SomeSteps (votes_of game.now) self.old result self.new }
-        ensures not_yet { result ≡ Step.On →
+        ensures not_yet { result ≡ Seek.NotYet →
             (self.new.visits ≡ self.old.visits + visits) × (self.new.visits < 2 ^ 64) }
-        ensures one { self.old.rules ≡ 1 → result ≢ Step.On }
+        ensures one { self.old.rules ≡ 1 → result ≢ Seek.NotYet }
         ensures few { self.old.rules ≢ 1 → self.new.visits ≤ self.old.visits + visits }
         ensures prices { IfSome prices.new (ArePrices (votes_of game.now)) }
     {
@@ -128,7 +128,7 @@ impl Cursor {
             return step;
         };
         match self.some_steps(game, NEAR.min(visits)) {
-            Step::On => {}
+            Seek::NotYet => {}
             step => return step,
         }
         if prices.is_none() {
@@ -162,48 +162,51 @@ impl Cursor {
 
     /// Makes at most `steps` steps towards the next coalition of the slice or its end, without the
     /// prices.
-    fn some_steps(&mut self, game: &Game, steps: u64) -> Step
+    fn some_steps(&mut self, game: &Game, steps: u64) -> Seek
         requires { CursorIs (votes_of game.now) self.old }
         ensures steps { SomeSteps (votes_of game.now) self.old result self.new }
         ensures few { self.new.visits ≤ self.old.visits + steps }
     {
         for _ in 0..steps {
-            match self.step(game, None) {
-                Step::On => {}
+            match self.step(game, self.rules, None) {
+                Seek::NotYet => {}
                 step => return step,
             }
         }
-        Step::On
+        Seek::NotYet
     }
 
     /// Steps to the next coalition of the slice, to its end, or until there were `visits` visits.
-    fn up_to(&mut self, game: &Game, prices: Option<&PriceTable>, visits: u64) -> Step
+    fn up_to(&mut self, game: &Game, prices: Option<&PriceTable>, visits: u64) -> Seek
         requires is { CursorIs (votes_of game.now) self.old }
         requires prices { IfSome prices (λ t. ArePrices (votes_of game.now) t.now) }
         requires more { self.old.visits ≤ visits }
         ensures steps { SomeSteps (votes_of game.now) self.old result self.new }
-        ensures not_yet { result ≡ Step.On → self.new.visits ≡ visits }
+        ensures not_yet { result ≡ Seek.NotYet → self.new.visits ≡ visits }
         ensures few { self.new.visits ≤ visits }
     {
         while self.visits < visits {
-            match self.step(game, prices) {
-                Step::On => {}
+            match self.step(game, self.rules, prices) {
+                Seek::NotYet => {}
                 step => return step,
             }
         }
-        Step::On
+        Seek::NotYet
     }
 
-    /// Steps to the next coalition of the slice, or to its end.
-    fn next(&mut self, game: &Game, prices: Option<&PriceTable>) -> Step
+    /// Steps to the next coalition of the slice, or to its end. Inlined where it is called with one
+    /// rule, so no step loops over the rules there.
+    #[inline(always)]
+    fn next(&mut self, game: &Game, rules: usize, prices: Option<&PriceTable>) -> Seek
         requires is { CursorIs (votes_of game.now) self.old }
+        requires rules { rules ≡ length (votes_of game.now).rules }
         requires prices { IfSome prices (λ t. ArePrices (votes_of game.now) t.now) }
         ensures steps { SomeSteps (votes_of game.now) self.old result self.new }
-        ensures comes { result ≢ Step.On }
+        ensures comes { result ≢ Seek.NotYet }
     {
         loop {
-            match self.step(game, prices) {
-                Step::On => {}
+            match self.step(game, rules, prices) {
+                Seek::NotYet => {}
                 step => return step,
             }
         }
@@ -212,85 +215,84 @@ impl Cursor {
     /// Makes one step, and at most one visit. Inlined into each loop: a call per step would double
     /// the time of a walk.
     #[inline(always)]
-    fn step(&mut self, game: &Game, prices: Option<&PriceTable>) -> Step
+    fn step(&mut self, game: &Game, rules: usize, prices: Option<&PriceTable>) -> Seek
         requires is { CursorIs (votes_of game.now) self.old }
+        requires rules { rules ≡ length (votes_of game.now).rules }
         requires prices { IfSome prices (λ t. ArePrices (votes_of game.now) t.now) }
         ensures steps { Steps (votes_of game.now) self.old result self.new }
         ensures few { self.new.visits ≤ self.old.visits + 1 }
     {
         if self.fresh {
-            self.enter(game, prices)
+            self.enter(game, rules, prices)
         } else {
-            self.back(game)
+            self.back(game, rules)
         }
     }
 
     /// Examines a fresh prefix: passes by it if no coalition below is minimal or some quota cannot
     /// be met any more, takes in the next member if it does not win yet, and gives it if it wins.
     #[inline(always)]
-    fn enter(&mut self, game: &Game, prices: Option<&PriceTable>) -> Step
+    fn enter(&mut self, game: &Game, rules: usize, prices: Option<&PriceTable>) -> Seek
         requires is { CursorIs (votes_of game.now) self.old }
+        requires rules { rules ≡ length (votes_of game.now).rules }
         requires prices { IfSome prices (λ t. ArePrices (votes_of game.now) t.now) }
         requires fresh { self.old.fresh ≡ true }
         ensures steps { Steps (votes_of game.now) self.old result self.new }
         ensures few { self.new.visits ≤ self.old.visits + 1 }
     {
-        let rules = self.rules;
         let place = self.place;
-        if !self.reaches(game) || self.passes_by(game, prices) {
+        if !self.reaches(game, rules) || self.passes_by(game, rules, prices) {
             self.fresh = false;
-            return Step::On;
+            return Seek::NotYet;
         }
-        if !self.wins(game) {
+        if !self.wins(game, rules) {
             take_in(&mut self.lanes[..rules], place);
             self.prefix = 2 * self.prefix + 1;
             self.place += 1;
             self.visits = self.visits.saturating_add(1);
-            return Step::On;
+            return Seek::NotYet;
         }
         let found = Coalition::of_mask(mask_of(self.prefix, place, self.members));
         self.fresh = false;
-        Step::Give(found)
+        Seek::Found(found)
     }
 
     /// Whether each quota can still be met.
     #[inline(always)]
-    fn reaches(&self, game: &Game) -> bool
-        requires { CursorIs (votes_of game.now) self.now }
+    fn reaches(&self, game: &Game, rules: usize) -> bool
+        requires is { CursorIs (votes_of game.now) self.now }
+        requires rules { rules ≡ length (votes_of game.now).rules }
         ensures { result ≡ reaches (votes_of game.now).rules self.now.place self.now.prefix }
     {
-        all_reach(&self.lanes[..self.rules], self.place)
+        all_reach(&self.lanes[..rules], self.place)
     }
 
     /// Whether the prefix wins by itself.
     #[inline(always)]
-    fn wins(&self, game: &Game) -> bool
-        requires { CursorIs (votes_of game.now) self.now }
+    fn wins(&self, game: &Game, rules: usize) -> bool
+        requires is { CursorIs (votes_of game.now) self.now }
+        requires rules { rules ≡ length (votes_of game.now).rules }
         ensures { result ≡ wins_at (votes_of game.now).rules self.now.place self.now.prefix }
     {
-        all_win(&self.lanes[..self.rules])
+        all_win(&self.lanes[..rules])
     }
 
     /// Whether the prefix is passed by, because no coalition below it is minimal: it has a member
     /// that each rule can spare, or the prices say so. A winning prefix that is not passed by is
     /// minimal.
     #[inline(always)]
-    fn passes_by(&self, game: &Game, prices: Option<&PriceTable>) -> bool
+    fn passes_by(&self, game: &Game, rules: usize, prices: Option<&PriceTable>) -> bool
         requires is { CursorIs (votes_of game.now) self.now }
+        requires rules { rules ≡ length (votes_of game.now).rules }
         requires prices { IfSome prices (λ t. ArePrices (votes_of game.now) t.now) }
-        ensures some { result ≡ true →
-            NothingBelow (votes_of game.now) self.now.place self.now.prefix }
-        ensures one { result ≡ true → self.now.rules ≡ 1 → self.now.place ≡ self.now.bits }
-        ensures none { result ≡ false →
-            wins_at (votes_of game.now).rules self.now.place self.now.prefix ≡ true →
-            minimal (votes_of game.now)
-            (self.now.prefix * 2 ^ ((votes_of game.now).members - self.now.place)) ≡ true }
+        ensures passes { CanPassBy (votes_of game.now) self.now.place self.now.prefix result }
+        ensures one { result ≡ true → rules ≡ 1 → self.now.place ≡ self.now.bits }
     {
-        if self.spares_one(game) {
+        if self.spares_one(game, rules) {
             return true;
         }
         match prices {
-            Some(prices) => self.rules > 1 && self.prunes(game, prices),
+            Some(prices) => rules > 1 && self.prunes(game, prices),
             None => false,
         }
     }
@@ -299,19 +301,38 @@ impl Cursor {
     /// below. Sought only at the fixed places and after a member was taken in. With one rule not
     /// after that either: the last member is the lightest, and was needed.
     #[inline(always)]
-    fn spares_one(&self, game: &Game) -> bool
-        requires { CursorIs (votes_of game.now) self.now }
-        ensures some { result ≡ true →
-            NothingBelow (votes_of game.now) self.now.place self.now.prefix }
-        ensures one { result ≡ true → self.now.rules ≡ 1 → self.now.place ≡ self.now.bits }
-        ensures none { result ≡ false →
-            wins_at (votes_of game.now).rules self.now.place self.now.prefix ≡ true →
-            minimal (votes_of game.now)
-            (self.now.prefix * 2 ^ ((votes_of game.now).members - self.now.place)) ≡ true }
+    fn spares_one(&self, game: &Game, rules: usize) -> bool
+        requires is { CursorIs (votes_of game.now) self.now }
+        requires rules { rules ≡ length (votes_of game.now).rules }
+        ensures passes { CanPassBy (votes_of game.now) self.now.place self.now.prefix result }
+        ensures one { result ≡ true → rules ≡ 1 → self.now.place ≡ self.now.bits }
     {
-        if self.place > self.bits && (self.rules == 1 || self.prefix % 2 == 0) {
+        if self.place > self.bits && (rules == 1 || self.prefix % 2 == 0) {
             return false;
         }
+        if rules == 1 {
+            return self.spares_fixed(game);
+        }
+        self.spares_here(game)
+    }
+
+    /// Whether the prefix has a member that each rule can spare. One rule asks it only at the fixed
+    /// places. Kept out of line: inlined, it computes the excess of all lanes for each coalition,
+    /// which costs a walk a third of its time.
+    #[inline(never)]
+    fn spares_fixed(&self, game: &Game) -> bool
+        requires { CursorIs (votes_of game.now) self.now }
+        ensures { CanPassBy (votes_of game.now) self.now.place self.now.prefix result }
+    {
+        self.spares_here(game)
+    }
+
+    /// Whether the prefix has a member that each rule can spare.
+    #[inline(always)]
+    fn spares_here(&self, game: &Game) -> bool
+        requires { CursorIs (votes_of game.now) self.now }
+        ensures { CanPassBy (votes_of game.now) self.now.place self.now.prefix result }
+    {
         self.has_spared(game, &self.excess(game))
     }
 
@@ -469,27 +490,24 @@ impl Cursor {
         true
     }
 
-    /// Comes back: leaves the last member out if it is in, or else goes up by one place.
+    /// Comes back: goes up to the last member that is in, and leaves it out.
     #[inline(always)]
-    fn back(&mut self, game: &Game) -> Step
+    fn back(&mut self, game: &Game, rules: usize) -> Seek
         requires is { CursorIs (votes_of game.now) self.old }
+        requires rules { rules ≡ length (votes_of game.now).rules }
         requires stale { self.old.fresh ≡ false }
         ensures steps { Steps (votes_of game.now) self.old result self.new }
         ensures few { self.new.visits ≤ self.old.visits + 1 }
     {
-        if self.place == self.bits {
-            return Step::End;
+        let out = self.prefix.trailing_zeros();
+        let place = self.place.saturating_sub(out as usize);
+        if place <= self.bits {
+            return Seek::End;
         }
-        if self.prefix % 2 == 1 {
-            let rules = self.rules;
-            let place = self.place - 1;
-            leave_out(&mut self.lanes[..rules], place);
-            self.prefix -= 1;
-            self.fresh = true;
-        } else {
-            self.prefix /= 2;
-            self.place -= 1;
-        }
-        Step::On
+        leave_out(&mut self.lanes[..rules], place - 1);
+        self.prefix = (self.prefix >> out) - 1;
+        self.place = place;
+        self.fresh = true;
+        Seek::NotYet
     }
 }

@@ -10,7 +10,6 @@ ghost use Rattle.mwc_walk.specs.Seeks.{Seeks, seeks_left};
 use crate::cursor::Cursor;
 use crate::price::PriceTable;
 use crate::seek::Seek;
-use crate::step::Step;
 use council_game::{Coalition, Game};
 use std::marker::Model;
 
@@ -90,8 +89,8 @@ impl<'a> Walk<'a> {
         ensures counted { self.old.visits ≤ self.new.visits }
     {
         match self.cursor.find(self.game, &mut self.prices) {
-            Step::Give(coalition) => Some(coalition),
-            Step::End | Step::On => None,
+            Seek::Found(coalition) => Some(coalition),
+            Seek::End | Seek::NotYet => None,
         }
     }
 
@@ -115,11 +114,7 @@ impl<'a> Walk<'a> {
         ensures few { length self.old.votes.rules ≢ 1 → self.new.visits ≤ self.old.visits + visits }
         ensures falls { result ≢ Seek.End → seeks_left self.new < seeks_left self.old }
     {
-        match self.cursor.seek(self.game, &mut self.prices, visits) {
-            Step::On => Seek::NotYet,
-            Step::Give(coalition) => Seek::Found(coalition),
-            Step::End => Seek::End,
-        }
+        self.cursor.seek(self.game, &mut self.prices, visits)
     }
 
     /// Returns how many visits there were.

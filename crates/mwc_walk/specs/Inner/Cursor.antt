@@ -2,8 +2,8 @@
 use Rattle.std.specs.Prelude.{ℕ, ◌+◌, ◌-◌, ◌*◌, ◌/◌, ◌%◌, ◌^◌, ◌≡◌, ◌≤◌, ◌<◌, false, if◌then◌else◌, ltb, List, [], ◌∷◌, length}
 use Rattle.council_game.specs.Votes.{Votes, IsVotes}
 use Rattle.mwc_walk.specs.declared.cursor.Cursor.{Cursor}
-use Rattle.mwc_walk.specs.declared.step.Step.{Step}
-use Rattle.mwc_walk.specs.declared.step.Step.TheVariants.{On, Give, End}
+use Rattle.mwc_walk.specs.declared.seek.Seek.{Seek}
+use Rattle.mwc_walk.specs.declared.seek.Seek.TheVariants.{NotYet, Found, End}
 use Rattle.mwc_walk.specs.Slices.{slice}
 use Rattle.mwc_walk.specs.Inner.Places.{slice_below, reaches, wins_at, LanesAre}
 
@@ -86,15 +86,15 @@ pub record FindsEnd (v : Votes) (a b : Cursor) : Type 0 where
   pub stale : b.fresh ≡ false
 
 -- one step
-abbrev pub Steps : Votes → Cursor → Step → Cursor → Type 0
-Steps v a On b = GoesOn v a b
-Steps v a (Give m) b = GivesNext v a m b
+abbrev pub Steps : Votes → Cursor → Seek → Cursor → Type 0
+Steps v a NotYet b = GoesOn v a b
+Steps v a (Found m) b = GivesNext v a m b
 Steps v a End b = FindsEnd v a b
 
 -- some steps, which may come to no coalition
-abbrev pub SomeSteps : Votes → Cursor → Step → Cursor → Type 0
-SomeSteps v a On b = Follows v a b × (rest_of_slice v b ≡ rest_of_slice v a)
-SomeSteps v a (Give m) b = GivesNext v a m b
+abbrev pub SomeSteps : Votes → Cursor → Seek → Cursor → Type 0
+SomeSteps v a NotYet b = Follows v a b × (rest_of_slice v b ≡ rest_of_slice v a)
+SomeSteps v a (Found m) b = GivesNext v a m b
 SomeSteps v a End b = FindsEnd v a b
 
 -- when a walk starts: the whole slice is left, and only the fixed places are visited

@@ -1,7 +1,7 @@
 -- The members of a prefix who can be spared.
-use Rattle.std.specs.Prelude.{ℕ, ◌-◌, ◌*◌, ◌/◌, ◌^◌, ◌≡◌, ◌≤◌, ◌<◌, true, false, List, length, take, drop, slice_index}
-use Rattle.council_game.specs.Votes.{Votes, rule_at, has, weight, wins}
-use Rattle.mwc_walk.specs.Inner.Places.{CanSpare}
+use Rattle.std.specs.Prelude.{ℕ, ◌-◌, ◌*◌, ◌/◌, ◌^◌, ◌≡◌, ◌≤◌, ◌<◌, Bool, true, false, List, length, take, drop, slice_index}
+use Rattle.council_game.specs.Votes.{Votes, rule_at, has, weight, wins, minimal}
+use Rattle.mwc_walk.specs.Inner.Places.{CanSpare, NothingBelow, wins_at}
 
 -- number i of es is what the prefix weighs by rule i beyond its quota
 abbrev pub ExcessIs : Votes → ℕ → ℕ → List ℕ → Type 0
@@ -23,3 +23,9 @@ pub record Tried (v : Votes) (p x : ℕ) (es : List ℕ) (rest : ℕ) : Type 0 w
   pub inside : (q : ℕ) → q < v.members → has v.members q rest ≡ true → has v.members q (x * 2 ^ (v.members - p)) ≡ true
   pub kept : (q : ℕ) → q < v.members → has v.members q (x * 2 ^ (v.members - p)) ≡ true → has v.members q rest ≡ false
       → CanSpare v es q → ⊥
+
+-- nothing below a prefix that is passed by is minimal; a winning one that is not passed by is
+-- minimal
+abbrev pub CanPassBy : Votes → ℕ → ℕ → Bool → Type 0
+CanPassBy v p x passed = (passed ≡ true → NothingBelow v p x)
+    × (passed ≡ false → wins_at v.rules p x ≡ true → minimal v (x * 2 ^ (v.members - p)) ≡ true)

@@ -1,16 +1,19 @@
-use Rattle.mwc_walk.proofs.Steps.{back-up, back-out, back-end, out-fits, is-part}
-use Rattle.mwc_walk.proofs.cursor.Cursor.back.Goals.{then-self-eq1, else-self-eq1}
+use Rattle.mwc_walk.proofs.{Imports.arith, Imports.refl}
+use Rattle.mwc_walk.proofs.Steps.{back-end, back-fits, back-to, is-part, odd}
 use Rattle.mwc_walk.proofs.cursor.Cursor.back.Goals as goal
 
-pub returns-then-self-clause-steps : goal.returns-then-self-clause-steps
-returns-then-self-clause-steps c = back-end c.requires.is c.requires.stale c.if-self.true
+pub returns-then-place-self-clause-steps : goal.returns-then-place-self-clause-steps
+returns-then-place-self-clause-steps c = back-end c.requires.is c.requires.stale (omega (arith, c.saturating_sub-place.ensures))
 
 pub leave_out-requires-clause-fits : goal.leave_out-requires-clause-fits
-leave_out-requires-clause-fits c = out-fits c.requires.is c.requires.stale c.if-self.false c.if-self-eq1.true
+leave_out-requires-clause-fits c =
+    back-fits c.requires.is c.requires.stale _ _ c.if-place-self.false c.saturating_sub-place.ensures refl c.requires.rules
+
+pub overflow_sub-self : goal.overflow_sub-self
+overflow_sub-self c =
+    omega (arith, odd c.requires.is c.requires.stale _ _ c.if-place-self.false c.saturating_sub-place.ensures refl c.requires.rules)
 
 pub returns-clause-steps : goal.returns-clause-steps
-returns-clause-steps c = elim c.if-self-eq1.branch [
-  | then-self-eq1 w ↦ rw w.self-is (back-out c.requires.is c.requires.stale c.if-self.false w.if-self-eq1.true _
-      (is-part _ _ _ _ _ w.leave_out.ensures c.requires.is.room))
-  | else-self-eq1 w ↦ rw w.self-is (back-up c.requires.is c.requires.stale c.if-self.false w.if-self-eq1.false)
-]
+returns-clause-steps c =
+    back-to c.requires.is c.requires.stale _ _ c.if-place-self.false c.saturating_sub-place.ensures refl c.requires.rules _
+    (is-part _ _ _ _ _ c.leave_out.ensures (omega (arith, c.requires.rules, c.requires.is.rules, c.requires.is.room)))

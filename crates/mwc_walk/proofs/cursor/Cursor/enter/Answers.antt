@@ -9,7 +9,8 @@ returns-then-not-reaches-clause-steps c = elim c.then-not-reaches.branch [
   | then-not-reaches-via-then-not-reaches w ↦
       enter-dead c.requires.is c.requires.fresh (sym c.reaches.ensures ∙ w.if-not-reaches.true)
   | then-not-reaches-via-else-not-reaches+then-passes_by w ↦
-      enter-spare c.requires.is c.requires.fresh (w.if-passes_by.ensures.some refl) (w.if-passes_by.ensures.one refl)
+      enter-spare c.requires.is c.requires.fresh (w.if-passes_by.ensures.passes.0 refl)
+      (λ one. w.if-passes_by.ensures.one refl (c.requires.rules ∙ one))
 ]
 
 pub take_in-requires-clause-place : goal.take_in-requires-clause-place
@@ -19,18 +20,18 @@ take_in-requires-clause-place c =
 
 pub take_in-requires-clause-fits : goal.take_in-requires-clause-fits
 take_in-requires-clause-fits c =
-    in-fits c.requires.is (sym c.reaches.ensures ∙ c.if-not-reaches.false) (sym c.wins.ensures ∙ c.if-not-wins.true)
+    in-fits c.requires.is (sym c.reaches.ensures ∙ c.if-not-reaches.false) (sym c.wins.ensures ∙ c.if-not-wins.true) c.requires.rules
 
 pub returns-then-not-wins-clause-steps : goal.returns-then-not-wins-clause-steps
 returns-then-not-wins-clause-steps c =
-    enter-in c.requires.is (sym c.reaches.ensures ∙ c.if-not-reaches.false) (sym c.wins.ensures ∙ c.if-not-wins.true) c.requires.fresh
-    _ _ c.saturating_add-self.ensures (omega arith) (is-part _ _ _ _ _ c.take_in.ensures c.requires.is.room)
+    enter-in c.requires.is (sym c.reaches.ensures ∙ c.if-not-reaches.false) (sym c.wins.ensures ∙ c.if-not-wins.true) c.requires.rules c.requires.fresh
+    _ _ c.saturating_add-self.ensures (omega arith) (is-part _ _ _ _ _ c.take_in.ensures (omega (arith, c.requires.rules, c.requires.is.rules, c.requires.is.room)))
 
 pub returns-clause-steps : goal.returns-clause-steps
 returns-clause-steps c =
     let won = sym c.wins.ensures ∙ c.if-not-wins.false in
     enter-give c.requires.is won c.requires.fresh _ (c.of_mask-found.ensures ∙ c.mask_of.ensures.mask)
-    (c.if-passes_by.ensures.none refl won)
+    (c.if-passes_by.ensures.passes.1 refl won)
 
 pub overflow_mul-self : goal.overflow_mul-self
 overflow_mul-self c =
