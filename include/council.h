@@ -1,8 +1,12 @@
 /*
- * The report of a weighted voting game, for C and whatever can call C. See docs/LIBRARY.md.
+ * Weighted voting games, for C and whatever can call C. See docs/LIBRARY.md.
  *
- * There are two calls. They start no thread, keep nothing from one call to the next, and give out no memory. Threads of
- * the caller's may call them at the same time, each with buffers of its own.
+ * Give a game as arrays and take numbers (council_indices), or give the bytes of a game file and take a report
+ * (council_report). No call starts a thread, keeps anything from one call to the next, or gives out memory. Threads of
+ * yours may call at the same time, each with buffers of its own.
+ *
+ * No pointer may be NULL, not even if its length is 0, and what a call writes to may overlap nothing else of the call.
+ * Call from no signal handler, and not in the forked child of a process with threads. A call needs 512 KB of stack.
  */
 #ifndef COUNCIL_H
 #define COUNCIL_H
@@ -24,14 +28,15 @@ struct council_options {
 	bool notation;  /* a line [q; w1, .., wn] for each rule */
 };
 
-/* How a call ends. The numbers are the statuses of the program. */
+/* How a call ends. The numbers up to 6 are the statuses of the program. */
 enum council_status {
-	COUNCIL_REPORT = 0,    /* the text is the report */
-	COUNCIL_OPTIONS = 2,   /* no call takes these options */
-	COUNCIL_GAME = 3,      /* the bytes hold no game: the text is the first fault */
+	COUNCIL_REPORT = 0,    /* the text is the report, or the numbers are there */
+	COUNCIL_OPTIONS = 2,   /* no call takes these options, or these lengths and sizes */
+	COUNCIL_GAME = 3,      /* the bytes or arrays hold no game: you get the first fault */
 	COUNCIL_TOO_MANY = 4,  /* the game has more minimal winning coalitions than most */
 	COUNCIL_MEMORY = 5,    /* memory was refused */
-	COUNCIL_STATES = 6     /* the swings take too many states; only of council_swings_report */
+	COUNCIL_STATES = 6,    /* the swings take too many states */
+	COUNCIL_TOO_LONG = 7   /* the walk made as many visits as it may; only of council_indices */
 };
 
 /*
@@ -39,10 +44,8 @@ enum council_status {
  * into room bytes, with no byte 0 behind it. *length is then the length of the whole text: where that is more than room,
  * call again with room for *length bytes.
  *
- * No pointer may be NULL, not even where its length is 0, and text and *length may overlap nothing else of the call.
  * A call takes from malloc a few hundred MB for a game of many states (270 were seen), and for a list 8 to 16 bytes for
- * each coalition; for a while up to three times what it puts into text; and 512 KB of stack. It may not be made from a
- * signal handler, nor in the forked child of a process with threads.
+ * each coalition; for a while up to three times what it puts into text.
  */
 uint32_t council_report(const char *game, size_t game_length, const struct council_options *options,
 			char *text, size_t room, uint64_t *length);
@@ -54,6 +57,98 @@ uint32_t council_report(const char *game, size_t game_length, const struct counc
  */
 uint32_t council_swings_report(const char *game, size_t game_length, const struct council_options *options, bool only,
 			       char *text, size_t room, uint64_t *length);
+
+/* A number of 128 bits: high * 2^64 + low. */
+struct council_wide {
+	uint64_t high, low;
+};
+
+/* A fraction from 0 to 1 in lowest terms, its bottom 1 to 10^30; or 0/0 if nobody asked. */
+struct council_fraction {
+	struct council_wide top, bottom;
+};
+
+/* The numbers of a member. Those of swings are 0 unless you ask for them. */
+struct council_member {
+	uint64_t coalitions;                     /* how many minimal winning coalitions have the member */
+	uint64_t swings;                         /* how many winning coalitions lose without it */
+	struct council_fraction deegan_packel;
+	struct council_fraction public_good;
+	struct council_fraction banzhaf;         /* the last three are of swings */
+	struct council_fraction penrose;         /* also called the absolute Banzhaf index */
+	struct council_fraction shapley_shubik;
+};
+
+/* The numbers of a game, or its fault. Set the two sizes before the call. */
+struct council_summary {
+	uint64_t size;         /* sizeof(struct council_summary) */
+	uint64_t member_size;  /* sizeof(struct council_member) */
+	uint64_t fault;        /* an enum council_fault if the status is COUNCIL_GAME, else 0 */
+	uint64_t member;       /* the member that the fault is of, from 1; 0 if of none */
+	uint64_t rule;         /* the rule that it is of, from 1; 0 if of none */
+	uint64_t coalitions;   /* how many minimal winning coalitions there are, 1 to 2^40 */
+	uint64_t winning;      /* how many coalitions win; 0 unless you ask for swings */
+	uint64_t of_size[41];  /* how many minimal winning coalitions have each size, from 0 on */
+	uint64_t totals[4];    /* the total of the weights of each rule; 0 past the last rule */
+};
+
+/* The faults of arrays, in the order in which they are looked for. */
+enum council_fault {
+	COUNCIL_FAULT_RULES = 13,    /* not 1 to 4 rules */
+	COUNCIL_FAULT_MEMBERS = 7,   /* not 1 to 40 members */
+	COUNCIL_FAULT_WEIGHT = 10,   /* a weight above 10^12: the first such member, its first such rule */
+	COUNCIL_FAULT_QUOTA = 11     /* a quota of 0, or above the total of its weights: the first such rule */
+};
+
+/*
+ * Takes a game as arrays: a quota for each rule, and count weights, rules * members of them: those of the first rule,
+ * then those of the second, and so on. Puts the numbers of member i into results[i], and those of the game into
+ * *summary.
+ *
+ * The coalitions are counted by states, and if these are too many, by a walk of at most so many visits (0: 2^64 - 1).
+ * A walk makes some 50 million visits a second; under one rule it makes at most one for each member of each coalition.
+ *
+ * If the status is not 0, the results are unchanged; if it is COUNCIL_OPTIONS, so is the summary. Else its fault, member
+ * and rule say what is wrong.
+ */
+uint32_t council_indices(const uint64_t *quotas, size_t rules, const uint64_t *weights, size_t count, bool swings,
+			 uint64_t visits, struct council_member *results, size_t members, struct council_summary *summary);
+
+/*
+ * Puts the words of a status into text, as much as fits into room bytes, with no byte 0 after them: "bad weight of member
+ * 2". The status is that of council_indices, and *summary what it left. *length is then the length of all the words; 0
+ * for COUNCIL_REPORT, and for what no call gives.
+ */
+void council_explain(uint32_t status, const struct council_summary *summary, char *text, size_t room, uint64_t *length);
+
+/* The version of this file, and the one of the library: 10300 is 1.3.0. */
+#define COUNCIL_VERSION 10300
+uint32_t council_version(void);
+
+/* Returns the double nearest to a fraction, a tie to the even one; 0 for 0/0. */
+static inline double council_double(struct council_fraction fraction)
+{
+	uint64_t high = fraction.top.high, low = fraction.top.low, bits = 0;
+	double unit = 1;
+	if (!(high | low))
+		return 0;
+	/* long division, up to 55 bits of the quotient; the last one says whether anything is left */
+	for (;;) {
+		int over = high > fraction.bottom.high || (high == fraction.bottom.high && low >= fraction.bottom.low);
+		if (over) {
+			high -= fraction.bottom.high + (low < fraction.bottom.low);
+			low -= fraction.bottom.low;
+			bits |= 1;
+		}
+		if (bits >> 54)
+			break;
+		high = high << 1 | low >> 63;
+		low <<= 1;
+		bits <<= 1;
+		unit /= 2;
+	}
+	return (double)(bits | (uint64_t)((high | low) != 0)) * unit;
+}
 
 #ifdef __cplusplus
 }

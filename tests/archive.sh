@@ -126,8 +126,9 @@ fi
 shared=$here/lib/libcouncil.so
 name="in the archive, the shared object"
 if [ -f "$shared" ] && needs nm "$name: its calls"; then
-    found=$(nm -D --defined-only "$shared" | grep -v ' w ' | sed 's/.* //' | tr '\n' ' ')
-    if [ "$found" = "council_report council_swings_report " ]; then ok "$name: it exports its two calls"; else failed "$name: it exports its two calls" "$found"; fi
+    found=$(nm -D --defined-only "$shared" | grep -v ' w ' | sed 's/.* //' | sort | tr '\n' ' ')
+    declared=$(sed -n 's/^[a-z0-9_]* \(council_[a-z_]*\)(.*/\1/p' "$here/include/council.h" | sort | tr '\n' ' ')
+    if [ "$found" = "$declared" ]; then ok "$name: it exports its calls"; else failed "$name: it exports its calls" "$found"; fi
 fi
 if [ -f "$shared" ] && needs objdump "the C library that programs need"; then
     for file in council lib/libcouncil.so; do

@@ -38,8 +38,12 @@ if needs cc "from C" "from threads of C" "from C++"; then
         failed "$name" "$(head -n 1 "$temp/cc")"
     fi
     name="a shared object is linked"
-    if cc -shared -o "$temp/libcouncil.so" -Wl,-u,council_report -Wl,-u,council_swings_report -Wl,-z,defs "$library" 2>"$temp/cc"; then
+    if "$top/tools/shared.sh" "$library" "$temp/libcouncil.so" 2>"$temp/cc"; then
         ok "$name"
+        name="it exports the calls of council.h"
+        calls=$(nm -D --defined-only "$temp/libcouncil.so" | grep -v ' w ' | sed 's/.* //' | sort | tr '\n' ' ')
+        declared=$(sed -n 's/^[a-z0-9_]* \(council_[a-z_]*\)(.*/\1/p' "$top/include/council.h" | sort | tr '\n' ' ')
+        if [ "$calls" = "$declared" ]; then ok "$name"; else failed "$name" "$calls"; fi
         if needs python3 "from Python"; then callers+=(Python); fi
     else
         failed "$name" "$(head -n 1 "$temp/cc")"
@@ -247,6 +251,45 @@ if command -v cc >/dev/null; then
     else
         failed "$name" "$(head -n 1 "$temp/cc")"
     fi
+fi
+
+# ---- arrays: numbers as in the report, from memory between pages that nobody may touch
+# (COUNCIL_GAMES says how many games)
+if command -v cc >/dev/null; then
+    name="arrays: the caller is linked"
+    if cc -std=c99 -D_GNU_SOURCE -O2 -Wall -Wextra -Werror -pedantic -pthread -I"$top/include" -o "$temp/arrays" "$here/arrays.c" "$library" 2>"$temp/cc"; then
+        ok "$name"
+        while read -r -a words; do
+            timeout "$seconds" "$temp/arrays" "${words[@]}" >"$temp/its" 2>&1
+            its=$?
+            if [ "$its" -eq 0 ]; then ok "arrays: ${words[*]}"; else failed "arrays: ${words[*]}" "status $its: $(head -n 1 "$temp/its")"; fi
+        done <<END
+random ${COUNCIL_GAMES:-300} 1
+faults 2000 2
+lengths
+threads
+visits
+words
+END
+    else
+        failed "$name" "$(head -n 1 "$temp/cc")"
+    fi
+fi
+
+# ---- the example of LIBRARY, with the game that it has, and with a fault
+name="the example of LIBRARY in C"
+if command -v cc >/dev/null; then
+    sed -n '/^```c$/,/^```$/p' "$top/docs/LIBRARY.md" | sed '1d; /^```$/,$d' >"$temp/example.c"
+    for weight in 50 1000000000001; do
+        sed "s/{50, /{$weight, /" "$temp/example.c" >"$temp/changed.c"
+        cc -std=c99 -Wall -Wextra -Werror -pedantic -I"$top/include" -o "$temp/example" "$temp/changed.c" "$library" 2>"$temp/cc" && "$temp/example" >"$temp/its" 2>&1
+        its="$? $(tr '\n' ' ' <"$temp/its")"
+        case $weight in
+        50) wanted="0 2 0.500000 1 0.250000 1 0.250000 " ;;
+        *) wanted="3 bad weight of member 1 (rule 1) " ;;
+        esac
+        if [ "$its" = "$wanted" ]; then ok "$name, weight $weight"; else failed "$name, weight $weight" "$its$(head -n 1 "$temp/cc")"; fi
+    done
 fi
 
 # ---- out of memory: each of the first 300 allocations refused in turn, and then every 17th, until

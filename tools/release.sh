@@ -92,11 +92,7 @@ if [ -n "$library" ]; then
     mkdir -p "$folder/lib/pkgconfig" "$folder/include"
     cp "$library" "$folder/lib/libcouncil.a"
     cp "$top/include/council.h" "$folder/include/council.h"
-    # it exports its two calls
-    echo '{ global: council_report; council_swings_report; local: *; };' >"$temp/exports"
-    cc -shared -s -o "$folder/lib/libcouncil.so" -Wl,-soname,libcouncil.so -Wl,-u,council_report -Wl,-u,council_swings_report \
-        -Wl,-z,defs \
-        -Wl,--version-script="$temp/exports" "$library"
+    "$top/tools/shared.sh" "$library" "$folder/lib/libcouncil.so"
     sed "s/@VERSION@/$version/" "$top/tools/archive/council.pc" >"$folder/lib/pkgconfig/council.pc"
     wheel=$(python3 "$top/python/backend.py" wheel "$temp" "$program" "$folder/lib/libcouncil.so")
     case $wheel in

@@ -1,2 +1,4 @@
 mod Buffers
+mod Parts
 mod Stopping
+mod Swinging

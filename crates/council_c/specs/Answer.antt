@@ -44,12 +44,14 @@ StopsOn columns limit bytes cause.States = ShowsSwings columns × ((g : GameView
 -- Why there is none: the options are wrong, or they are right and a run on these bytes stops so.
 abbrev pub StopsCall : Columns → CouncilOptions → List ℕ → Fault → Type 0
 StopsCall columns o bytes fault.Options = are_wrong o ≡ true
+StopsCall columns o bytes fault.TooLong = ⊥
 StopsCall columns o bytes (fault.Run why) =
     (are_wrong o ≡ false) × StopsOn columns (limit_of columns o) bytes why
 
 -- what a fault says
 abbrev pub text_of_call : Fault → List ℕ
 text_of_call fault.Options = codes "bad options"
+text_of_call fault.TooLong = codes "too many visits"
 text_of_call (fault.Run why) = text_of why
 
 -- The buffer shows what the fault says, and `len` is its length. If it could not be formatted, it
@@ -61,6 +63,7 @@ Tells why before after len =
 -- the status, as the program ends with it
 abbrev pub status_of_call : Fault → ℕ
 status_of_call fault.Options = 2
+status_of_call fault.TooLong = 7
 status_of_call (fault.Run why) = status_of why
 
 -- A call that gives status 0 reports, and one that gives another was stopped by a fault of that

@@ -1,2 +1,6 @@
 pub mod Asked
 pub mod Answer
+pub mod Arrays
+pub mod Numbers
+pub mod Indices
+pub mod Explain

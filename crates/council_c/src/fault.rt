@@ -1,8 +1,11 @@
 //! Why there is no report.
 ghost use Rattle.std.specs.Prelude.{◌≡◌, Some};
 ghost use Rattle.council_c.specs.Answer.{Tells, status_of_call, text_of_call};
+ghost use Rattle.council_c.specs.declared.fault.Fault.TheVariants as fault;
+ghost use Rattle.council_run.specs.declared.fault.Cause.TheVariants as cause;
 
 use crate::put::put;
+use council_base::Memory;
 use council_run::{Cause, RunFault, status};
 use std::fmt;
 use std::fmt::InlineText;
@@ -15,6 +18,8 @@ pub enum Fault {
     Options,
     /// The run stopped.
     Run(Cause),
+    /// A walk made as many visits as it may.
+    TooLong,
 }
 
 /// The text of each fault. (By hand: docs/DECISIONS.md says why.)
@@ -25,7 +30,24 @@ impl fmt::Display for Fault {
         match *self {
             Fault::Options => f.write_str("bad options"),
             Fault::Run(cause) => cause.fmt(f),
+            Fault::TooLong => f.write_str("too many visits"),
         }
+    }
+}
+
+impl From<Memory> for Fault {
+    ghost from_gives = { λ _ e. e ≡ fault.Run cause.Memory };
+
+    fn from(_e: Memory) -> Fault {
+        Fault::Run(Cause::Memory)
+    }
+}
+
+impl From<RunFault> for Fault {
+    ghost from_gives = { λ why e. e ≡ fault.Run why.cause };
+
+    fn from(why: RunFault) -> Fault {
+        Fault::Run(why.cause)
     }
 }
 
@@ -37,6 +59,7 @@ impl Fault {
         match self {
             Fault::Options => 2,
             Fault::Run(cause) => u32::from(status(&RunFault { cause, written: 0 })),
+            Fault::TooLong => 7,
         }
     }
 

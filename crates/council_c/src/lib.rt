@@ -1,18 +1,28 @@
-//! Two calls for other languages: from the bytes of a game to its report, in a buffer of the
-//! caller's and in the caller's thread. `include/council.h` declares it for C.
+//! Calls for other languages, in the caller's thread and with the caller's buffers: from a game as
+//! arrays to its numbers, or from the bytes of a game file to its report. `include/council.h`
+//! declares them for C.
 //!
 //! ```text
+//! uint32_t status = council_indices(quotas, 1, weights, 3, false, 0, members, 3, &summary);
 //! uint32_t status = council_report(game, strlen(game), &options, text, sizeof text, &length);
 //! ```
 #![tactic(auto)]
 
+mod arrays;
 mod call;
+mod explain;
 mod fault;
 mod fill;
+mod indices;
+mod numbers;
 mod options;
 mod page;
 mod put;
+mod results;
 
-pub use call::{council_report, council_swings_report};
+pub use call::{
+    council_explain, council_indices, council_report, council_swings_report, council_version,
+};
 pub use fault::Fault;
 pub use options::CouncilOptions;
+pub use results::{CouncilFraction, CouncilMember, CouncilSummary, CouncilWide};

@@ -62,7 +62,7 @@ pub fn count_states<G: Gate>(
 /// # Errors
 ///
 /// Out of memory, or States if there are more than `MOST_STATES`.
-pub(crate) fn find_swings<G: Gate>(alloc: Global, game: &Game, gate: &G) -> Result<Swings, RunFault>
+pub fn find_swings<G: Gate>(alloc: Global, game: &Game, gate: &G) -> Result<Swings, RunFault>
     ensures counts { IfOk result (λ swings. AreWinningCounts game.now swings) }
     ensures fails { IfErr result (λ fault. ((fault.cause ≡ cause.Memory) ⊎ (fault.cause ≡ cause.States))
         × (fault.written ≡ 0)) }

@@ -7,6 +7,7 @@
 //! ```
 #![tactic(auto)]
 
+mod bounded;
 mod columns;
 mod counting;
 mod fault;
@@ -18,11 +19,12 @@ mod number;
 mod order;
 mod runs;
 
+pub use bounded::count_or_stop;
 pub use columns::Columns;
 pub use council_base::{Gate, NoGate, Options, limits};
 pub use counting::{
     FEW_STATES, LEAST_BITS, MOST_STATES, count_by_threads, count_by_walk, count_by_workers,
-    count_states,
+    count_states, find_swings,
 };
 pub use fault::{Cause, RunFault, status};
 pub use findings::{Findings, find_in_one_thread};

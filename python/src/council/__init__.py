@@ -21,8 +21,8 @@ from decimal import Decimal
 from fractions import Fraction
 from typing import Any, Iterable, Optional, Sequence, Union
 
-from .engine import NotFound, Refused, TooMany, compute
-from .game import GAME_FILE, describe_low_quotas, find_slips, format_game
+from .engine import NotFound, Refused, TooMany, compute, count
+from .game import GAME_FILE, NAME, TITLE, describe_low_quotas, find_slips, format_game, is_text
 from .reports import MOST, Coalition, Member, Report
 
 __all__ = ["Coalition", "Member", "NotFound", "Refused", "Report", "TooMany", "format_game_file", "report"]
@@ -81,20 +81,24 @@ def report(
         raise ValueError(f"most is from 1 to {MOST:,}")
     if only_swings and (swings or coalitions):
         raise ValueError("only_swings=True goes without swings=True and coalitions=True")
+    made, rule = None, 0
     if given[0]:
-        data = format_game_file(quota, weights, names=names, title=title, by=by).encode()
+        called, quotas, columns = read_parts(quota, weights, names, by)
+        if not (coalitions or only_swings):
+            made, rule = count_parts(called, quotas, columns, title, swings)
+        data = b"" if made else format_game(called, quotas, zip(*columns), title).encode()
     else:
         if names is not None or title or by is not None:
             raise TypeError("names, a title and by= belong to a quota and weights")
         data = read(file) if file is not None else game if isinstance(game, bytes) else str(game).encode("utf-8", "surrogatepass")
     try:
-        made = Report.from_text(compute(data, listed=coalitions, most=most, only=only_swings if swings or only_swings else None))
+        made = made or Report.from_text(compute(data, listed=coalitions, most=most, only=only_swings if swings or only_swings else None))
     except Refused as fault:
         if not given[0]:
             raise
         # values that were never a file have no lines
         told = re.sub(r"(?m)^line \d+(, column \d+)?: |: each member begins .*", "", fault.explanation).replace("the file has", "the game has")
-        raise type(fault)(fault.status, fault.fault, told, fault.game) from None
+        raise type(fault)(fault.status, fault.fault, told, fault.game, rule or None) from None
     low = describe_low_quotas(made.quotas, made.totals)
     for it in find_slips(data.decode()) + (low if len(low) == len(made.quotas) else []):
         warnings.warn(it, stacklevel=2)
@@ -109,6 +113,27 @@ def read(path: Union[str, "os.PathLike[str]"]) -> bytes:
 
 def format_game_file(quota: Any, weights: Any, *, names: Optional[Iterable[object]] = None, title: str = "", by: Optional[str] = None) -> str:
     """Returns the text of the game file of a quota and weights, as `report` takes them."""
+    called, quotas, columns = read_parts(quota, weights, names, by)
+    return format_game(called, quotas, zip(*columns), title)
+
+
+def count_parts(names: list[str], quotas: list[str], columns: list[list[str]], title: str, swings: bool) -> tuple[Optional[Report], int]:
+    """Returns the report of a game by the library's call that takes arrays, or None if that has no
+    answer; and the rule, from 1, that a fault is of, or 0."""
+    texts = [quotas, *columns]
+    if not all(it.isdigit() and len(it) < 20 for its in texts for it in its) or not is_text(title, TITLE):
+        return None, 0
+    if len(set(names)) != len(names) or not all(it and is_text(it, NAME) for it in names) or not quotas:
+        return None, 0
+    its_quotas, *its_columns = [list(map(int, its)) for its in texts]
+    found = count(its_quotas, its_columns, swings)
+    if found is None or found[0]:
+        return None, found[2].rule if found else 0
+    return Report.from_numbers(title, names, its_quotas, its_columns, *found[1:]), 0
+
+
+def read_parts(quota: Any, weights: Any, names: Optional[Iterable[object]], by: Optional[str]) -> tuple[list[str], list[str], list[list[str]]]:
+    """Returns the names, the quotas and the weights of each rule, as texts."""
     if quota is None or weights is None:
         raise TypeError("give a quota and weights")
     if names is None:
@@ -132,7 +157,7 @@ def format_game_file(quota: Any, weights: Any, *, names: Optional[Iterable[objec
     called = [write_name(it) for it in names] if names is not None else [str(it) for it in range(1, members + 1)]
     if len(called) != members:
         raise ValueError(f"there are {members} weights, and {len(called)} names")
-    return format_game(called, quotas, zip(*columns), title)
+    return called, quotas, columns
 
 
 def turn(table: list[list[str]], rules: int, by: Optional[str]) -> list[list[str]]:

@@ -16,9 +16,13 @@ import re
 import shutil
 import subprocess
 import threading
-from typing import Any, Optional, Sequence
+from fractions import Fraction
+from typing import Any, Callable, Optional, Sequence, TypeVar
 
+from .columns import INDICES
 from .reports import MOST
+
+T = TypeVar("T")
 
 # room for a report without a list, and for one with a list, whose pages take no memory until they
 # are written to; if it is too small, the library is asked a second time
@@ -32,20 +36,21 @@ class NotFound(RuntimeError):
 class Refused(ValueError):
     """A game that council refuses.
 
-    `fault` is what is wrong, for example "bad weight of member 2"; `line` is the line of the game
-    file, or None; `explanation` says what stands there and what is allowed, and is empty if no
-    program was found; `status` is the exit status of the program; `game` is the text of the game
-    file.
+    `fault` is what is wrong, for example "bad weight of member 2"; `member` is that member, and
+    `rule` the rule of the fault, both from 1, or None; `line` is the line of the game file, or
+    None; `explanation` says what stands there and what is allowed, and is empty if no program was
+    found; `status` is the exit status of the program; `game` is the text of the game file.
     """
 
-    def __init__(self, status: int, fault: str, explanation: str = "", game: str = ""):
-        self.status, self.fault, self.explanation, self.game = status, fault, explanation, game
-        found = re.match(r"line (\d+)(?:, column \d+)?:", explanation)
-        self.line: Optional[int] = int(found[1]) if found else None
+    def __init__(self, status: int, fault: str, explanation: str = "", game: str = "", rule: Optional[int] = None):
+        self.status, self.fault, self.explanation, self.game, self.rule = status, fault, explanation, game, rule
+        line, member = re.match(r"line (\d+)(?:, column \d+)?:", explanation), re.search(r"member (\d+)", fault)
+        self.line: Optional[int] = int(line[1]) if line else None
+        self.member: Optional[int] = int(member[1]) if member else None
         super().__init__("\n".join([fault, *explanation.split("\n")]).strip())
 
-    def __reduce__(self) -> tuple[type[Refused], tuple[int, str, str, str]]:
-        return type(self), (self.status, self.fault, self.explanation, self.game)
+    def __reduce__(self) -> tuple[type[Refused], tuple[int, str, str, str, Optional[int]]]:
+        return type(self), (self.status, self.fault, self.explanation, self.game, self.rule)
 
 
 class TooMany(Refused):
@@ -129,6 +134,37 @@ class Options(ctypes.Structure):
     _fields_ = [("most", ctypes.c_uint32), *[(it, ctypes.c_bool) for it in ("tally", "list", "sizes", "notation")]]
 
 
+U64 = ctypes.c_uint64
+
+
+class Wide(ctypes.Structure):
+    """`struct council_wide` of council.h."""
+
+    _fields_ = [("high", U64), ("low", U64)]
+
+
+class Ratio(ctypes.Structure):
+    """`struct council_fraction` of council.h."""
+
+    _fields_ = [("top", Wide), ("bottom", Wide)]
+
+    def exact(self) -> Fraction:
+        """Returns its value."""
+        return Fraction(self.top.high << 64 | self.top.low, self.bottom.high << 64 | self.bottom.low)
+
+
+class Numbers(ctypes.Structure):
+    """`struct council_member` of council.h."""
+
+    _fields_ = [("coalitions", U64), ("swings", U64), *[(it.name, Ratio) for it in INDICES]]
+
+
+class Summary(ctypes.Structure):
+    """`struct council_summary` of council.h."""
+
+    _fields_ = [*[(it, U64) for it in ("size", "member_size", "fault", "member", "rule", "minimal", "winning")], ("of_size", U64 * 41), ("totals", U64 * 4)]
+
+
 def reserve(room: int) -> tuple[mmap.mmap, int]:
     """Returns room for this many bytes, or for few if the system refuses so many at once."""
     try:
@@ -145,8 +181,12 @@ class Library:
     def __init__(self, path: str):
         self.path = path
         library: Any = ctypes.CDLL(path)
-        # (an older library has no swings)
+        # (an older library has no swings, or does not take arrays)
         self._call, self._swings_call = library.council_report, getattr(library, "council_swings_report", None)
+        self._indices = getattr(library, "council_indices", None)
+        if self._indices:
+            place = [ctypes.c_void_p, ctypes.c_size_t]
+            self._indices.restype, self._indices.argtypes = ctypes.c_uint32, [*place, *place, ctypes.c_bool, U64, *place, ctypes.c_void_p]
         game: list[Any] = [ctypes.c_char_p, ctypes.c_size_t, ctypes.POINTER(Options)]
         text = [ctypes.c_char_p, ctypes.c_size_t, ctypes.POINTER(ctypes.c_uint64)]
         for call, only in [(self._call, 0), (self._swings_call, 1)]:
@@ -172,23 +212,32 @@ class Library:
                     return status, str(its, "utf-8")
             room = length.value
 
-    def ask_aside(self, game: bytes, options: Options, only: Optional[bool] = None) -> tuple[int, str]:
-        """Asks in a thread of its own, so that an interrupt ends the wait for a long call."""
-        answers: list[tuple[int, str]] = []
-        faults: list[BaseException] = []
+    def count(self, quotas: Sequence[int], columns: Sequence[Sequence[int]], swings: bool) -> tuple[int, Sequence[Numbers], Summary]:
+        """Returns the status, the numbers of each member, and those of the game, or its fault."""
+        weights = [it for column in columns for it in column]
+        numbers, summary = (Numbers * len(columns[0]))(), Summary(ctypes.sizeof(Summary), ctypes.sizeof(Numbers))
+        arrays = [(U64 * len(it))(*it) for it in (quotas, weights)]
+        status = self._indices(arrays[0], len(quotas), arrays[1], len(weights), swings, 0, numbers, len(numbers), ctypes.byref(summary))
+        return status, numbers, summary
 
-        def work() -> None:
-            try:
-                answers.append(self.ask(game, options, only))
-            except BaseException as it:  # whoever waits raises it again
-                faults.append(it)
 
-        worker = threading.Thread(target=work, name="council", daemon=True)
-        worker.start()
-        worker.join()
-        if faults:
-            raise faults[0]
-        return answers[0]
+def run_aside(call: Callable[[], T]) -> T:
+    """Calls in a thread of its own, so that an interrupt ends the wait for a long call."""
+    answers: list[T] = []
+    faults: list[BaseException] = []
+
+    def work() -> None:
+        try:
+            answers.append(call())
+        except BaseException as it:  # whoever waits raises it again
+            faults.append(it)
+
+    worker = threading.Thread(target=work, name="council", daemon=True)
+    worker.start()
+    worker.join()
+    if faults:
+        raise faults[0]
+    return answers[0]
 
 
 @functools.lru_cache(maxsize=None)
@@ -224,13 +273,19 @@ def compute(game: bytes, *, listed: bool = False, most: int = MOST, program: Opt
         status, text, told = run_program(find_program(program), game, words)
     else:
         options = Options() if only else Options(most=most if listed else 0, tally=not listed, list=listed)
-        status, text = library.ask_aside(game, options, only)
+        status, text = run_aside(lambda: library.ask(game, options, only))
         told = explain(game, words) if status in (3, 4) else ""
     if status == 0:
         return text
     if status not in (1, 3, 4, 6):
         raise MemoryError(text) if text == "out of memory" else RuntimeError(text)
     raise (TooMany if status in (4, 6) else Refused)(status, text, told, game.decode("utf-8", "replace"))
+
+
+def count(quotas: Sequence[int], columns: Sequence[Sequence[int]], swings: bool) -> Optional[tuple[int, Sequence[Numbers], Summary]]:
+    """Returns what `Library.count` does, or None if no library takes arrays."""
+    library = find_library()
+    return run_aside(lambda: library.count(quotas, columns, swings)) if library and library._indices else None
 
 
 def run_program(program: str, game: bytes, words: Sequence[str]) -> tuple[int, str, str]:

@@ -8,7 +8,7 @@ import io
 import itertools
 import math
 from fractions import Fraction
-from typing import TYPE_CHECKING, Any, Callable, Iterable, Iterator, NamedTuple, NoReturn, Optional
+from typing import TYPE_CHECKING, Any, Callable, Iterable, Iterator, NamedTuple, NoReturn, Optional, Sequence
 
 from .columns import FORMS, MINIMAL, SWINGS, Group, Index
 
@@ -139,11 +139,15 @@ def read_index(fraction: str, decimals: str) -> Fraction:
 
 def read_member(name: str, weights: str, *fields: str) -> Member:
     """Reads the fields of a line `member`, whose number says which columns it has."""
-    columns: dict[str, Any] = {"name": name, "weights": read_numbers(weights)}
     left = iter(fields)
-    for group in FORMS[len(fields)]:
-        number = read_number(next(left))
-        exact = [read_index(next(left), next(left)) for _ in group.indices]
+    groups = {it: (read_number(next(left)), [read_index(next(left), next(left)) for _ in it.indices]) for it in FORMS[len(fields)]}
+    return make_member(name, read_numbers(weights), groups)
+
+
+def make_member(name: str, weights: tuple[int, ...], groups: dict[Group, tuple[int, list[Fraction]]]) -> Member:
+    """Returns the member with the number of its coalitions and the indices of each group."""
+    columns: dict[str, Any] = {"name": name, "weights": weights}
+    for group, (number, exact) in groups.items():
         columns.update(zip(group.columns(), [number, *map(float, exact), *exact]))
     return Member(columns)
 
@@ -208,6 +212,22 @@ class Report:
             whole = False
         if not (whole and self._is_sound()):
             raise Fault("the report is not whole, or its numbers are not those of council")
+
+    @classmethod
+    def from_numbers(cls, title: str, names: Sequence[str], quotas: Sequence[int], columns: Sequence[Sequence[int]], numbers: Sequence[Any], game: Any) -> Report:
+        """Returns the report with the numbers of each member, and those of the game, as the library
+        has them. `columns` has the weights of each rule."""
+        it = cls.__new__(cls)
+        it.title, it.quotas, it.totals = title, tuple(quotas), tuple(map(sum, columns))
+        it.minimal, it.winning = game.minimal, game.winning or None
+        it.listed, it._kept, it._unread = 0, None, ""
+        it.members = [
+            make_member(name, weights, {group: (getattr(its, group.column), [getattr(its, index.name).exact() for index in group.indices]) for group in it.groups})
+            for name, weights, its in zip(names, zip(*columns), numbers)
+        ]
+        if not it._is_sound():
+            raise Fault("the numbers are not those of council")
+        return it
 
     def _read(self, lines: Iterable[str], take: Callable[[Any], object], read: Callable[..., Any]) -> dict[str, str]:
         """Reads the lines, and returns the fields of those that a report has once."""

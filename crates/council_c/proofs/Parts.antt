@@ -1,0 +1,60 @@
+-- Names and rules, one more at a time.
+use Rattle.std.proofs.Common.{◌≡◌, ◌∙◌, ◌≤◌, ◌<◌, ◌+◌, ◌*◌, ◌-◌, ◌⊎◌, ℕ, List, [], ◌∷◌, ◌++◌, length, map, take, drop, decimal, String, Global, string_bytes, refl, sym, ap, arith, true, false}
+use Rattle.std.proofs.lemmas.{List.FromFn.map-range_with_len_more, List.FromFn.length-map-range_with_len, List.length-map, List.map_push}
+use Rattle.std.proofs.lemmas.{Bool.Decides.nat_tests, Grind.common_steps}
+use Rattle.std.specs.List.{range_with_len}
+use Rattle.std.proofs.Common.{Bool, Option, None, Result, Ok, Err, if◌then◌else◌}
+use Rattle.council_file.specs.Bracket.{counted_names}
+use Rattle.council_game.specs.{Fault.◌>>=◌, Fault.refuse, Fault.refuse_at, Game.GameView, Game.first_weights, Ranks.rank_places, Votes.RuleView}
+unfoldable pub use Rattle.council_game.specs.Game.{made_game}
+use Rattle.council_game.specs.declared.fault.GameFault.{GameFault}
+use Rattle.council_game.specs.declared.fault.GameFault.TheVariants.{Title, Members, Name, SameName, Weight, QuotaRange, Rules}
+use Rattle.council_game.specs.{Rules.rule_view, Rules.rule_views}
+use Rattle.council_game.specs.declared.rule.Rule.{Rule}
+use Rattle.council_c.specs.Arrays.{game_of_arrays, rule_of, rules_of}
+
+-- one name more
+pub names_more : (names : List (String Global)) (name : String Global) (k : ℕ) → map string_bytes names ≡ map decimal (range_with_len 1 k)
+    → string_bytes name ≡ decimal (k + 1) → map string_bytes (names ++ name ∷ []) ≡ map decimal (range_with_len 1 (k + 1))
+names_more names name k before this =
+    rw (map_push string_bytes names name, map-range_with_len_more decimal 1 k (k + 1) (omega arith), before, this) refl
+
+-- one rule more
+pub rules_more : (rules : List Rule) (rule : Rule) (q w : List ℕ) (n k : ℕ) → rule_views rules ≡ map (rule_of q w n) (range_with_len 0 k)
+    → rule_view rule ≡ rule_of q w n k → rule_views (rules ++ rule ∷ []) ≡ map (rule_of q w n) (range_with_len 0 (k + 1))
+rules_more rules rule q w n k before this =
+    rw (map_push rule_view rules rule, map-range_with_len_more (rule_of q w n) 0 k k (omega arith), before, this) refl
+
+-- the first check is whether there are 1 to 40 members
+pub no-member : (n : ℕ) (rules : List RuleView) → n < 1 → made_game None (counted_names n) rules ≡ Err Members
+unfolding made_game
+no-member n rules few = grind (arith, nat_tests, common_steps, length-map-range_with_len)
+
+pub many-members : (n : ℕ) (rules : List RuleView) → 40 < n → made_game None (counted_names n) rules ≡ Err Members
+unfolding made_game
+many-members n rules many = grind (arith, nat_tests, common_steps, length-map-range_with_len)
+
+pub ruleset wrong_members = (no-member, many-members)
+
+-- a game that is made has its names
+checks-made : (title count : Bool) (name repeat weight : Option ℕ) (quota : Bool) (made g : GameView)
+    → (refuse title Title >>= (λ _. refuse count Members >>= (λ _. refuse_at Name name >>=
+    (λ _. refuse_at SameName repeat >>= (λ _. refuse_at Weight weight >>= (λ _. refuse quota QuotaRange >>= (λ _. Ok made))))))) ≡ Ok g
+    → g ≡ made
+checks-made false false None None None false made g h = cc
+checks-made title count name repeat weight quota made g h = absurd (cc)
+
+made-is : (title : Option (List ℕ)) (names : List (List ℕ)) (rules : List RuleView) (g : GameView) → made_game title names rules ≡ Ok g
+    → g ≡ record { title = title; names = names; rules = rules; ranks = rank_places (first_weights rules) }
+unfolding made_game
+made-is title names rules g h = checks-made _ _ _ _ _ _ _ g h
+
+if-made : (b : Bool) (x : Result GameView GameFault) (g : GameView) → (if b then x else Err Rules) ≡ Ok g → x ≡ Ok g
+if-made true x g h = h
+if-made false x g h = absurd (cc)
+
+-- the game of arrays has as many members as they say
+pub members-of-arrays : (q w : List ℕ) (n : ℕ) (g : GameView) → game_of_arrays q w n ≡ Ok g → length g.names ≡ n
+unfolding game_of_arrays
+members-of-arrays q w n g h =
+    ap (λ (v : GameView). length v.names) (made-is None (counted_names n) (rules_of q w n) g (if-made _ _ g h)) ∙ length-map-range_with_len decimal 1 n

@@ -1,0 +1,15 @@
+-- The numbers of a member with those of its swings.
+use Rattle.std.proofs.Common.{◌≡◌, ℕ, refl, true}
+use Rattle.council_game.specs.Game.{GameView}
+use Rattle.power_index.specs.Fractions.{lowest_terms}
+use Rattle.swings.specs.Indices.{banzhaf, penrose, shapley_shubik}
+use Rattle.swings.specs.Swings.{swings}
+use Rattle.council_c.specs.Numbers.{in_words, minimal_numbers, numbers}
+use Rattle.council_c.specs.declared.results.CouncilFraction.{CouncilFraction}
+use Rattle.council_c.specs.declared.results.CouncilMember.{CouncilMember}
+
+pub with-swings : (g : GameView) (i : ℕ) (m : CouncilMember) (s : ℕ) (b p h : CouncilFraction) → m ≡ minimal_numbers g i → s ≡ swings g i
+    → b ≡ in_words (lowest_terms (banzhaf g i)) → p ≡ in_words (lowest_terms (penrose g i)) → h ≡ in_words (lowest_terms (shapley_shubik g i))
+    → record m { swings = s; banzhaf = b; penrose = p; shapley_shubik = h } ≡ numbers true g i
+with-swings g i m s b p h numbers-are swings-are banzhaf-is penrose-is shapley-is =
+    rw (numbers-are, swings-are, banzhaf-is, penrose-is, shapley-is) refl
