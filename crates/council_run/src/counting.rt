@@ -26,9 +26,9 @@ use swings::Swings;
 /// The most states by which a game is counted. With four times as many hardly another game is.
 pub const MOST_STATES: usize = 1 << 22;
 
-/// The most states by which a game is counted before its coalitions are listed, which takes about
-/// a millisecond.
-pub const FEW_STATES: usize = 1 << 10;
+/// The most states by which a game is counted before its coalitions are listed. It takes about a
+/// millisecond to see that a game of 26 members has more.
+pub const FEW_STATES: usize = 1 << 9;
 
 /// A tally has at least 2^8 slices if there are 8 members: the last of them are the longest, and
 /// with fewer one thread would still count when the others have ended.

@@ -6,7 +6,7 @@ pub use Rattle.mwc_states.specs.Inner.Counting.{AreCompleting, AreLeading, IsWit
 pub use Rattle.mwc_states.specs.declared.{what.What.TheVariants.Minimal, what.What.TheVariants.Winning}
 pub use Rattle.mwc_states.specs.Inner.{Graphs.IsBuilding, Graphs.IsGraphOf, Links.AreSizesOf, Links.rows_at, Sets.MOST, Sets.has, States.needs_each}
 pub use Rattle.mwc_states.specs.Inner.{Links.link_at, Links.lists, Tables.IsLevel}
-pub use Rattle.mwc_states.specs.{Inner.Games.AreRowsOf, Inner.Games.IsFilled, declared.what.What.What}
+pub use Rattle.mwc_states.specs.{Inner.Games.AreRowsOf, declared.what.What.What}
 pub use Rattle.mwc_states.specs.Inner.{Later.misses_left, Later.weigh_able, States.fits, States.misses_all}
 pub use Rattle.mwc_states.specs.Inner.Sums.{AreListed, AreSums, IsAscending, row_at}
 pub use Rattle.std.proofs.Common.{max, min, not, refl, rules, set, subst, suc, sum_by, sym, take, take_all, true, zero, zero-add, ℕ, ◌&&◌}

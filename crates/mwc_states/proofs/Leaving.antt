@@ -1,12 +1,33 @@
--- What is left of a state once a member is decided.
-use Rattle.mwc_states.proofs.Imports.{list_all-map, drop_more, What, Minimal, Winning, weigh, meets, without_one, row_at}
-use Rattle.mwc_states.proofs.Imports.{◌≡◌, ◌∙◌, ℕ, ◌+◌, ◌-◌, ◌<◌, Bool, true, false, not, ◌&&◌, cond, List, [], ◌∷◌, length, get_or}
-use Rattle.mwc_states.proofs.Imports.{take, drop, ap, sym, arith, list_all, nat_tests, needs_each, completes, fits, misses_all, misses_left}
+-- Rows that are all missed, and what is left of a state once a member is decided.
+use Rattle.mwc_states.proofs.Imports.{◌≡◌, ◌∙◌, ℕ, Bool, true, not, ◌&&◌, List, [], ◌∷◌, ◌++◌, get_or, take, drop, filter, ap, sym, refl, arith, list_all}
+use Rattle.mwc_states.proofs.Imports.{nat_tests, meets, misses_all, list_all-map, drop_more, What, Minimal, Winning, weigh, without_one, row_at, ◌+◌, ◌-◌}
+use Rattle.mwc_states.proofs.Imports.{◌<◌, false, cond, length, needs_each, completes, fits, misses_left}
 use Rattle.std.specs.List.{list_any}
+use Rattle.std.proofs.Common.{take-append-drop}
+use Rattle.std.proofs.lemmas.List.Folds.{list_all-append, list_all_more}
+use Rattle.mwc_states.proofs.Meeting.{meets-through, meets-left}
 use Rattle.mwc_states.specs.Inner.Tables.{Leads}
-use Rattle.std.proofs.lemmas.List.Folds.{list_all_more}
-use Rattle.mwc_states.proofs.Implied.{misses_all-implied}
-use Rattle.mwc_states.proofs.Meeting.{meets-left}
+
+-- a row that meets one of them
+pub misses_all-implied : (w : ℕ → ℕ) (x : List ℕ) (rows : List (List ℕ)) → list_any (λ row. meets (λ r. get_or x r 0) row) rows ≡ true
+    → misses_all w rows ≡ (misses_all w rows && not (meets w x))
+misses_all-implied w x [] any = cc
+misses_all-implied w x (row ∷ rows) any = grind (arith, nat_tests, misses_all-implied w x rows, meets-through w x row)
+
+-- without those that meet it
+pub misses_all-filter : (w : ℕ → ℕ) (x : List ℕ) (rows : List (List ℕ))
+    → (misses_all w (filter (λ row. not (meets (λ r. get_or row r 0) x)) rows) && not (meets w x)) ≡ (misses_all w rows && not (meets w x))
+misses_all-filter w x [] = refl
+misses_all-filter w x (row ∷ rows) = grind (arith, nat_tests, misses_all-filter w x rows, meets-through w row x)
+
+and-swap : (a b c : Bool) → (a && (b && c)) ≡ ((a && c) && b)
+and-swap a b c = grind (arith, nat_tests)
+
+pub misses_all-insert : (w : ℕ → ℕ) (x : List ℕ) (rows : List (List ℕ)) (i : ℕ) → misses_all w (take i rows ++ x ∷ drop i rows) ≡ (misses_all w rows && not (meets w x))
+misses_all-insert w x rows i =
+    let miss : List ℕ → Bool = λ row. not (meets w row) in
+    list_all-append miss (take i rows) (x ∷ drop i rows) ∙ and-swap (misses_all w (take i rows)) (miss x) (misses_all w (drop i rows))
+    ∙ ap (λ b. b && miss x) (sym (list_all-append miss (take i rows) (drop i rows)) ∙ ap (list_all miss) (take-append-drop i rows))
 
 -- the row y is what is left of x, as far as sets of the later members tell
 abbrev pub Alike : List (List ℕ) → List ℕ → Bool → List ℕ → List ℕ → Type 0

@@ -1,14 +1,10 @@
 mod Able
 mod Building
 mod Coalitions
-mod Implied
 mod Imports
 mod Leaving
-mod Levels
-mod Lowering
 mod Masks
 mod Meeting
 mod Merging
-mod SetCounts
 mod Tables
 mod Worth

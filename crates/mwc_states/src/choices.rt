@@ -85,10 +85,6 @@ fn follow(
 }
 
 /// Decides the member of a level in all choices of those before it.
-///
-/// # Errors
-///
-/// Returns `Memory` if an allocation was refused.
 pub(crate) fn decide_all(
     alloc: Global,
     levels: &[Links],

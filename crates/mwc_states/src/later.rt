@@ -39,10 +39,6 @@ impl<'m> Later<'m> {
     /// Lists the sums of these members' subsets under each of the first `rules` rules.
     ///
     /// Under a rule with more than `limit` sums none are listed, and no row is raised by them.
-    ///
-    /// # Errors
-    ///
-    /// Returns `Memory` if memory was refused.
     pub(crate) fn new(
         alloc: Global,
         members: &'m [Row],
@@ -122,10 +118,6 @@ impl<'m> Later<'m> {
     }
 
     /// Adds a row to the misses of a state with this need, if it tells anything.
-    ///
-    /// # Errors
-    ///
-    /// Returns `Memory` if memory was refused.
     pub(crate) fn add_miss(
         &self,
         need: &Row,

@@ -15,10 +15,6 @@ pub(crate) fn is_implied(rows: &[Row], miss: &Row) -> bool
 }
 
 /// Adds a row to the misses of a state, which are in order, and drops those that it implies.
-///
-/// # Errors
-///
-/// Returns `Memory` if memory was refused.
 pub(crate) fn add(rows: &mut Vec<Row>, miss: &Row) -> Result<(), Memory>
     ensures { OnOk result ((weights : ℕ → ℕ) → misses_all weights rows.new.items
         ≡ (misses_all weights rows.old.items && not (meets weights miss.now))) }

@@ -176,10 +176,6 @@ fn count_from(
 ///
 /// Member i is decided at level i, and the root is row 0 of level 0. Choices are counted from the
 /// first level on, and sets that complete them from the last one back.
-///
-/// # Errors
-///
-/// Returns `Memory` if an allocation was refused.
 pub(crate) fn count(alloc: Global, levels: &[Links]) -> Result<Box<SetCounts>, Memory>
     requires { IsGraph (lists levels.now) }
     ensures all { IfOk result (λ counts. AreSizesOf (lists levels.now) (λ set. true) counts.value.all) }

@@ -15,10 +15,6 @@ use council_base::Memory;
 
 /// Lists what the later members must miss once a member is decided: what was to be missed before,
 /// and the need, if the member is taken, since a minimal set cannot spare it.
-///
-/// # Errors
-///
-/// Returns `Memory` if memory was refused.
 fn list_misses(
     state: &[Row],
     member: &Row,
@@ -45,10 +41,6 @@ fn list_misses(
 
 /// Puts the need and the misses that a state leaves into `left`, or no row if no minimal set
 /// completes it.
-///
-/// # Errors
-///
-/// Returns `Memory` if memory was refused.
 fn leave(
     state: &[Row],
     member: &Row,
@@ -73,10 +65,6 @@ fn leave(
 }
 
 /// Decides a member in a state, and puts what is left into `left`: no row if no set completes it.
-///
-/// # Errors
-///
-/// Returns `Memory` if memory was refused.
 pub(crate) fn decide(
     what: What,
     state: &[Row],

@@ -1,7 +1,7 @@
 -- A game's members and quotas as rows, the members by rank place; and which coalitions are counted.
 use Rattle.std.specs.Prelude.{ℕ, ◌≡◌, ◌<◌, ◌≤◌, ◌^◌, Bool, true, List, [], length, slice_index, slice_index_or}
 use Rattle.std.specs.List.{filter}
-use Rattle.council_base.specs.declared.limits.TheConstants.{MEMBERS, RULES}
+use Rattle.council_base.specs.declared.limits.TheConstants.{MEMBERS}
 use Rattle.council_game.specs.Votes.{RuleView, Votes, down, has, minimal, rule_at, wins}
 use Rattle.council_game.specs.Game.{AreNonemptyCoalitions, GameView}
 use Rattle.mwc_states.specs.declared.set_counts.SetCounts.{SetCounts}
@@ -31,12 +31,6 @@ pub record AreCountsOf (g : GameView) (list : List ℕ) (counts : SetCounts) : T
   pub coalitions : AreNonemptyCoalitions g list
   pub all : AreSizeCounts (length g.names) (λ _. true) list counts.all
   pub each : (p : ℕ) → p < length g.names → AreSizeCounts (length g.names) (has (length g.names) p) list (slice_index_or counts.each p [])
-
--- a row whose first i numbers are those of a function; the others are 0
-pub record IsFilled (f : ℕ → ℕ) (i : ℕ) (row : List ℕ) : Type 0 where
-  pub long : length row ≡ RULES
-  pub below : (r : ℕ) → r < i → slice_index row r ≡ f r
-  pub above : (r : ℕ) → i ≤ r → slice_index row r ≡ 0
 
 -- the rows of the first i places
 pub record AreFirstRows (rules : List RuleView) (rows : List (List ℕ)) (i : ℕ) : Type 0 where

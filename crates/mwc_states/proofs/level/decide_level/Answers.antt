@@ -1,4 +1,4 @@
-use Rattle.mwc_states.proofs.{Imports.◌≡◌, Imports.arith, Imports.length, Levels.decided-more, Levels.level-found}
+use Rattle.mwc_states.proofs.{Imports.◌≡◌, Imports.arith, Imports.length, Building.decided-more, Building.level-found}
 use Rattle.mwc_states.proofs.level.decide_level.Goals as goal
 
 pub loop-place-preserved : goal.loop-place-preserved

@@ -1,6 +1,6 @@
 use Rattle.mwc_states.proofs.Imports.{◌∙◌, ◌&&◌, not, get_or, ap, rules, meets, misses_all}
 use Rattle.std.proofs.{Common.tests, lemmas.Fn.filter_same}
-use Rattle.mwc_states.proofs.Implied.{misses_all-filter, misses_all-insert}
+use Rattle.mwc_states.proofs.Leaving.{misses_all-filter, misses_all-insert}
 use Rattle.mwc_states.proofs.misses.add.Goals as goal
 
 pub returns : goal.returns

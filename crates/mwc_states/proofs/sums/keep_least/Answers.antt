@@ -1,4 +1,4 @@
-use Rattle.mwc_states.proofs.{Imports.arith, Lowering.lowered-more}
+use Rattle.mwc_states.proofs.{Imports.arith, Merging.lowered-more}
 use Rattle.mwc_states.proofs.sums.keep_least.Goals as goal
 
 pub loop-k-preserved : goal.loop-k-preserved

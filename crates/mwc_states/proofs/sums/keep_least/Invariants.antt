@@ -1,4 +1,4 @@
-use Rattle.mwc_states.proofs.Lowering.{IsLowered}
+use Rattle.mwc_states.proofs.Merging.{IsLowered}
 use Rattle.mwc_states.proofs.sums.keep_least.Given as goal
 
 abbrev pub invariant-loop-k : goal.invariant-loop-k

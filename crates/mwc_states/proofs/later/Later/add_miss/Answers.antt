@@ -1,5 +1,5 @@
 use Rattle.mwc_states.proofs.Imports.{◌≡◌, ◌∙◌, Bool, List, true, and_parts, arith, fits, meets, nat_tests, needs_each, sym, weigh, ℕ}
-use Rattle.mwc_states.proofs.Implied.{misses_all-implied}
+use Rattle.mwc_states.proofs.Leaving.{misses_all-implied}
 use Rattle.mwc_states.proofs.later.Later.add_miss.Goals as goal
 
 meets-need : (members : List (List ℕ)) (need : List ℕ) (set : List Bool) → fits members need set ≡ true → meets (weigh members set) need ≡ true

@@ -1,4 +1,4 @@
-use Rattle.mwc_states.proofs.{Imports.arith, Lowering.sums-lowered}
+use Rattle.mwc_states.proofs.{Imports.arith, Merging.sums-lowered}
 use Rattle.mwc_states.proofs.sums.Sums.new.Goals as goal
 
 pub returns : goal.returns

@@ -1,6 +1,6 @@
 use Rattle.mwc_states.proofs.Imports.{ℕ, List, get_or, ltb, arith, rules, subst, sym, ◌∙◌, ap, AreSums}
 use Rattle.std.proofs.lemmas.List.Sorted.{IsPartitionPoint-from_clause, IsPartitionedBy-ltb, IsNonDecreasingBy-from_default}
-use Rattle.mwc_states.proofs.Lowering.{meets-raised}
+use Rattle.mwc_states.proofs.Merging.{meets-raised}
 use Rattle.mwc_states.proofs.sums.Sums.raise.Goals as goal
 
 pub returns-then-at-len-clause-met : goal.returns-then-at-len-clause-met
