@@ -63,20 +63,6 @@ impl Waker {
             self.wake();
         }
     }
-
-    /// Lets the thread look twice as often: a look found something to do.
-    fn look_more_often(&self) {
-        let looks = self.looks.load(Ordering::Relaxed);
-        self.looks
-            .store(MOST_LOOKS.min(looks.saturating_mul(2)), Ordering::Relaxed);
-    }
-
-    /// Lets the thread look an eighth less often: it had to sleep.
-    fn look_less_often(&self) {
-        let looks = self.looks.load(Ordering::Relaxed);
-        self.looks
-            .store(FEWEST_LOOKS.max(looks - looks / 8), Ordering::Relaxed);
-    }
 }
 
 /// The wakers of the gatherer and of 16 workers.
@@ -139,7 +125,10 @@ impl Backoff {
     /// Starts again: there was something to do.
     pub fn renew(&mut self, waker: &Waker) {
         if self.looks > 0 && !self.slept {
-            waker.look_more_often();
+            let looks = waker.looks.load(Ordering::Relaxed);
+            waker
+                .looks
+                .store(MOST_LOOKS.min(looks.saturating_mul(2)), Ordering::Relaxed);
         }
         if self.announced {
             waker.asleep.store(false, Ordering::SeqCst);
@@ -154,7 +143,10 @@ impl Backoff {
                 .parker
                 .park_timeout(rt, Duration::from_millis(LONGEST));
             waker.asleep.store(false, Ordering::SeqCst);
-            waker.look_less_often();
+            let looks = waker.looks.load(Ordering::Relaxed);
+            waker
+                .looks
+                .store(FEWEST_LOOKS.max(looks - looks / 8), Ordering::Relaxed);
             self.announced = false;
             self.slept = true;
         } else if self.looks < waker.looks.load(Ordering::Relaxed) {

@@ -47,7 +47,13 @@ pub fn replay<T: Copy>(alloc: Global, capacity: u32, steps: &[Step<T>]) -> Resul
     ensures closed { IfOk result (λ trace. trace.closed ≡ list_any is_close steps.now) }
 {
     let mut pipe = Pipe::new(alloc, capacity);
-    let mut trace = Trace::new(alloc);
+    let mut trace = Trace {
+        replies: Vec::new(alloc),
+        came: Vec::new(alloc),
+        gone: Vec::new(alloc),
+        inside: Vec::new(alloc),
+        closed: false,
+    };
     trace.serve_all(&mut pipe, steps)?;
     trace.closed = pipe.is_closed();
     trace.inside = items_of(alloc, pipe)?;
@@ -55,21 +61,6 @@ pub fn replay<T: Copy>(alloc: Global, capacity: u32, steps: &[Step<T>]) -> Resul
 }
 
 impl<T: Copy> Trace<T> {
-    /// Makes the trace of no step.
-    fn new(alloc: Global) -> Trace<T>
-        ensures replies { result.replies.items ≡ [] }
-        ensures came { result.came.items ≡ [] }
-        ensures gone { result.gone.items ≡ [] }
-    {
-        Trace {
-            replies: Vec::new(alloc),
-            came: Vec::new(alloc),
-            gone: Vec::new(alloc),
-            inside: Vec::new(alloc),
-            closed: false,
-        }
-    }
-
     /// Notes a step and the reply to it.
     fn add(&mut self, step: Step<T>, reply: Reply<T>) -> Result<(), Memory>
         ensures replies { OnOk result (self.new.replies.items ≡ self.old.replies.items ++ reply ∷ []) }

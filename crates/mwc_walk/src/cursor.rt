@@ -241,11 +241,11 @@ impl Cursor {
         ensures few { self.new.visits ≤ self.old.visits + 1 }
     {
         let place = self.place;
-        if !self.reaches(game, rules) || self.passes_by(game, rules, prices) {
+        if !all_reach(&self.lanes[..rules], place) || self.passes_by(game, rules, prices) {
             self.fresh = false;
             return Seek::NotYet;
         }
-        if !self.wins(game, rules) {
+        if !all_win(&self.lanes[..rules]) {
             take_in(&mut self.lanes[..rules], place);
             self.prefix = 2 * self.prefix + 1;
             self.place += 1;
@@ -255,26 +255,6 @@ impl Cursor {
         let found = Coalition::of_mask(mask_of(self.prefix, place, self.members));
         self.fresh = false;
         Seek::Found(found)
-    }
-
-    /// Whether each quota can still be met.
-    #[inline(always)]
-    fn reaches(&self, game: &Game, rules: usize) -> bool
-        requires is { CursorIs (votes_of game.now) self.now }
-        requires rules { rules ≡ length (votes_of game.now).rules }
-        ensures { result ≡ reaches (votes_of game.now).rules self.now.place self.now.prefix }
-    {
-        all_reach(&self.lanes[..rules], self.place)
-    }
-
-    /// Whether the prefix wins by itself.
-    #[inline(always)]
-    fn wins(&self, game: &Game, rules: usize) -> bool
-        requires is { CursorIs (votes_of game.now) self.now }
-        requires rules { rules ≡ length (votes_of game.now).rules }
-        ensures { result ≡ wins_at (votes_of game.now).rules self.now.place self.now.prefix }
-    {
-        all_win(&self.lanes[..rules])
     }
 
     /// Whether the prefix is passed by, because no coalition below it is minimal: it has a member
