@@ -1,9 +1,8 @@
 -- Members that a minimal set may have.
 use Rattle.mwc_states.proofs.Imports.{list_all, and_parts, both_ways, not-true, nat_tests, list_all-map, get_or-range_with_len, sum_by-cons}
 use Rattle.mwc_states.proofs.Imports.{◌≡◌, ◌∙◌, ℕ, ◌+◌, ◌≤◌, Bool, true, false, not, cond, List, [], ◌∷◌, get_or, sym, arith, zero-add}
-use Rattle.mwc_states.proofs.Imports.{MOST, min, weigh, meets, without_one, needs_each, fits, weigh_able}
-use Rattle.std.proofs.lemmas.Bool.{cond-true, cond_both, false_from_ne_true, true_from_ne_false}
-use Rattle.std.proofs.lemmas.List.Folds.{list_any_at}
+use Rattle.mwc_states.proofs.Imports.{MOST, min, weigh, meets, without_one, needs_each, fits, weigh_able, false_from_ne_true}
+use Rattle.std.proofs.lemmas.{Bool.cond-true, Bool.cond_both, Bool.true_from_ne_false, List.Folds.list_any_at}
 use Rattle.mwc_states.specs.Inner.Later.{is_able}
 use Rattle.mwc_states.proofs.Meeting.{Reaches, reach, reached}
 

@@ -1,11 +1,10 @@
 -- Levels of the graph: what the states of a table leave, and the graph, one level after the other.
-use Rattle.mwc_states.proofs.Imports.{◌≡◌, ◌∙◌, ℕ, ◌*◌, ◌+◌, ◌<◌, Bool, true, false, cond, List, [], ◌∷◌, ◌++◌, length, get_or, sym, ap, arith, inl, inr}
-use Rattle.mwc_states.proofs.Imports.{length-append, cases_lt, get_or_append_left, get_or_push, What, completes, IsLevel, zero, suc, ◌^◌, ◌≤◌, refl, drop}
-use Rattle.mwc_states.proofs.Imports.{drop-cons, length-drop, Minimal, Winning, accepts, rows_at, link_at, IsBuilding, IsGraphOf, meets, without_one}
-use Rattle.mwc_states.proofs.Imports.{weigh}
-use Rattle.mwc_states.specs.Inner.Tables.{AreDecided, AreFound, Leads, IsLast}
+use Rattle.mwc_states.proofs.Imports.{zero, suc, ◌^◌, ◌≤◌, refl, drop, drop-cons, length-drop, Minimal, Winning, accepts, rows_at, link_at}
+use Rattle.mwc_states.proofs.Imports.{arith, inl, inr, length-append, cases_lt, get_or_append_left, get_or_push, What, completes, IsLevel}
+use Rattle.mwc_states.proofs.Imports.{◌≡◌, ◌∙◌, ℕ, ◌*◌, ◌+◌, ◌<◌, Bool, true, false, cond, List, [], ◌∷◌, ◌++◌, length, get_or, sym, ap}
+use Rattle.mwc_states.proofs.Imports.{IsBuilding, IsGraphOf, meets, without_one, weigh, AreDecided, Leads}
+use Rattle.mwc_states.specs.Inner.{Graphs.Continue, Tables.AreFound, Tables.IsLast}
 use Rattle.std.proofs.Common.{append_assoc, append-nil, add-one}
-use Rattle.mwc_states.specs.Inner.Graphs.{Continue}
 
 abbrev Rows : Type 0
 Rows = List (List ℕ)

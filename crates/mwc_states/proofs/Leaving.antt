@@ -1,12 +1,11 @@
 -- Rows that are all missed, and what is left of a state once a member is decided.
-use Rattle.mwc_states.proofs.Imports.{◌≡◌, ◌∙◌, ℕ, Bool, true, not, ◌&&◌, List, [], ◌∷◌, ◌++◌, get_or, take, drop, filter, ap, sym, refl, arith, list_all}
-use Rattle.mwc_states.proofs.Imports.{nat_tests, meets, misses_all, list_all-map, drop_more, What, Minimal, Winning, weigh, without_one, row_at, ◌+◌, ◌-◌}
-use Rattle.mwc_states.proofs.Imports.{◌<◌, false, cond, length, needs_each, completes, fits, misses_left}
+use Rattle.mwc_states.proofs.Imports.{arith, list_all, nat_tests, meets, misses_all, list_all-map, drop_more, What, Minimal, Winning, weigh}
+use Rattle.mwc_states.proofs.Imports.{◌≡◌, ◌∙◌, ℕ, Bool, true, not, ◌&&◌, List, [], ◌∷◌, ◌++◌, get_or, take, drop, filter, ap, sym, refl}
+use Rattle.mwc_states.proofs.Imports.{without_one, row_at, ◌+◌, ◌-◌, ◌<◌, false, cond, length, needs_each, completes, fits, Leads}
+use Rattle.mwc_states.specs.Inner.Later.{misses_left}
 use Rattle.std.specs.List.{list_any}
-use Rattle.std.proofs.Common.{take-append-drop}
-use Rattle.std.proofs.lemmas.List.Folds.{list_all-append, list_all_more}
+use Rattle.std.proofs.{Common.take-append-drop, lemmas.List.Folds.list_all-append, lemmas.List.Folds.list_all_more}
 use Rattle.mwc_states.proofs.Meeting.{meets-through, meets-left}
-use Rattle.mwc_states.specs.Inner.Tables.{Leads}
 
 -- a row that meets one of them
 pub misses_all-implied : (w : ℕ → ℕ) (x : List ℕ) (rows : List (List ℕ)) → list_any (λ row. meets (λ r. get_or x r 0) row) rows ≡ true
@@ -40,12 +39,8 @@ alike-left members member taken x less y is same set = same set ∙ sym (meets-l
 needs-left : (members : List (List ℕ)) (member : List ℕ) (taken : Bool) (x y : List ℕ) (set : List Bool) → Alike members member taken x y
     → needs_each (member ∷ members) (taken ∷ set) x ≡ (cond taken (not (meets (weigh members set) x)) true && needs_each members set y)
 unfolding without_one weigh
-needs-left members member true x y set alike = ap (λ b. not (meets (weigh members set) x) && b)
-    (list_all-map (λ less. not (meets (weigh (member ∷ members) less) x)) (λ less. true ∷ less) (without_one set)
-    ∙ (λ i. list_all (λ less. not (sym (alike less) i)) (without_one set)))
-needs-left members member false x y set alike =
-    list_all-map (λ less. not (meets (weigh (member ∷ members) less) x)) (λ less. false ∷ less) (without_one set)
-    ∙ (λ i. list_all (λ less. not (sym (alike less) i)) (without_one set))
+needs-left members member true x y set alike = grind (arith, nat_tests, meets, weigh, list_all-map, true, without_one, list_all)
+needs-left members member false x y set alike = grind (arith, nat_tests, list_all-map, meets, weigh, false, without_one, list_all)
 
 completes-left : (members : List (List ℕ)) (member : List ℕ) (taken : Bool) (need later_need : List ℕ) (misses : List (List ℕ)) (set : List Bool)
     → Alike members member taken need later_need

@@ -1,9 +1,7 @@
 -- Weights that meet rows.
-use Rattle.mwc_states.proofs.Imports.{◌≡◌, ℕ, ◌-◌, ◌<◌, ◌≤◌, Bool, true, false, cond, List, [], ◌∷◌, get_or, max, sum_by, refl}
-use Rattle.mwc_states.proofs.Imports.{arith, zero-add, get_or-range_with_len, sum_by-cons, RULES, MOST, weigh, meets}
-use Rattle.mwc_states.specs.Inner.Later.{IsTotal}
-use Rattle.std.proofs.lemmas.{Bool.Decides.same_from_decides, List.Sums.list_all-from_AllPass}
-use Rattle.std.proofs.Common.{leb-true, le-leb}
+use Rattle.mwc_states.proofs.Imports.{nat_tests, ◌≡◌, ℕ, ◌-◌, ◌<◌, ◌≤◌, Bool, true, false, cond, List, [], ◌∷◌, get_or, max, sum_by, refl}
+use Rattle.mwc_states.proofs.Imports.{arith, zero-add, get_or-range_with_len, sum_by-cons, RULES, MOST, weigh, meets, IsTotal}
+use Rattle.std.proofs.{Common.leb-true, Common.le-leb, lemmas.Bool.Decides.same_from_decides, lemmas.List.Sums.list_all-from_AllPass}
 
 -- weights are at least as great as a row under each rule
 abbrev pub Reaches : (ℕ → ℕ) → List ℕ → Type 0
@@ -55,5 +53,4 @@ weigh-within (member ∷ members) (false ∷ set) r = simp sum_by-cons (omega (a
 -- ---- all members together
 pub meets-total : (members : List (List ℕ)) (total row : List ℕ) (set : List Bool) → IsTotal members total → ((r : ℕ) → get_or row r 0 ≤ MOST)
     → meets (weigh members set) row ≡ true → meets (λ r. get_or total r 0) row ≡ true
-meets-total members total row set is small met =
-    reached _ row (λ r lt. omega (arith, is r, small r, weigh-within members set r, reach _ row met r lt))
+meets-total members total row set is small met = grind (arith, nat_tests, reached, weigh-within, reach)

@@ -1,11 +1,11 @@
 -- Sums, one more after another, with and without one more member; lowered to the least later ones.
-use Rattle.mwc_states.proofs.Imports.{◌≡◌, ◌∙◌, ℕ, ◌+◌, ◌-◌, ◌<◌, ◌≤◌, Bool, true, false, List, [], ◌∷◌, length, get_or, set, drop, zero, suc, ap, sym}
-use Rattle.mwc_states.proofs.Imports.{refl, subst, arith, min, drop_all, drop_more, MOST, RULES, get_or-zeros, weigh, row_at, HasSum, IsAscending}
-use Rattle.mwc_states.proofs.Imports.{AreListed, max, ltb, inl, inr, length-set, get_or-set_same, get_or-set_other, cases_lt, meets, AreSums}
-use Rattle.std.proofs.Common.{replicate, ltb-true}
-use Rattle.mwc_states.specs.Inner.Sums.{IsSum, AddsMember}
+use Rattle.mwc_states.proofs.Imports.{◌≡◌, ◌∙◌, ℕ, ◌+◌, ◌-◌, ◌<◌, ◌≤◌, Bool, true, false, List, [], ◌∷◌, length, get_or, set, drop, zero}
+use Rattle.mwc_states.proofs.Imports.{suc, ap, sym, refl, subst, arith, min, drop_all, drop_more, MOST, RULES, weigh, row_at, AreListed}
+use Rattle.mwc_states.proofs.Imports.{max, ltb, inl, inr, length-set, get_or-set_same, get_or-set_other, cases_lt, meets, AreSums}
+use Rattle.council_base.proofs.Shared.Lists.{get_or-zeros}
+use Rattle.mwc_states.specs.Inner.Sums.{HasSum, IsAscending, IsSum, AddsMember}
+use Rattle.std.proofs.{Common.replicate, Common.ltb-true, lemmas.List.get_or_read}
 use Rattle.mwc_states.proofs.Meeting.{weigh-nil, reach, reached}
-use Rattle.std.proofs.lemmas.List.{get_or_read}
 
 -- ---- one more member
 -- the sums without the member up to i, and those with it up to j

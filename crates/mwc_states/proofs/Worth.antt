@@ -1,14 +1,13 @@
 -- How many sets pass a test, what choices are worth, and the sets of a graph that have a member.
-use Rattle.mwc_states.proofs.Imports.{◌≡◌, ◌∙◌, ℕ, zero, suc, ◌+◌, ◌-◌, ◌*◌, ◌^◌, ◌<◌, ◌≤◌, Bool, true, false, List, ◌∷◌, refl, sym, ap, arith, nat_tests}
-use Rattle.mwc_states.proofs.Imports.{later, cases_lt, ◌⊎◌, inl, inr, count_sets, ◌++◌, ◌&&◌, cond, leb, [], length, drop, get_or, drop-cons, drop_all}
-use Rattle.mwc_states.proofs.Imports.{get_or_append_left, get_or_past, get_or_push, get_or-map, length-map, map-append, has, accepts, over_choices}
-use Rattle.mwc_states.proofs.Imports.{link_at, lists, step, rows_at, count_at, AreLeading, AreCompleting, worth, with_member, All, IsWithin}
-use Rattle.mwc_states.proofs.Imports.{get_or_default, sum_by-cons}
+use Rattle.mwc_states.proofs.Imports.{drop-cons, drop_all, get_or_append_left, get_or_past, get_or_push, get_or-map, length-map, map-append}
+use Rattle.mwc_states.proofs.Imports.{accepts, link_at, lists, rows_at, count_at, worth, with_member, All, IsWithin, sum_by-cons, Choices}
+use Rattle.mwc_states.proofs.Imports.{◌≡◌, ◌∙◌, ℕ, zero, suc, ◌+◌, ◌-◌, ◌*◌, ◌^◌, ◌<◌, ◌≤◌, Bool, true, false, List, ◌∷◌, refl, sym, ap}
+use Rattle.mwc_states.proofs.Imports.{arith, nat_tests, cases_lt, inl, inr, count_sets, ◌++◌, ◌&&◌, cond, leb, [], length, drop, get_or}
+use Rattle.mwc_states.specs.Inner.Counting.{later, over_choices, step, AreLeading, AreCompleting}
+use Rattle.std.proofs.Common.{◌⊎◌, ◌/◌, pow_mono, Vec, Global}
+use Rattle.mwc_states.specs.Inner.{Links.IsGraph, Sets.has}
+use Rattle.std.proofs.lemmas.List.{get_or_default, Elements.All-cons, Elements.All-nil}
 unfoldable use Rattle.mwc_states.specs.Inner.Sets.{count_sets}
-use Rattle.std.proofs.Common.{◌/◌, pow_mono, refl, Vec, Global}
-use Rattle.std.proofs.lemmas.List.Elements.{All-cons, All-nil}
-use Rattle.mwc_states.specs.Inner.Links.{IsGraph}
-use Rattle.mwc_states.specs.declared.choices.Choices.{Choices}
 unfoldable use Rattle.mwc_states.specs.Inner.Links.{accepts}
 unfoldable use Rattle.mwc_states.specs.Inner.Counting.{over_choices}
 

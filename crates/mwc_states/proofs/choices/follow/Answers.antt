@@ -1,6 +1,4 @@
-use Rattle.std.proofs.lemmas.List.Sums.{sum_by_more, sum_by_more_le}
-use Rattle.mwc_states.proofs.Imports.{ℕ, ◌*◌, ◌+◌, ap, arith, get_or, link_at}
-use Rattle.mwc_states.specs.declared.choices.Choices.{Choices}
+use Rattle.mwc_states.proofs.Imports.{sum_by_more, sum_by_more_le, ℕ, ◌*◌, ◌+◌, ap, arith, get_or, link_at, Choices}
 use Rattle.mwc_states.proofs.choices.follow.Goals as goal
 
 pub push-requires : goal.push-requires

@@ -1,11 +1,9 @@
-use Rattle.mwc_states.proofs.Imports.{◌∙◌, ◌+◌, [], drop, get_or, arith, map-append, take_rest}
-use Rattle.mwc_states.proofs.Imports.{IsLevel}
+use Rattle.mwc_states.proofs.Imports.{nat_tests, ◌∙◌, ◌+◌, [], drop, get_or, arith, map-append, take_rest, IsLevel}
 use Rattle.mwc_states.proofs.Building.{built-none, built-more, built-all}
 use Rattle.mwc_states.proofs.graph.build.Goals as goal
 
 pub loop-level-init : goal.loop-level-init
-loop-level-init g c = rw c.in_ok-levels.ensures.items
-    (rw c.in_ok-table.ensures (built-none c.args.what c.args.members.now c.args.need.now _ c.requires.some c.requires.few (omega (arith, c.min-left.ensures))))
+loop-level-init g c = grind (arith, nat_tests, built-none)
 
 pub loop-level-preserved : goal.loop-level-preserved
 loop-level-preserved g c =

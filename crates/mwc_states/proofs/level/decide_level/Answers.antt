@@ -1,4 +1,4 @@
-use Rattle.mwc_states.proofs.{Imports.◌≡◌, Imports.arith, Imports.length, Building.decided-more, Building.level-found}
+use Rattle.mwc_states.proofs.{Building.decided-more, Building.level-found, Imports.nat_tests, Imports.arith, Imports.length}
 use Rattle.mwc_states.proofs.level.decide_level.Goals as goal
 
 pub loop-place-preserved : goal.loop-place-preserved
@@ -7,6 +7,4 @@ loop-place-preserved c = rw (c.in_ok-push-2.ensures, c.in_ok-push.ensures) (deci
     (rw c.deref-in-loop-place.ensures.value (rw c.state-in-loop-place.ensures at c.in_ok-decide-2.ensures)))
 
 pub returns : goal.returns
-returns c =
-    level-found _ _ _ _ _ _ _ (rw (let all : c.loop-place.place ≡ length c.args.table.now = omega (arith, c.loop-place-test.false, c.loop-place.auto.place-end, c.len-place-end.ensures) in all) at c.loop-place.invariant)
-    (rw c.in-Some.is at c.in_ok-level.ensures)
+returns c = grind (arith, nat_tests, level-found, length)

@@ -1,4 +1,4 @@
-use Rattle.mwc_states.specs.Inner.Tables.{AreDecided}
+use Rattle.mwc_states.proofs.Imports.{AreDecided}
 use Rattle.mwc_states.proofs.level.decide_level.Given as goal
 
 abbrev pub invariant-loop-place : goal.invariant-loop-place

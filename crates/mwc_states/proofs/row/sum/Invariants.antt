@@ -1,5 +1,4 @@
-use Rattle.mwc_states.proofs.Imports.{take}
-use Rattle.mwc_states.specs.Inner.Later.{IsTotal}
+use Rattle.mwc_states.proofs.Imports.{take, IsTotal}
 use Rattle.mwc_states.proofs.row.sum.Given as goal
 
 abbrev pub invariant-loop-row : goal.invariant-loop-row

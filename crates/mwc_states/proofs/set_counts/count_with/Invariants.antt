@@ -1,4 +1,5 @@
-use Rattle.mwc_states.proofs.Imports.{◌≡◌, ℕ, ◌<◌, ◌&&◌, accepts, count_sets, get_or, has, length, lists}
+use Rattle.mwc_states.proofs.Imports.{◌≡◌, ℕ, ◌<◌, ◌&&◌, accepts, count_sets, get_or, length, lists}
+use Rattle.mwc_states.specs.Inner.Sets.{has}
 use Rattle.mwc_states.proofs.set_counts.count_with.Given as goal
 
 abbrev pub invariant-loop-size : goal.invariant-loop-size

@@ -1,5 +1,4 @@
-use Rattle.mwc_states.proofs.Imports.{◌≡◌, ◌∙◌, ◌<◌, ◌==◌, ◌∷◌, ℕ, Bool, false, List, length, ap, sym, arith, nat_tests, both_ways}
-use Rattle.std.proofs.lemmas.Bool.{false_from_ne_true}
+use Rattle.mwc_states.proofs.Imports.{◌≡◌, ◌<◌, ◌==◌, ℕ, Bool, false, List, length, arith, nat_tests, both_ways, false_from_ne_true}
 use Rattle.mwc_states.proofs.Leaving.{alike-left, leads-unmet, leads-winning, no-state}
 use Rattle.mwc_states.proofs.state.decide.Goals as goal
 
@@ -7,9 +6,7 @@ some-rows : {b : Bool} (state : List (List ℕ)) → b ≡ (length state == 0) �
 some-rows {b} state is none = grind (arith, nat_tests)
 
 pub returns-then-is_empty : goal.returns-then-is_empty
-returns-then-is_empty c set =
-    no-state c.args.what (c.args.member.now ∷ c.args.later.now.members.now) c.args.state.now (c.args.taken ∷ set) (grind (arith, nat_tests, c.if-is_empty.ensures))
-    ∙ sym (no-state _ _ _ set (ap (λ (rows : List (List ℕ)). length rows) c.clear.ensures.items))
+returns-then-is_empty c set = grind (arith, nat_tests, no-state, length)
 
 pub returns-then-not-is_reachable : goal.returns-then-not-is_reachable
 returns-then-not-is_reachable c = rw c.clear.ensures.items (leads-unmet _ _ _ _ _ (some-rows c.args.state.now c.is_empty.ensures c.if-is_empty.false)

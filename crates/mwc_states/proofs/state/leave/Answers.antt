@@ -1,5 +1,4 @@
-use Rattle.mwc_states.proofs.Imports.{◌∙◌, sym}
-use Rattle.mwc_states.proofs.Leaving.{leads-dead, leads-open}
+use Rattle.mwc_states.proofs.{Imports.◌∙◌, Imports.sym, Leaving.leads-dead, Leaving.leads-open}
 use Rattle.mwc_states.proofs.state.leave.Goals as goal
 
 pub returns-then-is_implied : goal.returns-then-is_implied

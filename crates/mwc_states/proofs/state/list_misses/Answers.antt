@@ -1,4 +1,5 @@
-use Rattle.mwc_states.proofs.Imports.{◌∙◌, ◌<◌, ◌-◌, [], arith, cond, drop, length, get_or, ap, misses_all, nat_tests, subst, take_rest, weigh}
+use Rattle.mwc_states.proofs.Imports.{◌∙◌, ◌<◌, ◌-◌, [], arith, cond, drop, length, get_or, ap, misses_all, nat_tests, subst, take_rest}
+use Rattle.mwc_states.proofs.Imports.{weigh}
 use Rattle.mwc_states.proofs.Leaving.{misses-more}
 use Rattle.mwc_states.proofs.state.list_misses.Goals as goal
 

@@ -1,11 +1,8 @@
-use Rattle.mwc_states.proofs.Imports.{◌∙◌, sym, weigh}
-use Rattle.mwc_states.proofs.Meeting.{meets-most, meets-through}
+use Rattle.mwc_states.proofs.{Imports.nat_tests, Imports.arith, Imports.weigh, Meeting.meets-most, Meeting.meets-through}
 use Rattle.mwc_states.proofs.later.Later.raise_miss.Goals as goal
 
 pub returns-then-meets : goal.returns-then-meets
-returns-then-meets c set met =
-    met ∙ sym (meets-through (weigh c.args.self.now.members.now set) c.args.need.now c.args.miss.now met (sym c.meets.ensures ∙ c.if-meets.true))
+returns-then-meets c set met = grind (arith, nat_tests, meets-through, weigh)
 
 pub returns-else-meets : goal.returns-else-meets
-returns-else-meets c set met =
-    c.raise.ensures set ∙ meets-most (weigh c.args.self.now.members.now set) c.args.miss.now c.args.need.now c.max.result c.max.ensures met
+returns-else-meets c set met = grind (arith, nat_tests, meets-most, weigh)
