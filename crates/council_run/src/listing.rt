@@ -22,6 +22,13 @@ use std::alloc::Global;
 use std::sync::Wait;
 use std::thread::Threads;
 
+/// How many coalitions a long list has: one pass over them takes some ten milliseconds.
+const LONG: usize = 1 << 19;
+
+/// The most states by which the coalitions of a long list are counted. Some milliseconds show that
+/// a game has more.
+const STATES_OF_LONG: usize = 1 << 11;
+
 /// Gathers the minimal winning coalitions of a game.
 fn gather_all<T: Threads + Wait + Sync, G: Gate + Sync>(
     rt: &T,
@@ -40,8 +47,17 @@ fn gather_all<T: Threads + Wait + Sync, G: Gate + Sync>(
     gather(rt, alloc, &guarded, bits, options.workers, options.most)
 }
 
-/// Counts the coalitions that the workers listed, in one pass over a copy of them, unless they were
-/// counted before.
+/// Whether the workers listed so many coalitions that states are tried before one pass over them.
+fn is_long(gathered: &Gathered) -> bool {
+    let mut count: usize = 0;
+    for part in &gathered.parts {
+        count = count.saturating_add(part.got.len());
+    }
+    count >= LONG
+}
+
+/// Counts the coalitions that the workers listed, unless they were counted before: those of a long
+/// list by states, if they are few, and else in one pass over a copy of the list.
 fn count_gathered(
     alloc: Global,
     game: &Game,
@@ -54,6 +70,11 @@ fn count_gathered(
 {
     if let Some(counts) = counted {
         return Ok(counts);
+    }
+    if is_long(gathered) {
+        if let Some(counts) = count_states(alloc, game, STATES_OF_LONG, &NoGate)? {
+            return Ok(counts);
+        }
     }
     game.was_checked();
     minimal_coalitions_can_be_counted();
