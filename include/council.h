@@ -1,7 +1,7 @@
 /*
  * Weighted voting games, for C and whatever can call C. See docs/LIBRARY.md.
  *
- * Give a game as arrays and take numbers (council_indices), or give the bytes of a game file and take a report
+ * Give a game as arrays and take numbers (council_indices) or coalitions (council_list), or give the bytes of a game file and take a report
  * (council_report). No call starts a thread, keeps anything from one call to the next, or gives out memory. Threads of
  * yours may call at the same time, each with buffers of its own.
  *
@@ -33,7 +33,7 @@ enum council_status {
 	COUNCIL_REPORT = 0,    /* the text is the report, or the numbers are there */
 	COUNCIL_OPTIONS = 2,   /* no call takes these options, or these lengths and sizes */
 	COUNCIL_GAME = 3,      /* the bytes or arrays hold no game: you get the first fault */
-	COUNCIL_TOO_MANY = 4,  /* the game has more minimal winning coalitions than most */
+	COUNCIL_TOO_MANY = 4,  /* the game has more minimal winning coalitions than most, or than there is room for */
 	COUNCIL_MEMORY = 5,    /* memory was refused */
 	COUNCIL_STATES = 6,    /* the swings take too many states */
 	COUNCIL_TOO_LONG = 7   /* the walk made as many visits as it may; only of council_indices */
@@ -115,8 +115,19 @@ uint32_t council_indices(const uint64_t *quotas, size_t rules, const uint64_t *w
 			 uint64_t visits, struct council_member *results, size_t members, struct council_summary *summary);
 
 /*
+ * Takes a game as arrays, as council_indices does, and puts its minimal winning coalitions into masks: binary digit i of a
+ * mask is 1 if member i is in. Their order is that of --list: by rank place, the heaviest first. summary->coalitions
+ * becomes their number, and the rest of masks is unchanged.
+ *
+ * If there are more than room, or than 4000000, the status is COUNCIL_TOO_MANY; council_indices says how many there are.
+ * If the status is not 0, masks is unchanged.
+ */
+uint32_t council_list(const uint64_t *quotas, size_t rules, const uint64_t *weights, size_t count, size_t members,
+		      uint64_t *masks, size_t room, struct council_summary *summary);
+
+/*
  * Puts the words of a status into text, as much as fits into room bytes, with no byte 0 after them: "bad weight of member
- * 2". The status is that of council_indices, and *summary what it left. *length is then the length of all the words; 0
+ * 2". The status is that of council_indices or council_list, and *summary what it left. *length is then the length of all the words; 0
  * for COUNCIL_REPORT, and for what no call gives.
  */
 void council_explain(uint32_t status, const struct council_summary *summary, char *text, size_t room, uint64_t *length);

@@ -266,11 +266,16 @@ if command -v cc >/dev/null; then
         done <<END
 random ${COUNCIL_GAMES:-300} 1
 faults 2000 2
+lists 100 3
 lengths
 threads
 visits
 words
 END
+        name="arrays: the nearest doubles"
+        if needs python3 "$name"; then
+            if python3 "$here/doubles.py" "$temp/arrays" 2000 2>"$temp/its"; then ok "$name"; else failed "$name" "$(head -n 1 "$temp/its")"; fi
+        fi
     else
         failed "$name" "$(head -n 1 "$temp/cc")"
     fi
@@ -292,9 +297,23 @@ if command -v cc >/dev/null; then
     done
 fi
 
-# ---- out of memory: each of the first 300 allocations refused in turn, and then every 17th, until
-# none is met. It is reported, or was not needed. The members of two kinds are never counted by a
-# walk instead: that takes an hour.
+# ---- out of memory: each allocation of a call for numbers refused in turn; of a report, each of
+# the first 300, and then every 17th, until none is met. It is reported, or was not needed. The
+# members of two kinds are never counted by a walk instead: that takes an hour.
+name="arrays: out of memory is a status"
+if [ -x "$temp/arrays" ]; then
+    compile_preloaded refuse
+    why=
+    for ((number = 1; number <= 2000; number++)); do
+        : >"$temp/said"
+        REFUSE_AT=$number REFUSE_TO=9 LD_PRELOAD=$temp/refuse.so timeout "$seconds" "$temp/arrays" one >"$temp/its" 2>&1 9>"$temp/said"
+        its=$?
+        [ -s "$temp/said" ] || break
+        [ "$its" -eq 5 ] || why=${why:-"allocation $number: status $its"}
+    done
+    [ "$its" -eq 0 ] && [ "$number" -gt 10 ] || why=${why:-"$number allocations, status $its"}
+    if [ -z "$why" ]; then ok "$name"; else failed "$name" "$why"; fi
+fi
 name="from C: want of memory is a status"
 if [ -x "$temp/report_c" ]; then
     compile_preloaded refuse

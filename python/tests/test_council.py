@@ -233,6 +233,21 @@ class Reports(unittest.TestCase):
         self.assertEqual(find_refusal(game=b"\xff").game, "\ufffd")
         self.assertEqual(find_refusal([], []).fault, "bad rules")
 
+    def test_numbers_without_a_text(self):
+        library = find_library()
+        if not library or not library._indices:
+            self.skipTest("there is no library that takes arrays")
+        with mock.patch.object(council, "compute", mock.Mock(side_effect=AssertionError)):
+            for more in {}, {"swings": True}, {"names": HOSTILE[:3], "title": "T"}:
+                self.assertEqual(council.report(51, [50, 49, 1], **more).minimal, 2)
+        for words, fault, member, rule in [
+            (([1, 1], [[1, 2, 3], [1, game.WEIGHT + 1, 3]]), "bad weight of member 2", 2, 2), (([1, 9], [[1, 2, 3], [1, 2, 3]]), "quota out of range", None, 2),
+            ((0, [1, 1]), "quota out of range", None, 1), ((1, [1, -1]), "bad weight of member 2", 2, None),
+        ]:
+            bad = find_refusal(*words, by="rule" if isinstance(words[0], list) else None)
+            self.assertEqual((bad.fault, bad.member, bad.rule), (fault, member, rule))
+            self.assertEqual(pickle.loads(pickle.dumps(bad)).rule, rule)
+
     def test_words_that_are_no_game(self):
         ways, parts, belong = "give a quota and weights, or a file, or a game", "give a quota and weights", "names, a title and by= belong to a quota and weights"
         for words, more, text in [

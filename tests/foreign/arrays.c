@@ -4,6 +4,7 @@
  *     arrays random GAMES SEED     random games, with every array between pages that nobody may touch
  *     arrays lengths               every length of every buffer, for ten games
  *     arrays faults GAMES SEED     random games with slips: the first of them is named
+ *     arrays lists GAMES SEED      the coalitions of random games, in buffers of every length
  *     arrays threads               the same games by eight threads at once
  *     arrays visits                walks that may make few visits
  *     arrays words                 the words of each status, in buffers of every length
@@ -232,6 +233,60 @@ static void run_random(long games, uint64_t state)
 	}
 }
 
+/* ---- lists: what the report lists, name by name */
+static void compare_list(const struct game *game, const uint64_t *masks, size_t found, long number)
+{
+	static __thread char text[1 << 20];
+	char file[ROOM], *next = NULL;
+	struct council_options options = {.list = true};
+	uint64_t length = 0;
+	size_t at = 0, size = (size_t)(write_game(game, file) - file);
+	if (council_report(file, size, &options, text, sizeof text - 1, &length) != COUNCIL_REPORT || length >= sizeof text)
+		fail("there is no list", number);
+	text[length] = 0;
+	for (char *line = strtok_r(text, "\n", &next); line; line = strtok_r(NULL, "\n", &next)) {
+		uint64_t mask = 0;
+		if (strncmp(line, "coalition\t", 10))
+			continue;
+		/* the names, after the size and the weights, are the numbers of the members */
+		char *names = strchr(strchr(line + 10, '\t') + 1, '\t');
+		while (names)
+			mask |= (uint64_t)1 << (strtoul(names + 1, NULL, 10) - 1), names = strchr(names + 1, '\t');
+		if (at >= found || masks[at++] != mask)
+			fail("another coalition", number);
+	}
+	if (at != found)
+		fail("another number of coalitions listed", number);
+}
+
+static void run_lists(long games, uint64_t state)
+{
+	for (long number = 0; number < games; number++) {
+		struct game game = make(&state, 8);
+		struct council_member results[MEMBERS];
+		struct council_summary summary = no_summary();
+		size_t count = game.rules * game.members;
+		if (council_indices(game.quotas, game.rules, game.weights, count, false, 0, results, game.members, &summary))
+			fail("there are no numbers", number);
+		size_t all = (size_t)summary.coalitions;
+		for (size_t room = 0; room <= all + 2; room++) {
+			uint64_t *masks = guarded(room * sizeof *masks);
+			memset(masks, 0x55, room * sizeof *masks);
+			summary = no_summary();
+			uint32_t status = council_list(game.quotas, game.rules, game.weights, count, game.members, masks, room, &summary);
+			size_t found = room < all ? 0 : all;
+			if (status != (room < all ? COUNCIL_TOO_MANY : COUNCIL_REPORT) || (!status && summary.coalitions != all))
+				fail("another status of a list", number);
+			for (size_t i = found; i < room; i++)
+				if (masks[i] != 0x5555555555555555)
+					fail("a mask that is none was changed", number);
+			if (!status)
+				compare_list(&game, masks, found, number);
+			let_go(masks, room * sizeof *masks);
+		}
+	}
+}
+
 /* ---- lengths that do not fit, and sizes of other versions */
 static void run_lengths(void)
 {
@@ -412,6 +467,8 @@ int main(int count, char **words)
 		run_random(atol(words[2]), strtoull(words[3], NULL, 10));
 	else if (count == 4 && !strcmp(words[1], "faults"))
 		run_faults(atol(words[2]), strtoull(words[3], NULL, 10));
+	else if (count == 4 && !strcmp(words[1], "lists"))
+		run_lists(atol(words[2]), strtoull(words[3], NULL, 10));
 	else if (count == 2 && !strcmp(words[1], "lengths"))
 		run_lengths();
 	else if (count == 2 && !strcmp(words[1], "threads"))

@@ -1,4 +1,5 @@
 mod Buffers
+mod Digits
 mod Parts
 mod Stopping
 mod Swinging

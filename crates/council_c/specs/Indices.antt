@@ -15,8 +15,8 @@ use Rattle.council_c.specs.declared.fault.Fault.TheVariants as fault
 use Rattle.council_c.specs.declared.results.CouncilMember.{CouncilMember}
 use Rattle.council_c.specs.declared.results.CouncilSummary.{CouncilSummary}
 
--- What a call is given: quotas, weights rule by rule, how many members there are, whether swings are
--- asked for, and how many visits a walk may make; 0 for 2^64 - 1.
+-- What a call is given: quotas, weights rule by rule, how many members there are, whether swings
+-- are asked for, and how many visits a walk may make; 0 for 2^64 - 1.
 pub record Request : Type 0 where
   pub quotas : List ℕ
   pub weights : List ℕ
@@ -67,8 +67,8 @@ with_fault other rule s = record s { fault = 0; member = 0; rule = 0 }
 abbrev pub AreNumbers : Request → List CouncilMember → CouncilSummary → Type 0
 AreNumbers r results s = (g : GameView) × HoldArrays r (Ok g) × (results ≡ map (numbers r.swings g) (members g)) × IsSummary r.swings g s
 
--- Status 0 comes with the numbers, status 2 with arrays or structs that do not fit, and any other with
--- the fault in the summary; then the results are unchanged.
+-- Status 0 comes with the numbers, status 2 with arrays or structs that do not fit, and any other
+-- with the fault in the summary; then the results are unchanged.
 abbrev pub AnswersArrays : Request → List CouncilMember → List CouncilMember → CouncilSummary → CouncilSummary → ℕ → Type 0
 AnswersArrays r before after old new status =
     ((status ≡ 0) × (fits r old ≡ true) × AreNumbers r after new)

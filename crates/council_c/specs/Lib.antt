@@ -3,4 +3,5 @@ pub mod Answer
 pub mod Arrays
 pub mod Numbers
 pub mod Indices
+pub mod Masks
 pub mod Explain

@@ -51,7 +51,7 @@ abbrev pub winning_number : Bool → GameView → ℕ
 winning_number false g = 0
 winning_number true g = length (winning_coalitions g)
 
--- what is told of the game as a whole: how many coalitions there are, by size too; how many win; the
+-- the numbers of the game as a whole: how many coalitions there are, by size too; how many win; the
 -- total of each rule; and no fault
 pub record IsSummary (with_swings : Bool) (g : GameView) (s : CouncilSummary) : Type 0 where
   pub coalitions : s.coalitions ≡ length (minimal_of g)

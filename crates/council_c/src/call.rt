@@ -3,12 +3,14 @@ ghost use Rattle.std.specs.Prelude.{◌≡◌, if◌then◌else◌, length};
 ghost use Rattle.council_c.specs.Answer.{Answers};
 ghost use Rattle.council_c.specs.Explain.{Explains};
 ghost use Rattle.council_c.specs.Indices.{AnswersArrays};
+ghost use Rattle.council_c.specs.Masks.{AnswersMasks};
 ghost use Rattle.council_run.specs.declared.columns.Columns.TheVariants as columns;
 
 use crate::explain::fault_of;
 use crate::fault::Fault;
 use crate::fill::fill;
 use crate::indices::{find_numbers, fit, note};
+use crate::masks::list_masks;
 use crate::options::CouncilOptions;
 use crate::results::{CouncilMember, CouncilSummary};
 use council_run::Columns;
@@ -119,6 +121,47 @@ pub extern "C" fn council_indices(
         Ok(found) => {
             results.copy_from_slice(&found.members);
             *summary = found.summary;
+            0
+        }
+        Err(stop) => {
+            note(stop, summary);
+            stop.fault.status()
+        }
+    }
+}
+
+/// Puts the minimal winning coalitions of a game into `masks`, in listing order, and their number
+/// into the summary.
+///
+/// Binary digit i of a mask is 1 if member i is in. Arrays are as for `council_indices`; `members`
+/// is how many there are.
+///
+/// The result is a status as there, and 4 if there are more coalitions than `masks` has room for,
+/// or than 4,000,000. With any but 0 the masks are unchanged. With 2 the summary is too.
+#[unsafe(no_mangle)]
+pub extern "C" fn council_list(
+    alloc: Global,
+    quotas: &[u64],
+    weights: &[u64],
+    members: usize,
+    masks: &mut [u64],
+    summary: &mut CouncilSummary,
+) -> u32
+    ensures { AnswersMasks quotas.now weights.now members masks.old masks.new summary.old summary.new result }
+{
+    if !fit(quotas, weights, members, summary) {
+        return Fault::Options.status();
+    }
+    match list_masks(alloc, quotas, weights, members, masks.len()) {
+        Ok(list) => {
+            masks[..list.len()].copy_from_slice(&list);
+            *summary = CouncilSummary {
+                fault: 0,
+                member: 0,
+                rule: 0,
+                coalitions: list.len() as u64,
+                ..*summary
+            };
             0
         }
         Err(stop) => {

@@ -33,6 +33,7 @@ fn game_fault_of(number: u64, member: u64) -> Option<GameFault>
         11 => Some(GameFault::QuotaRange),
         12 => Some(GameFault::Bracket),
         13 => Some(GameFault::Rules),
+        // memory: the caller says so
         14 => Some(GameFault::Memory),
         _ => None,
     }
@@ -49,6 +50,7 @@ pub(crate) fn fault_of(status: u32, summary: &CouncilSummary) -> Option<Fault>
             None => None,
         },
         4 => Some(Fault::Run(Cause::Gather(GatherFault::TooMany))),
+        // memory: the caller says so
         5 => Some(Fault::Run(Cause::Memory)),
         6 => Some(Fault::Run(Cause::States)),
         7 => Some(Fault::TooLong),

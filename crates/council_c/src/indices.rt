@@ -85,7 +85,12 @@ fn compute(alloc: Global, game: &Game, asked: bool, visits: u64) -> Result<Numbe
 /// # Errors
 ///
 /// The first fault of the game, and the rule that it is of; or out of memory.
-fn read(alloc: Global, quotas: &[u64], weights: &[u64], members: usize) -> Result<Game, Stop>
+pub(crate) fn read(
+    alloc: Global,
+    quotas: &[u64],
+    weights: &[u64],
+    members: usize,
+) -> Result<Game, Stop>
     requires { length weights.now ≡ length quotas.now * members }
     ensures ok { IfOk result (λ g. game_of_arrays quotas.now weights.now members ≡ Ok g) }
     ensures err { IfErr result (λ why. IsFaultOf quotas.now weights.now members why.fault why.rule) }

@@ -14,6 +14,7 @@ mod explain;
 mod fault;
 mod fill;
 mod indices;
+mod masks;
 mod numbers;
 mod options;
 mod page;
@@ -21,7 +22,8 @@ mod put;
 mod results;
 
 pub use call::{
-    council_explain, council_indices, council_report, council_swings_report, council_version,
+    council_explain, council_indices, council_list, council_report, council_swings_report,
+    council_version,
 };
 pub use fault::Fault;
 pub use options::CouncilOptions;

@@ -212,23 +212,23 @@ class Library:
                     return status, str(its, "utf-8")
             room = length.value
 
-    def count(self, quotas: Sequence[int], columns: Sequence[Sequence[int]], swings: bool) -> tuple[int, Sequence[Numbers], Summary]:
+    def count(self, quotas: Sequence[int], columns: Sequence[Sequence[int]], swings: bool) -> tuple[int, list[Numbers], Summary]:
         """Returns the status, the numbers of each member, and those of the game, or its fault."""
         weights = [it for column in columns for it in column]
         numbers, summary = (Numbers * len(columns[0]))(), Summary(ctypes.sizeof(Summary), ctypes.sizeof(Numbers))
         arrays = [(U64 * len(it))(*it) for it in (quotas, weights)]
         status = self._indices(arrays[0], len(quotas), arrays[1], len(weights), swings, 0, numbers, len(numbers), ctypes.byref(summary))
-        return status, numbers, summary
+        return status, list(numbers), summary
 
 
-def run_aside(call: Callable[[], T]) -> T:
+def run_aside(call: Callable[..., T], *words: Any) -> T:
     """Calls in a thread of its own, so that an interrupt ends the wait for a long call."""
     answers: list[T] = []
     faults: list[BaseException] = []
 
     def work() -> None:
         try:
-            answers.append(call())
+            answers.append(call(*words))
         except BaseException as it:  # whoever waits raises it again
             faults.append(it)
 
@@ -273,7 +273,7 @@ def compute(game: bytes, *, listed: bool = False, most: int = MOST, program: Opt
         status, text, told = run_program(find_program(program), game, words)
     else:
         options = Options() if only else Options(most=most if listed else 0, tally=not listed, list=listed)
-        status, text = run_aside(lambda: library.ask(game, options, only))
+        status, text = run_aside(library.ask, game, options, only)
         told = explain(game, words) if status in (3, 4) else ""
     if status == 0:
         return text
@@ -282,10 +282,10 @@ def compute(game: bytes, *, listed: bool = False, most: int = MOST, program: Opt
     raise (TooMany if status in (4, 6) else Refused)(status, text, told, game.decode("utf-8", "replace"))
 
 
-def count(quotas: Sequence[int], columns: Sequence[Sequence[int]], swings: bool) -> Optional[tuple[int, Sequence[Numbers], Summary]]:
+def count(quotas: Sequence[int], columns: Sequence[Sequence[int]], swings: bool) -> Optional[tuple[int, list[Numbers], Summary]]:
     """Returns what `Library.count` does, or None if no library takes arrays."""
     library = find_library()
-    return run_aside(lambda: library.count(quotas, columns, swings)) if library and library._indices else None
+    return run_aside(library.count, quotas, columns, swings) if library and library._indices else None
 
 
 def run_program(program: str, game: bytes, words: Sequence[str]) -> tuple[int, str, str]:
