@@ -257,7 +257,7 @@ impl Cursor {
         Seek::Found(found)
     }
 
-    /// Whether the prefix is passed by, because no coalition below it is minimal: it has a member
+    /// Returns whether the prefix is passed by, because no coalition below it is minimal: it has a member
     /// that each rule can spare, or the prices say so. A winning prefix that is not passed by is
     /// minimal.
     #[inline(always)]
@@ -277,7 +277,7 @@ impl Cursor {
         }
     }
 
-    /// Whether the prefix has a member that each rule can spare, here and so in each coalition
+    /// Returns whether the prefix has a member that each rule can spare, here and so in each coalition
     /// below. Sought only at the fixed places and after a member was taken in. With one rule not
     /// after that either: the last member is the lightest, and was needed.
     #[inline(always)]
@@ -296,7 +296,7 @@ impl Cursor {
         self.spares_here(game)
     }
 
-    /// Whether the prefix has a member that each rule can spare. One rule asks it only at the fixed
+    /// Returns whether the prefix has a member that each rule can spare. One rule asks it only at the fixed
     /// places. Kept out of line: inlined, it computes the excess of all lanes for each coalition,
     /// which costs a walk a third of its time.
     #[inline(never)]
@@ -307,7 +307,7 @@ impl Cursor {
         self.spares_here(game)
     }
 
-    /// Whether the prefix has a member that each rule can spare.
+    /// Returns whether the prefix has a member that each rule can spare.
     #[inline(always)]
     fn spares_here(&self, game: &Game) -> bool
         requires { CursorIs (votes_of game.now) self.now }
@@ -332,7 +332,7 @@ impl Cursor {
         ]
     }
 
-    /// Whether the prices show that no coalition below is minimal: some rule needs more than can
+    /// Returns whether the prices show that no coalition below is minimal: some rule needs more than can
     /// still come, or what must come lets each rule pass its quota by enough to spare a member.
     #[inline(never)]
     fn prunes(&self, game: &Game, prices: &PriceTable) -> bool
@@ -387,7 +387,7 @@ impl Cursor {
         prices.by[rule][other].from[self.place].of(self.lanes[other].lacks())
     }
 
-    /// Whether the prefix has a member that each rule can spare if it passes its quota by its
+    /// Returns whether the prefix has a member that each rule can spare if it passes its quota by its
     /// `excess`.
     #[inline(always)]
     fn has_spared(&self, game: &Game, excess: &[u64; limits::RULES]) -> bool
@@ -401,7 +401,7 @@ impl Cursor {
         few != 0 && self.spares_any(game, excess, few)
     }
 
-    /// Whether each rule can spare one of a few members. Kept out of line, since there are seldom
+    /// Returns whether each rule can spare one of a few members. Kept out of line, since there are seldom
     /// any.
     #[inline(never)]
     fn spares_any(&self, game: &Game, excess: &[u64; limits::RULES], few: u64) -> bool
@@ -454,7 +454,7 @@ impl Cursor {
         few
     }
 
-    /// Whether each rule can spare the member of a place.
+    /// Returns whether each rule can spare the member of a place.
     #[inline(always)]
     fn spares(&self, game: &Game, excess: &[u64; limits::RULES], place: usize) -> bool
         requires is { CursorIs (votes_of game.now) self.now }

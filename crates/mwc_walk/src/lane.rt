@@ -47,7 +47,7 @@ impl Lane {
         }
     }
 
-    /// Whether the quota can still be met, by all members from a place on.
+    /// Returns whether the quota can still be met, by all members from a place on.
     fn reaches(&self, place: usize) -> bool
         requires { place ≤ MEMBERS }
         ensures { result ≡ lane_reaches place self.now }
@@ -71,7 +71,7 @@ impl Lane {
         self.sum.saturating_sub(self.quota)
     }
 
-    /// Whether the quota is met.
+    /// Returns whether the quota is met.
     fn wins(&self) -> bool
         ensures { result ≡ lane_wins self.now }
     {
@@ -154,7 +154,7 @@ fn lightest_of(weights: &[u64; limits::MEMBERS], members: usize) -> [u64; limits
     lightest
 }
 
-/// Whether each quota can still be met, by all members from a place on.
+/// Returns whether each quota can still be met, by all members from a place on.
 pub(crate) fn all_reach(lanes: &[Lane], place: usize) -> bool
     requires { place ≤ MEMBERS }
     ensures { result ≡ list_all (lane_reaches place) lanes.now }
@@ -165,7 +165,7 @@ pub(crate) fn all_reach(lanes: &[Lane], place: usize) -> bool
     }
 }
 
-/// Whether each quota is met.
+/// Returns whether each quota is met.
 pub(crate) fn all_win(lanes: &[Lane]) -> bool
     ensures { result ≡ list_all lane_wins lanes.now }
 {

@@ -18,7 +18,7 @@ pub(crate) struct Price {
 }
 
 impl Price {
-    /// Whether a member is cheaper, or the first with weight by the other rule.
+    /// Returns whether a member is cheaper, or the first with weight by the other rule.
     fn is_above(&self, own: u64, other: u64) -> bool
         ensures some { result ≡ true → 0 < other }
         ensures less { result ≡ true → own * self.now.other ≤ self.now.own * other }
