@@ -11,7 +11,7 @@ ghost use Rattle.council_game.specs.Rules.{rule_view, rule_views};
 use council_game::{Game, GameFault, Memory, Rule, limits};
 use std::alloc::{AllocError, Global};
 
-/// The numbers 1 to `count`, in decimal.
+/// Lists the numbers 1 to `count`, in decimal.
 #[tactic(auto, using(crate::proofs::Parts::names_more))]
 fn number_names(alloc: Global, count: usize) -> Result<Vec<String>, AllocError>
     ensures names { IfOk result (λ v. map string_bytes v.items ≡ counted_names count) }
@@ -88,6 +88,7 @@ fn capped_total(weights: &[u64]) -> u64
     total
 }
 
+/// Returns whether the quota of a rule is 0, or above its total.
 fn has_bad_quota(rule: &Rule) -> bool
     ensures { result ≡ has_bad_quota (rule_view rule.now) }
 {

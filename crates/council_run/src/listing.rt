@@ -47,7 +47,8 @@ fn gather_all<T: Threads + Wait + Sync, G: Gate + Sync>(
     gather(rt, alloc, &guarded, bits, options.workers, options.most)
 }
 
-/// Returns whether the workers listed so many coalitions that states are tried before one pass over them.
+/// Returns whether the workers listed so many coalitions that states are tried before one pass over
+/// them.
 fn is_long(gathered: &Gathered) -> bool {
     let mut count: usize = 0;
     for part in &gathered.parts {

@@ -257,9 +257,9 @@ impl Cursor {
         Seek::Found(found)
     }
 
-    /// Returns whether the prefix is passed by, because no coalition below it is minimal: it has a member
-    /// that each rule can spare, or the prices say so. A winning prefix that is not passed by is
-    /// minimal.
+    /// Returns whether the prefix is passed by, because no coalition below it is minimal: it has a
+    /// member that each rule can spare, or the prices say so. A winning prefix that is not passed
+    /// by is minimal.
     #[inline(always)]
     fn passes_by(&self, game: &Game, rules: usize, prices: Option<&PriceTable>) -> bool
         requires is { CursorIs (votes_of game.now) self.now }
@@ -277,9 +277,9 @@ impl Cursor {
         }
     }
 
-    /// Returns whether the prefix has a member that each rule can spare, here and so in each coalition
-    /// below. Sought only at the fixed places and after a member was taken in. With one rule not
-    /// after that either: the last member is the lightest, and was needed.
+    /// Returns whether the prefix has a member that each rule can spare, here and so in each
+    /// coalition below. Sought only at the fixed places and after a member was taken in. With one
+    /// rule not after that either: the last member is the lightest, and was needed.
     #[inline(always)]
     fn spares_one(&self, game: &Game, rules: usize) -> bool
         requires is { CursorIs (votes_of game.now) self.now }
@@ -296,9 +296,9 @@ impl Cursor {
         self.spares_here(game)
     }
 
-    /// Returns whether the prefix has a member that each rule can spare. One rule asks it only at the fixed
-    /// places. Kept out of line: inlined, it computes the excess of all lanes for each coalition,
-    /// which costs a walk a third of its time.
+    /// Returns whether the prefix has a member that each rule can spare. One rule asks it only at
+    /// the fixed places. Kept out of line: inlined, it computes the excess of all lanes for each
+    /// coalition, which costs a walk a third of its time.
     #[inline(never)]
     fn spares_fixed(&self, game: &Game) -> bool
         requires { CursorIs (votes_of game.now) self.now }
@@ -332,8 +332,9 @@ impl Cursor {
         ]
     }
 
-    /// Returns whether the prices show that no coalition below is minimal: some rule needs more than can
-    /// still come, or what must come lets each rule pass its quota by enough to spare a member.
+    /// Returns whether the prices show that no coalition below is minimal: some rule needs more
+    /// than can still come, or what must come lets each rule pass its quota by enough to spare a
+    /// member.
     #[inline(never)]
     fn prunes(&self, game: &Game, prices: &PriceTable) -> bool
         requires is { CursorIs (votes_of game.now) self.now }
@@ -387,8 +388,8 @@ impl Cursor {
         prices.by[rule][other].from[self.place].of(self.lanes[other].lacks())
     }
 
-    /// Returns whether the prefix has a member that each rule can spare if it passes its quota by its
-    /// `excess`.
+    /// Returns whether the prefix has a member that each rule can spare if it passes its quota by
+    /// its `excess`.
     #[inline(always)]
     fn has_spared(&self, game: &Game, excess: &[u64; limits::RULES]) -> bool
         requires { CursorIs (votes_of game.now) self.now }
@@ -401,8 +402,8 @@ impl Cursor {
         few != 0 && self.spares_any(game, excess, few)
     }
 
-    /// Returns whether each rule can spare one of a few members. Kept out of line, since there are seldom
-    /// any.
+    /// Returns whether each rule can spare one of a few members. Kept out of line, since there are
+    /// seldom any.
     #[inline(never)]
     fn spares_any(&self, game: &Game, excess: &[u64; limits::RULES], few: u64) -> bool
         requires is { CursorIs (votes_of game.now) self.now }
