@@ -10,17 +10,17 @@ use mwc_walk::{Seek, Walk};
 
 /// What was reported of a walk, and what was not.
 #[derive(Drop)]
-pub(crate) struct Progress {
+pub(crate) struct SliceReports {
     /// The visits of the walk that were reported.
     visits: u64,
     /// The coalitions found that were not reported.
     found: u64,
 }
 
-impl Progress {
+impl SliceReports {
     /// Begins with nothing reported.
-    pub fn new() -> Progress {
-        Progress {
+    pub fn new() -> SliceReports {
+        SliceReports {
             visits: 0,
             found: 0,
         }

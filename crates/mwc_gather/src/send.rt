@@ -7,7 +7,7 @@ ghost use Rattle.mwc_gather.specs.Inner.Sending.{SendsFirst, SendsSome};
 
 use crate::guarded::Guarded;
 use crate::observer::SliceObserver;
-use crate::progress::Progress;
+use crate::progress::SliceReports;
 use crate::putting::{PutsRows, RowByRow, WordByWord};
 use crate::sent::Sent;
 use crate::waiting::{Backoff, Waker, WakerPair};
@@ -177,11 +177,11 @@ pub(crate) fn send_slice_in_rows<W: PutsRows<P>, R: Wait, P: PipeIn<Word>, G: Sl
 {
     let mut walk = Walk::new(guarded.admit(worker, slice), bits, slice);
     buffer.restart(Word::Open(slice));
-    let mut progress = Progress::new();
-    while let Some(coalition) = progress.next(guarded, &mut walk) {
+    let mut reports = SliceReports::new();
+    while let Some(coalition) = reports.next(guarded, &mut walk) {
         let word = Word::One(coalition);
         if left == 1 {
-            progress.report(guarded, &walk);
+            reports.report(guarded, &walk);
             if !send_last::<W, _, _>(rt, buffer, word, out, pair) {
                 return Sent::Refused;
             }
@@ -192,7 +192,7 @@ pub(crate) fn send_slice_in_rows<W: PutsRows<P>, R: Wait, P: PipeIn<Word>, G: Sl
         }
         left -= 1;
     }
-    progress.report(guarded, &walk);
+    reports.report(guarded, &walk);
     if !send_last::<W, _, _>(rt, buffer, Word::Done(slice), out, pair) {
         return Sent::Refused;
     }

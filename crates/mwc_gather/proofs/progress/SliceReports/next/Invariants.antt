@@ -1,6 +1,6 @@
 use Rattle.mwc_gather.proofs.Imports.{◌≡◌}
 use Rattle.mwc_walk.specs.Seeks.{seeks_left}
-use Rattle.mwc_gather.proofs.progress.Progress.next.Given as goal
+use Rattle.mwc_gather.proofs.progress.SliceReports.next.Given as goal
 
 abbrev pub invariant-seeks : goal.invariant-seeks
 invariant-seeks g l = l.walk.to_come ≡ l.initial.walk.to_come
