@@ -1,4 +1,5 @@
 -- Members that a minimal set may have.
+use Rattle.std.proofs.lemmas.Grind.{common_steps}
 use Rattle.mwc_states.proofs.Imports.{list_all, and_parts, both_ways, not-true, nat_tests, list_all-map, get_or-range_with_len, sum_by-cons}
 use Rattle.mwc_states.proofs.Imports.{◌≡◌, ◌∙◌, ℕ, ◌+◌, ◌≤◌, Bool, true, false, not, cond, List, [], ◌∷◌, get_or, sym, arith, zero-add}
 use Rattle.mwc_states.proofs.Imports.{MOST, min, weigh, meets, without_one, needs_each, fits, weigh_able, false_from_ne_true}
@@ -37,12 +38,7 @@ within-able need row (member ∷ members) (true ∷ set) others each meets_need 
     (reached without need (spared need row member without e (λ k lt. omega (arith, meets_need k lt)) (λ k lt. omega (arith, meets_row k lt))))) in
     let rest = within-able need row members set (λ r. others r + get_or member r 0) one
     (λ k lt. omega (arith, meets_need k lt)) (λ k lt. omega (arith, meets_row k lt)) r in
-    omega (
-      arith,
-      rest,
-      sum_by-cons (λ member. cond (is_able need row member) (get_or member r 0) 0) member members,
-      cond-true (is_able need row member) (get_or member r 0) 0 able,
-    )
+    grind (arith, nat_tests, common_steps, sum_by-cons, get_or, cond-true)
 
 -- where all able members miss the row, each minimal set does
 pub missed : (need row able : List ℕ) (members : List (List ℕ)) (set : List Bool) → ((r : ℕ) → get_or able r 0 ≡ min (weigh_able need row members r) MOST)

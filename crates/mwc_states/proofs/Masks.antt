@@ -1,4 +1,5 @@
 -- Coalitions, which are numbers, as sets: how many of them pass a test, and what they weigh.
+use Rattle.std.proofs.lemmas.Grind.{common_steps}
 use Rattle.mwc_states.proofs.Imports.{get_or, map, filter, sum_by, refl, sym, ap, arith, nat_tests, sum_by-cons, size, down, weight, weigh}
 use Rattle.mwc_states.proofs.Imports.{◌≡◌, ◌∙◌, ℕ, zero, suc, ◌+◌, ◌^◌, ◌<◌, Bool, true, false, ◌&&◌, ◌==◌, cond, List, [], ◌∷◌, length}
 use Rattle.mwc_states.proofs.Imports.{count_sets, has}
@@ -41,9 +42,7 @@ unfolding down
 sum-two f zero n = let e : zero + n ≡ n = omega arith in omega (arith, ap (λ (k : ℕ). sum_by f (down k)) e)
 sum-two f (suc m) n =
     let e : suc m + n ≡ suc (n + m) = omega arith in
-    let back : n + m ≡ m + n = omega arith in
-    ap (λ (k : ℕ). sum_by f (down k)) e
-    ∙ simp sum_by-cons (let rest = ap (λ (k : ℕ). sum_by f (down k)) back ∙ sum-two f m n in omega (arith, rest))
+    let back : n + m ≡ m + n = omega arith in grind (arith, nat_tests, common_steps, sum-two f m n, sum_by, down, sum_by-cons)
 
 abbrev passing : ℕ → (List Bool → Bool) → ℕ → ℕ
 passing n test s = sum_by (λ c. cond (test (set_of n c) && (number (set_of n c) == s)) 1 0) (down (2 ^ n))

@@ -52,6 +52,7 @@ pub(crate) fn build<G: Gate>(
 {
     let mut levels = Vec::with_capacity(alloc, members.len())?;
     let mut table = first_table(alloc, need)?;
+    let rows = room.saturating_mul(8).min(1 << 22);
     let mut left = room.min(1 << 26);
     for level in 0..members.len() {
         if table.len() > left {
@@ -64,7 +65,7 @@ pub(crate) fn build<G: Gate>(
             rules,
             sums_for(table.len(), rules, room),
         )?;
-        let Some((links, next)) = decide_level(alloc, what, &table, &members[level], &later, room)?
+        let Some((links, next)) = decide_level(alloc, what, &table, &members[level], &later, rows)?
         else {
             return Ok(None);
         };

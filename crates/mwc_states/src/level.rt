@@ -25,14 +25,14 @@ pub(crate) fn link_at(links: &Links, row: usize, choice: usize) -> u32
 
 /// Decides a member in each state of a level, and returns the links to the next one and its states.
 ///
-/// Returns `None` if these have more than `room` rows, before equal ones are merged.
+/// Returns `None` if these have more than `rows` rows, before equal ones are merged.
 pub(crate) fn decide_level(
     alloc: Global,
     what: What,
     table: &Table,
     member: &Row,
     later: &Later,
-    room: usize,
+    rows: usize,
 ) -> Result<Option<(Links, Table)>, Memory>
     requires { length table.now ≤ 2 ^ 26 }
     ensures { IfOk result (λ o. IfSome o (λ level. IsLevel what member.now later.now.members.now
@@ -41,7 +41,7 @@ pub(crate) fn decide_level(
     let mut next = Table::new(alloc);
     let mut left = Vec::new(alloc);
     for place in 0..table.len() {
-        if next.rows() > room {
+        if next.rows() > rows {
             return Ok(None);
         }
         decide(what, table.state(place), member, false, later, &mut left)?;
