@@ -1,6 +1,6 @@
 -- Names and rules, one more at a time.
-use Rattle.std.proofs.Common.{◌≡◌, ◌∙◌, ◌≤◌, ◌<◌, ◌+◌, ◌*◌, ◌-◌, ◌⊎◌, ℕ, List, [], ◌∷◌, ◌++◌, length, map, take, drop, decimal, String, Global, string_bytes, refl, sym, ap, arith, true, false}
-use Rattle.std.proofs.lemmas.{List.FromFn.map-range_with_len_more, List.FromFn.length-map-range_with_len, List.length-map, List.map_push}
+use Rattle.std.proofs.Common.{◌≡◌, ◌∙◌, ◌<◌, ◌+◌, ℕ, List, [], ◌∷◌, ◌++◌, length, map, decimal, String, Global, string_bytes, refl, ap, arith, true, false}
+use Rattle.std.proofs.lemmas.{List.FromFn.map-range_with_len_more, List.FromFn.length-map-range_with_len, List.map_push}
 use Rattle.std.proofs.lemmas.{Bool.Decides.nat_tests, Grind.common_steps}
 use Rattle.std.specs.List.{range_with_len}
 use Rattle.std.proofs.Common.{Bool, Option, None, Result, Ok, Err, if◌then◌else◌}
