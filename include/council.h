@@ -1,9 +1,9 @@
 /*
  * Weighted voting games, for C and whatever can call C. See docs/LIBRARY.md.
  *
- * Give a game as arrays and take numbers (council_indices) or coalitions (council_list), or give the bytes of a game file and take a report
- * (council_report). No call starts a thread, keeps anything from one call to the next, or gives out memory. Threads of
- * yours may call at the same time, each with buffers of its own.
+ * Give a game as arrays and take numbers (council_indices) or coalitions (council_list), or give the bytes of a game file
+ * and take a report (council_report). No call starts a thread, keeps anything from one call to the next, or gives out
+ * memory. Threads of yours may call at the same time, each with buffers of its own.
  *
  * No pointer may be NULL, not even if its length is 0, and what a call writes to may overlap nothing else of the call.
  * Call from no signal handler, and not in the forked child of a process with threads. A call needs 512 KB of stack.
@@ -31,9 +31,9 @@ struct council_options {
 /* How a call ends. The numbers up to 6 are the statuses of the program. */
 enum council_status {
 	COUNCIL_REPORT = 0,    /* the text is the report, or the numbers are there */
-	COUNCIL_OPTIONS = 2,   /* no call takes these options, or these lengths and sizes */
+	COUNCIL_OPTIONS = 2,   /* no call takes these options, lengths or sizes */
 	COUNCIL_GAME = 3,      /* the bytes or arrays hold no game: you get the first fault */
-	COUNCIL_TOO_MANY = 4,  /* the game has more minimal winning coalitions than most, or than there is room for */
+	COUNCIL_TOO_MANY = 4,  /* there are more minimal winning coalitions than most, or than there is room for */
 	COUNCIL_MEMORY = 5,    /* memory was refused */
 	COUNCIL_STATES = 6,    /* the swings take too many states */
 	COUNCIL_TOO_LONG = 7   /* the walk made as many visits as it may; only of council_indices */
@@ -106,7 +106,8 @@ enum council_fault {
  * *summary.
  *
  * The coalitions are counted by states, and if these are too many, by a walk of at most so many visits (0: 2^64 - 1).
- * A walk makes some 50 million visits a second; under one rule it makes at most one for each member of each coalition.
+ * Ten million visits take a second or two; under one rule a walk makes at most one for each member of each coalition. The
+ * states come first, and take at most some seconds and some 300 MB.
  *
  * If the status is not 0, the results are unchanged; if it is COUNCIL_OPTIONS, so is the summary. Else its fault, member
  * and rule say what is wrong.
@@ -127,8 +128,8 @@ uint32_t council_list(const uint64_t *quotas, size_t rules, const uint64_t *weig
 
 /*
  * Puts the words of a status into text, as much as fits into room bytes, with no byte 0 after them: "bad weight of member
- * 2". The status is that of council_indices or council_list, and *summary what it left. *length is then the length of all the words; 0
- * for COUNCIL_REPORT, and for what no call gives.
+ * 2". The status is that of council_indices or council_list, and *summary what it left. *length is then the length of all
+ * the words; 0 for COUNCIL_REPORT, and for what no call gives.
  */
 void council_explain(uint32_t status, const struct council_summary *summary, char *text, size_t room, uint64_t *length);
 

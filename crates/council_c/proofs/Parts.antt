@@ -1,9 +1,10 @@
 -- Names and rules, one more at a time.
-use Rattle.std.proofs.Common.{◌≡◌, ◌∙◌, ◌≤◌, ◌<◌, ◌+◌, ◌*◌, ◌-◌, ◌⊎◌, ℕ, List, [], ◌∷◌, ◌++◌, length, map, take, drop, decimal, String, Global, string_bytes, refl, sym, ap, arith, true, false}
-use Rattle.std.proofs.lemmas.{List.FromFn.map-range_with_len_more, List.FromFn.length-map-range_with_len, List.length-map, List.map_push}
+use Rattle.std.proofs.Common.{◌≡◌, ◌∙◌, ◌<◌, ◌+◌, ℕ, List, [], ◌∷◌, ◌++◌, length, map, decimal, String, Global, string_bytes, refl, ap, arith, true, false}
+use Rattle.std.proofs.lemmas.{List.FromFn.map-range_with_len_more, List.FromFn.length-map-range_with_len, List.map_push}
 use Rattle.std.proofs.lemmas.{Bool.Decides.nat_tests, Grind.common_steps}
 use Rattle.std.specs.List.{range_with_len}
 use Rattle.std.proofs.Common.{Bool, Option, None, Result, Ok, Err, if◌then◌else◌}
+use Rattle.council_base.proofs.Shared.Lists.{get_or-zeros}
 use Rattle.council_file.specs.Bracket.{counted_names}
 use Rattle.council_game.specs.{Fault.◌>>=◌, Fault.refuse, Fault.refuse_at, Game.GameView, Game.first_weights, Ranks.rank_places, Votes.RuleView}
 unfoldable pub use Rattle.council_game.specs.Game.{made_game}
@@ -58,3 +59,6 @@ pub members-of-arrays : (q w : List ℕ) (n : ℕ) (g : GameView) → game_of_ar
 unfolding game_of_arrays
 members-of-arrays q w n g h =
     ap (λ (v : GameView). length v.names) (made-is None (counted_names n) (rules_of q w n) g (if-made _ _ g h)) ∙ length-map-range_with_len decimal 1 n
+
+-- what a table that is filled rests on
+pub ruleset zeros = (get_or-zeros)

@@ -1,5 +1,5 @@
 -- The game that arrays hold: quotas, and weights rule by rule.
-use Rattle.std.specs.Prelude.{ℕ, ◌+◌, ◌-◌, ◌*◌, ◌==◌, ◌&&◌, nat_le, nat_lt, not, Bool, List, length, map, slice_index, position, take, drop, Option, None, Result, Err, if◌then◌else◌}
+use Rattle.std.specs.Prelude.{ℕ, ◌+◌, ◌-◌, ◌*◌, ◌&&◌, nat_le, nat_lt, Bool, List, length, map, slice_index, position, take, drop, None, Result, Err, if◌then◌else◌}
 use Rattle.std.specs.List.{range_with_len}
 use Rattle.std.specs.Option.{option_map_or}
 use Rattle.council_base.specs.declared.limits.TheConstants.{RULES, WEIGHT}

@@ -56,6 +56,8 @@ winning_number true g = length (winning_coalitions g)
 pub record IsSummary (with_swings : Bool) (g : GameView) (s : CouncilSummary) : Type 0 where
   pub coalitions : s.coalitions ≡ length (minimal_of g)
   pub of_size : (k : ℕ) → k ≤ length g.names → slice_index s.of_size k ≡ count_of_size g k (minimal_of g)
+  pub no_size : (k : ℕ) → length g.names < k → slice_index s.of_size k ≡ 0
   pub winning : s.winning ≡ winning_number with_swings g
   pub totals : (r : ℕ) → r < length g.rules → slice_index s.totals r ≡ total (rule_at g.rules r)
+  pub no_total : (r : ℕ) → length g.rules ≤ r → slice_index s.totals r ≡ 0
   pub no_fault : (s.fault ≡ 0) × (s.member ≡ 0) × (s.rule ≡ 0)

@@ -85,11 +85,12 @@ pub(crate) fn all_numbers(
     Ok(all)
 }
 
-/// Returns how many minimal winning coalitions have each size.
+/// Returns how many minimal winning coalitions have each size; 0 for more members than there are.
 fn sizes_of(game: &Game, counts: &Counts) -> [u64; limits::SIZES]
     requires { AreCountsOfGame game.now counts.now }
-    ensures { (k : ℕ) → k ≤ length game.now.names
+    ensures sizes { (k : ℕ) → k ≤ length game.now.names
         → slice_index result k ≡ count_of_size game.now k (minimal_of game.now) }
+    ensures rest { (k : ℕ) → length game.now.names < k → slice_index result k ≡ 0 }
 {
     let mut of_size = [0; limits::SIZES];
     for size in 0..game.members() + 1 {
@@ -98,9 +99,11 @@ fn sizes_of(game: &Game, counts: &Counts) -> [u64; limits::SIZES]
     of_size
 }
 
-/// Returns the total of each rule.
+/// Returns the total of each rule; 0 after the last one.
+#[tactic(auto, using(crate::proofs::Parts::zeros))]
 fn totals_of(game: &Game) -> [u64; limits::RULES]
-    ensures { (r : ℕ) → r < length game.now.rules → slice_index result r ≡ total (rule_at game.now.rules r) }
+    ensures totals { (r : ℕ) → r < length game.now.rules → slice_index result r ≡ total (rule_at game.now.rules r) }
+    ensures rest { (r : ℕ) → length game.now.rules ≤ r → slice_index result r ≡ 0 }
 {
     let mut totals = [0; limits::RULES];
     for r in 0..game.rules() {

@@ -1,7 +1,5 @@
-use Rattle.std.proofs.Common.{◌≡◌, ◌∙◌, ap, subst, sym, Option}
-use Rattle.std.specs.Option.{IfSome, is_some}
-use Rattle.swings.specs.Swings.{AreWinningCounts}
-use Rattle.council_c.specs.Numbers.{in_words, numbers}
+use Rattle.std.proofs.Common.{◌∙◌, ap}
+use Rattle.council_c.specs.Numbers.{in_words}
 use Rattle.council_c.proofs.Swinging.{with-swings}
 use Rattle.council_c.proofs.numbers.member_numbers.Goals as goal
 

@@ -1,4 +1,4 @@
-use Rattle.std.proofs.Common.{◌≡◌, ◌<◌, ◌^◌, ◌++◌, List, ℕ, length, subst, sym, ap, ◌∙◌}
+use Rattle.std.proofs.Common.{◌≡◌, ◌<◌, ◌^◌, ◌++◌, List, ℕ, length, subst, sym, ◌∙◌}
 use Rattle.council_game.specs.{Game.votes_of, Votes.minimal_coalitions}
 use Rattle.mwc_walk.specs.WalkView.{given}
 use Rattle.power_index.specs.Tables.{AreTallies}

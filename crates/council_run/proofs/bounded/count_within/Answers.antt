@@ -1,4 +1,4 @@
-use Rattle.std.proofs.Common.{◌≡◌, ◌∙◌, ℕ, ap, arith}
+use Rattle.std.proofs.Common.{◌∙◌, ap, arith}
 use Rattle.council_game.specs.Game.{GameView}
 use Rattle.mwc_walk.specs.WalkView.{WalkView}
 use Rattle.council_run.proofs.Visits.{few-visits, same-parts, too-long}
