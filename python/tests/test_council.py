@@ -313,7 +313,7 @@ class Reports(unittest.TestCase):
             ("members\t3", "members\t4", unsound), ("total\t100", "total\t101", unsound), ("total\t100", "total\t100/3", unsound), ("minimal\t2", "minimal\t1", unsound), ("minimal\t2", "minimal\tx", unsound),
             ("member\t3\t1\t1\t", "member\t3\t1/1\t1\t", unsound), ("member\t3\t1\t1\t1/4\t0.250000", "member\t3\t1\t1\t1/8\t0.125000", unsound),
             ("1/4\t0.250000\n", "1/8\t0.125000\n", unsound), ("1/2\t0.500000\t1/2\t0.500000", "1/4\t0.250000\t3/4\t0.750000", unsound), ("1/2\t0.500000\n", "1/2\t0.500001\n", "line 7"), ("1/2\t0.500000\n", "1/0\t0.500000\n", "line 7"), ("1/2\t0.500000\n", "+1/2\t0.500000\n", "line 7"), ("1/2\t0.500000\n", "1/0_2\t0.500000\n", "line 7"),
-            ("1/2\t0.500000\n", "1/2\t0.500000\t\n", "line 7"), ("coalition\t2\t99", "coalition\t3\t99", "line 5"), ("coalition\t2\t99", "coalition\t1\t99", "line 5"),
+            ("coalition\t2\t99", "coalition\t3\t99", "line 5"), ("coalition\t2\t99", "coalition\t1\t99", "line 5"),
         ]:
             changed = LISTED.replace(old, new)
             wanted = f"{text} is no line of a report of council" if text.startswith("line") else text
@@ -323,6 +323,8 @@ class Reports(unittest.TestCase):
                 # (of a text, the coalitions are read last, and their lines are not counted)
                 if read != Report.from_text or text == unsound:
                     self.assertEqual((str(caught.exception), caught.exception.status), (wanted, 1))
+        later = LISTED.replace("minimal\t2\n", "minimal\t2\nquorum\t3\n").replace("0\nmember", "0\tother\nmember")
+        self.check_same(Report.from_text(later), Report.from_text(LISTED))
         one = LISTED.replace("coalition\t2\t99\t1\t2\n", "")
         self.assertEqual(Report(one.split("\n")[:-1]).listed, 1)
         with self.assertRaises(Fault):

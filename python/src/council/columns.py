@@ -57,5 +57,3 @@ SWINGS = Group("winning", "winning coalitions", "swings", "Swings", (
     Index("shapley_shubik", "Shapley-Shubik", "Shapley-Shubik index", "SS", "#1a7f94", "#45c4d8"),
 ))
 INDICES = [*MINIMAL.indices, *SWINGS.indices]
-# the groups of a line `member`, by how many fields it has after the name and the weights
-FORMS = {sum(1 + 2 * len(it.indices) for it in its): its for its in ([MINIMAL], [SWINGS], [MINIMAL, SWINGS])}

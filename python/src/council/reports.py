@@ -7,10 +7,11 @@ import gc
 import io
 import itertools
 import math
+import re
 from fractions import Fraction
 from typing import TYPE_CHECKING, Any, Callable, Iterable, Iterator, NamedTuple, NoReturn, Optional, Sequence
 
-from .columns import FORMS, MINIMAL, SWINGS, Group, Index
+from .columns import MINIMAL, SWINGS, Group, Index
 
 # the most coalitions that a report lists, and the letters that one of its lines may have
 MOST, LINE = 4_000_000, 1 << 16
@@ -137,11 +138,14 @@ def read_index(fraction: str, decimals: str) -> Fraction:
     return value
 
 
-def read_member(name: str, weights: str, *fields: str) -> Member:
-    """Reads the fields of a line `member`, whose number says which columns it has."""
-    left = iter(fields)
-    groups = {it: (read_number(next(left)), [read_index(next(left), next(left)) for _ in it.indices]) for it in FORMS[len(fields)]}
-    return make_member(name, read_numbers(weights), groups)
+def read_member(groups: Iterable[Group], name: str, weights: str, *fields: str) -> Member:
+    """Reads the fields of a line `member` that has these groups of columns, and passes over others."""
+    found, at = {}, 0
+    for group in groups:
+        end = at + 1 + 2 * len(group.indices)
+        found[group] = (read_number(fields[at]), [read_index(fields[it], fields[it + 1]) for it in range(at + 1, end, 2)])
+        at = end
+    return make_member(name, read_numbers(weights), found)
 
 
 def make_member(name: str, weights: tuple[int, ...], groups: dict[Group, tuple[int, list[Fraction]]]) -> Member:
@@ -185,7 +189,8 @@ class Report:
     order of the game. `coalitions` has the list of the minimal ones. What was not asked for is None.
 
     Lines have different numbers of fields, and a name may hold quotes: so the fields are split at
-    TABs and nothing else. What is no report is a Fault. A report can list millions of coalitions:
+    TABs and nothing else. Lines and fields of a later version are passed over. What is no report is
+    a Fault. A report can list millions of coalitions:
     if you pass `take`, it is called with one after the other, and the report keeps none. `read`
     makes what it is called with of the fields of a line.
     """
@@ -236,13 +241,13 @@ class Report:
             kind, *fields = line.rstrip("\r\n").split("\t")
             try:
                 if kind == "member" and len(self.members) < 40:
-                    self.members.append(read_member(*fields))
+                    self.members.append(read_member([it for it in (MINIMAL, SWINGS) if it.line in one], *fields))
                 elif kind == "coalition" and self.listed < MOST:
                     take(read(*fields))
                     self.listed += 1
                 elif kind in ("title", "members", "quota", "total", MINIMAL.line, SWINGS.line):
                     (one[kind],) = fields
-                elif kind not in ("notation", "size"):
+                elif kind in ("member", "coalition") or not re.fullmatch("[a-z]+", kind):
                     raise ValueError(kind)
             except (LookupError, TypeError, ValueError, ZeroDivisionError):
                 raise Fault(f"line {at} is no line of a report of council") from None

@@ -208,10 +208,11 @@ quote_text <- function(text) {
 }
 
 # The columns of a line "member" after the name and the weights, in groups that begin with a number, by
-# how many fields the line has.
-MINIMAL <- c("coalitions", "deegan_packel", "public_good")
-SWINGS <- c("swings", "banzhaf", "penrose", "shapley_shubik")
-FORMS <- list("8" = list(MINIMAL), "10" = list(SWINGS), "15" = list(MINIMAL, SWINGS))
+# the line that a report with them has.
+GROUPS <- list(
+  minimal = c("coalitions", "deegan_packel", "public_good"),
+  winning = c("swings", "banzhaf", "penrose", "shapley_shubik")
+)
 
 # Makes the data frame of the lines of a report. Fields are separated by TABs, and quotes in names
 # mean nothing.
@@ -230,7 +231,7 @@ read_report <- function(lines, coalitions) {
     table[[if (rules > 1) paste0("weight_", rule) else "weight"]] <- vapply(weights, `[`, 0, rule)
   }
   at <- 4L
-  for (group in FORMS[[as.character(length(members[[1]]))]]) {
+  for (group in GROUPS[intersect(names(GROUPS), kinds)]) {
     table[[group[1]]] <- as.numeric(column(at))
     its <- group[-1]
     exact <- lapply(at - 1L + 2L * seq_along(its), column)
@@ -241,7 +242,7 @@ read_report <- function(lines, coalitions) {
   attr(table, "title") <- field("title")
   attr(table, "quota") <- read_numbers(field("quota"))
   attr(table, "total") <- read_numbers(field("total"))
-  for (kind in intersect(c("minimal", "winning"), kinds)) attr(table, kind) <- as.numeric(field(kind))
+  for (kind in intersect(names(GROUPS), kinds)) attr(table, kind) <- as.numeric(field(kind))
   if (coalitions) {
     attr(table, "coalitions") <- lapply(find("coalition"), `[`, -(1:3))
   }
