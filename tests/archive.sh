@@ -148,7 +148,7 @@ fi
 # of LIBRARY.md lead somewhere
 name="in the archive, its own links lead to files"
 missing=$(
-    for page in README.md docs/LIBRARY.md; do
+    for page in README.md docs/LIBRARY.md docs/LANGUAGES.md; do
         cd "$here/$(dirname "$page")" || exit
         grep -oE '\]\([^)#:]+[)#]' "${page##*/}" | tr -d '])(#' | while IFS= read -r file; do [ -e "$file" ] || echo "$page: $file"; done
     done

@@ -297,6 +297,38 @@ if command -v cc >/dev/null; then
     done
 fi
 
+# ---- the examples of LANGUAGES, unchanged
+example() {
+    case $1 in
+    *.python) PYTHONPATH=$top/python/src COUNCIL_LIBRARY=$temp/libcouncil.so LD_LIBRARY_PATH=$temp python3 "$1" ;;
+    *.rust)
+        rustc --edition 2024 -D warnings -o "$temp/example_rs" "$1" -L "$temp" -l council &&
+            LD_LIBRARY_PATH=$temp "$temp/example_rs"
+        ;;
+    *.r)
+        # (the package is not installed here)
+        sed '/^library(council)$/d' "$1" | cat "$top/r/council/R/council.R" - >"$temp/example.R"
+        COUNCIL_PROGRAM=$program Rscript --vanilla "$temp/example.R"
+        ;;
+    esac
+}
+if [ -f "$temp/libcouncil.so" ] && needs python3 "the examples of LANGUAGES"; then
+    python3 -c '
+import re, sys
+page = open(sys.argv[1], encoding="utf-8").read()
+for at, (kind, code) in enumerate(re.findall(r"```(\w+)\n(.*?)```", page, re.S)):
+    open(f"{sys.argv[2]}/{at}.{kind}", "w", encoding="utf-8").write(code)
+' "$top/docs/LANGUAGES.md" "$temp"
+    for file in "$temp"/[0-9].*; do
+        name="the example of LANGUAGES ${file##*/}"
+        case $file in *.rust) tool=rustc ;; *.r) tool=Rscript ;; *) tool=python3 ;; esac
+        if needs "$tool" "$name"; then
+            example "$file" >"$temp/its" 2>"$temp/its.err"
+            if [ "$(tr '\n' ' ' <"$temp/its")" = "2 0.500000 1 0.250000 1 0.250000 " ]; then ok "$name"; else failed "$name" "$(head -n 1 "$temp/its.err")"; fi
+        fi
+    done
+fi
+
 # ---- out of memory: each allocation of a call for numbers refused in turn; of a report, each of
 # the first 300, and then every 17th, until none is met. It is reported, or was not needed. The
 # members of two kinds are never counted by a walk instead: that takes an hour.

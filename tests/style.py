@@ -35,6 +35,7 @@ LIMITS = {
     "docs/ARCHITECTURE.md": 2200,
     "docs/DECISIONS.md": 1000,
     "docs/LIBRARY.md": 1400,
+    "docs/LANGUAGES.md": 450,
 }
 COMPUTED = ["docs/TRUST.md"]
 # a pattern, how often a page may have it, and what to write instead

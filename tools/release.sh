@@ -80,7 +80,7 @@ mkdir -p "$folder/docs" "$folder/bin" "$to"
 cp "$program" "$folder/council"
 cp "$top/tools/archive/README.md" "$top/tools/archive/install.sh" "$folder/"
 # (no name of the repository has a blank)
-for file in $(git -C "$top" ls-files LICENSE CITATION.cff CHANGELOG.md docs/GUIDE.md docs/FORMATS.md docs/LIBRARY.md docs/council.1 docs/council-tools.1 docs/statutes examples completions r); do
+for file in $(git -C "$top" ls-files LICENSE CITATION.cff CHANGELOG.md docs/GUIDE.md docs/FORMATS.md docs/LIBRARY.md docs/LANGUAGES.md docs/council.1 docs/council-tools.1 docs/statutes examples completions r); do
     mkdir -p "$folder/$(dirname "$file")"
     cp "$top/$file" "$folder/$file"
 done
