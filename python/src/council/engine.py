@@ -182,8 +182,9 @@ class Library:
         self.path = path
         library: Any = ctypes.CDLL(path)
         # (an older library has no swings, or does not take arrays)
-        self._call, self._swings_call = library.council_report, getattr(library, "council_swings_report", None)
-        self._indices = getattr(library, "council_indices", None)
+        self._call: Any = library.council_report
+        self._swings_call: Any = getattr(library, "council_swings_report", None)
+        self._indices: Any = getattr(library, "council_indices", None)
         if self._indices:
             place = [ctypes.c_void_p, ctypes.c_size_t]
             self._indices.restype, self._indices.argtypes = ctypes.c_uint32, [*place, *place, ctypes.c_bool, U64, *place, ctypes.c_void_p]
