@@ -323,7 +323,7 @@ class Reports(unittest.TestCase):
                 # (of a text, the coalitions are read last, and their lines are not counted)
                 if read != Report.from_text or text == unsound:
                     self.assertEqual((str(caught.exception), caught.exception.status), (wanted, 1))
-        later = LISTED.replace("minimal\t2\n", "minimal\t2\nquorum\t3\n").replace("0\nmember", "0\tother\nmember")
+        later = LISTED.replace("0\nmember", "0\tother\nmember")
         self.check_same(Report.from_text(later), Report.from_text(LISTED))
         one = LISTED.replace("coalition\t2\t99\t1\t2\n", "")
         self.assertEqual(Report(one.split("\n")[:-1]).listed, 1)

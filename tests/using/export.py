@@ -141,19 +141,23 @@ class Export(Tests):
             self.check_refused(Run("export", "csv", input=data), status=1)
 
     def test_a_changed_report_is_refused(self):
-        """Each report in which one field is another is refused, except for names and what repeats."""
+        """Each report in which one field is another is refused, except for names, what repeats, and
+        fields after the last one of a member, which a later version may have."""
         for number, line in enumerate(TWO.split("\n")[:-1]):
             fields = line.split("\t")
             for at in range(len(fields)):
                 if (fields[0], at) in [("title", 1), ("member", 1)] or (fields[0] == "coalition" and at > 1) or (fields[0], at) == ("member", 3) or (fields[0], at) in [("quota", 1), ("minimal", 1)]:
                     continue
                 for new in fields[at] + "1", "x" + fields[at], "", fields[at] + "\t", "-" + fields[at], "\uff11" + fields[at]:
+                    if fields[0] == "member" and at == len(fields) - 1 and new.endswith("\t"):
+                        continue
                     lines = TWO.split("\n")
                     lines[number] = "\t".join([*fields[:at], new, *fields[at + 1 :]])
                     with self.subTest(line=lines[number]):
                         self.check_refused(Run("export", "json", input="\n".join(lines)), status=1)
-        for kind in "members", "quota", "total", "minimal", "winning":
-            self.check_refused(Run("export", "csv", input=re.sub(rf"{kind}\t.*\n", "", TWO)), "the report is not whole")
+        for kind in "members", "quota", "total", "minimal":
+            wanted = "the report is not whole" if kind != "minimal" else "is no line of a report"
+            self.check_refused(Run("export", "csv", input=re.sub(rf"{kind}\t.*\n", "", TWO)), wanted)
         self.check_refused(Run("export", "csv", input=TWO.replace("minimal\t2", "minimal\t1")), "the report is not whole")
         for value in "5000", "5000/", "5_000/2", "5000/2/1":
             self.check_refused(Run("export", "csv", input=TWO.replace("quota\t5000/2", f"quota\t{value}")), "the report is not whole")

@@ -7,7 +7,6 @@ import gc
 import io
 import itertools
 import math
-import re
 from fractions import Fraction
 from typing import TYPE_CHECKING, Any, Callable, Iterable, Iterator, NamedTuple, NoReturn, Optional, Sequence
 
@@ -189,10 +188,10 @@ class Report:
     order of the game. `coalitions` has the list of the minimal ones. What was not asked for is None.
 
     Lines have different numbers of fields, and a name may hold quotes: so the fields are split at
-    TABs and nothing else. Lines and fields of a later version are passed over. What is no report is
-    a Fault. A report can list millions of coalitions:
-    if you pass `take`, it is called with one after the other, and the report keeps none. `read`
-    makes what it is called with of the fields of a line.
+    TABs and nothing else. Further fields of a member, which a later version may have, are passed
+    over. What is no report is a Fault. A report can list millions of coalitions: if you pass `take`,
+    it is called with one after the other, and the report keeps none. `read` makes what it is called
+    with of the fields of a line.
     """
 
     def __init__(self, lines: Iterable[str], take: Optional[Callable[[Any], object]] = None, read: Callable[..., Any] = read_coalition):
@@ -247,7 +246,7 @@ class Report:
                     self.listed += 1
                 elif kind in ("title", "members", "quota", "total", MINIMAL.line, SWINGS.line):
                     (one[kind],) = fields
-                elif kind in ("member", "coalition") or not re.fullmatch("[a-z]+", kind):
+                elif kind not in ("notation", "size"):
                     raise ValueError(kind)
             except (LookupError, TypeError, ValueError, ZeroDivisionError):
                 raise Fault(f"line {at} is no line of a report of council") from None
