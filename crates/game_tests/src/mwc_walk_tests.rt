@@ -208,14 +208,14 @@ fn seek_all(walk: &mut Walk<'_>) -> u64 {
 }
 
 /// Fourteen members who count by the first rule only come before ten who count by both. The walk
-/// would make 274,209 visits if it did not ask what must still come, and 7,558 if it rounded that
-/// down.
+/// would make some 270,000 visits if it did not ask what must still come, and some 8,000 if it
+/// rounded that down.
 #[test]
 fn what_must_come_saves_visits(rt: HostRuntime) {
     let statute: Statute = (&[10, 17], &[(14, &[1, 0]), (10, &[1, 2])]);
     let game = game_by_groups(&rt, rt.alloc(), &[0, 1], &statute);
-    check(&rt, &mut Walk::new(&game, 0, 0), 141, 2_425);
+    check(&rt, &mut Walk::new(&game, 0, 0), 141, 2_933);
     let mut walk = Walk::new(&game, 0, 0);
     let found = (seek_all(&mut walk), walk.visits());
-    assert_same(&rt, found, (141, 2_425), "sought");
+    assert_same(&rt, found, (141, 2_933), "sought");
 }
