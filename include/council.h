@@ -41,7 +41,7 @@ enum council_status {
 
 /*
  * Reads the bytes of a game file, and puts its report into text, or the words of a fault; of either as much as fits
- * into room bytes, with no byte 0 behind it. *length is then the length of the whole text: where that is more than room,
+ * into room bytes, with no byte 0 after it. *length is then the length of the whole text: where that is more than room,
  * call again with room for *length bytes.
  *
  * A call takes from malloc a few hundred MB for a game of many states (270 were seen), and for a list 8 to 16 bytes for
@@ -105,7 +105,7 @@ enum council_fault {
  * then those of the second, and so on. Puts the numbers of member i into results[i], and those of the game into
  * *summary.
  *
- * The coalitions are counted by states, and if these are too many, by a walk of at most so many visits (0: 2^64 - 1).
+ * The coalitions are counted by states, and if these are too many, by a walk; visits is the most that it makes (0: 2^64 - 1).
  * Ten million visits take a second or two; under one rule a walk makes at most one for each member of each coalition. The
  * states come first, and take at most some seconds and some 300 MB.
  *
