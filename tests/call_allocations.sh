@@ -176,7 +176,6 @@ takes_memory council_file reads_too_much
 takes_memory council_file writes_notation
 takes_memory council_file puts_numbers
 takes_memory council_report writes_a_report
-takes_memory council_report writes_a_tally
 takes_memory mwc_walk lists_a_slice
 takes_memory mwc_walk lists_all
 asks_for_little mwc_walk lists_a_slice

@@ -2,7 +2,7 @@
 use Rattle.council_report.proofs.Imports.{◌≡◌, ℕ, ◌+◌, ◌^◌, ◌<◌, ◌≤◌, ◌++◌, List, [], ◌∷◌, length, get_or, map, decimal, Bool, cond, true}
 use Rattle.council_report.proofs.Imports.{zero, suc, arith, length-append, flat_map, range_with_len, length-map, length-range_with_len}
 use Rattle.council_report.proofs.Imports.{GameView, IsGame, votes_of, votes-are, weight-le, table_of_member_size, few-members, GameNumbers}
-use Rattle.council_report.proofs.Imports.{Option, None, Some, refl, coalition_lines, ReportLines, line_of_size, line_of_member, lines_of, with_tab, names_of, coalition_line, size_line}
+use Rattle.council_report.proofs.Imports.{Option, None, Some, coalition_lines, ReportLines, line_of_size, line_of_member, with_tab, names_of, coalition_line, size_line}
 use Rattle.council_report.proofs.Imports.{get_or-range_with_len, nat_tests, common_steps, IsRule, weight, member_line}
 use Rattle.std.proofs.lemmas.{Fmt.length-decimal-le, Fmt.length-decimal-le_wide, List.FromFn.length-map-range_with_len, List.Sums.sum_by-le}
 use Rattle.std.proofs.lemmas.{Bool.cond_both, List.Concat.length-flat_map}
@@ -211,22 +211,11 @@ members-fit k =
 
 -- 2^40 + 80 lines at most, whose bytes can be counted
 pub lines-count : (shown : ReportLines) (k : GameNumbers) (list : List ℕ) (told : ℕ) → (shown.list ≡ true → length list ≤ 2 ^ 40) → told < 2 ^ 63
-    → told + length (lines_of shown k list) < 2 ^ 64
-unfolding lines_of
+    → told + (length (coalition_lines shown k.game.now list) + length (lines_of_sizes shown k) + length (lines_of_members k)) < 2 ^ 64
 lines-count shown k list told few small =
     let sizes = chosen-fits shown.sizes (option_map_or (λ c. sizes_of_counts k.game.now c.now) k.counts []) (40 * 4096) (λ _. sizes-fit k) in
     let rows = members-fit k in
     let coalitions = chosen-fits shown.list (flat_map (coalition_line k.game.now) list) (2 ^ 40 * 4096) (λ on.
     let all = rows-fit (coalition_line k.game.now) list (λ i d lt. coalition-fits k.game.now k.is_game (get_or list i d)) in
     let some = few on in omega (arith, all, some)) in
-    let whole : length (lines_of shown k list) ≡ length (coalition_lines shown k.game.now list ++ lines_of_sizes shown k ++ lines_of_members k) = refl in
-    omega (
-      arith,
-      whole,
-      sizes,
-      rows,
-      coalitions,
-      small,
-      length-append (coalition_lines shown k.game.now list ++ lines_of_sizes shown k) (lines_of_members k),
-      length-append (coalition_lines shown k.game.now list) (lines_of_sizes shown k),
-    )
+    omega (arith, sizes, rows, coalitions, small)

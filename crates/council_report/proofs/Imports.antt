@@ -6,7 +6,7 @@ pub use Rattle.council_report.specs.{Inner.Lines.line_of_member, Inner.Lines.lin
 pub use Rattle.council_report.specs.{Inner.Ready.AppendsInRoom, Lines.names_of, Lines.with_tab, Report.coalition_lines, declared.output.Block.Block}
 pub use Rattle.council_report.specs.Inner.Writing.{KeepsReady}
 pub use Rattle.council_report.specs.Inner.SharedLine.{AreSeats, HasNoneFrom, IsLine, IsReadyLine, IsSeat, SameBefore}
-pub use Rattle.council_report.specs.Inner.Written.{Calls, Ends, HasStopped, Progress, StopsIn, Advances, count_of, progress_of}
+pub use Rattle.council_report.specs.Inner.Written.{Calls, Ends, Progress, Advances, count_of, progress_of}
 pub use Rattle.power_index.proofs.Shared.Members.{few-members}
 pub use Rattle.power_index.specs.Tables.{table_of_member_size}
 pub use Rattle.std.proofs.Common.{subst, suc, sym, take, take-append-drop, take_all, true, w64, zero, ℕ, ◌++◌, ◌+◌, ◌-◌, ◌<◌, ◌^◌, ◌∙◌, ◌∷◌}

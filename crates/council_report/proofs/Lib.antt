@@ -3,7 +3,6 @@ mod Telling
 mod Sends
 mod Turns
 mod Wholes
-mod Lasting
 mod Beginnings
 pub mod SharedLines
 mod Differences

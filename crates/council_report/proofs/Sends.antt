@@ -1,10 +1,12 @@
 -- One call to a writer, and then the others.
-use Rattle.council_report.proofs.Imports.{◌≡◌, ◌<◌, ◌+◌, ◌-◌, ℕ, List, length, take, drop, Result, Ok, Err, sym, subst}
-use Rattle.council_report.proofs.Imports.{arith, take_all}
+use Rattle.council_report.proofs.Imports.{◌≡◌, ◌<◌, ◌+◌, ◌-◌, ◌++◌, [], ℕ, List, length, take, drop, Result, Ok, Err, sym, subst}
+use Rattle.council_report.proofs.Imports.{arith, cases_lt, false, inl, inr, nat_tests, take_all, true}
 use Rattle.std.proofs.Common.{length-drop}
 use Rattle.std.proofs.lemmas.List.{drop-drop}
 use Rattle.std.specs.declared.io.Error.{Error}
-use Rattle.council_report.specs.Sending.{Sending, takes, takes_none, fails}
+use Rattle.std.specs.Prelude.{nat_lt}
+use Rattle.council_report.specs.{Inner.Writing.IsBlock, Inner.Writing.Takes, Inner.Written.EndsAfter}
+use Rattle.council_report.specs.Sending.{Sending, begins, takes, takes_none, fails}
 
 -- the bytes from one on
 pub bytes-from : (bytes : List ℕ) (n : ℕ) → take (length bytes - n) (drop n bytes) ≡ drop n bytes
@@ -39,3 +41,21 @@ module _ {W : Type 0} (is_write : W → List ℕ → Result ℕ Error → W → 
   takes-no-more w last bytes rest written count (Err e) none more is =
       fails w last (drop written bytes) rest (count + written) e (omega (arith, length-drop written bytes))
       (subst (λ (b : List ℕ). is_write w b (Err e) last) (bytes-from bytes written) is)
+
+  -- a block went out: all of it, or as far as the writer took it
+  pub drained : (first now : W) (bytes : List ℕ) (written n : ℕ) → Takes (Sending is_write is_flush) bytes first now n
+      → (rest : List ℕ) (end : Result ℕ ℕ) (last : W) → IsBlock bytes rest
+      → EndsAfter (Sending is_write is_flush) (nat_lt n (length bytes)) now rest (written + n) end last
+      → Sending is_write is_flush first [] (bytes ++ rest) written end last
+  drained first now bytes written n part rest end last block next =
+      elim (cases_lt n (length bytes)) [
+        | inl less ↦
+            let stops : nat_lt n (length bytes) ≡ true = grind (arith, nat_tests) in
+            let is : (end ≡ Err (written + n)) × (last ≡ now) = rw stops at next in
+            subst (λ (e : Result ℕ ℕ). Sending is_write is_flush first [] (bytes ++ rest) written e last) (sym is.0)
+            (subst (λ (l : W). Sending is_write is_flush first [] (bytes ++ rest) written (Err (written + n)) l) (sym is.1)
+            (begins first now bytes rest written (Err (written + n)) block (part.part less rest written)))
+        | inr all ↦
+            let goes : nat_lt n (length bytes) ≡ false = grind (arith, nat_tests) in
+            begins first last bytes rest written end block (part.all (omega (arith, part.within, all)) rest written end last (rw goes at next))
+      ]

@@ -1,6 +1,16 @@
--- Texts written one after another, and where one stops.
-use Rattle.council_report.proofs.Imports.{arith, append_assoc, length-append, subst, append-nil, Progress, Calls, Ends, StopsIn, HasStopped}
-use Rattle.council_report.proofs.Imports.{◌≡◌, ◌++◌, ℕ, List, [], Err, sym, ap, ◌∙◌, progress_of, Advances, Block, length}
+-- Texts told one after another, through a block that stays ready.
+use Rattle.council_report.proofs.Imports.{◌≡◌, ◌≤◌, ◌++◌, ◌∙◌, ℕ, Bool, List, [], false, arith, ap, append_assoc, append-nil, common_steps, length, length-append, subst, sym}
+use Rattle.council_report.proofs.Imports.{Advances, AppendsInRoom, Block, Calls, Ends, KeepsReady, Progress, progress_of}
+use Rattle.council_report.specs.Inner.{Ready.CanCount, Ready.HasRoom, Ready.IsReady, Written.EndsAfter}
+
+-- a line of 4096 bytes at most is put into a ready block
+line-kept : {text : List ℕ} {old pushed : Block} → IsReady old → AppendsInRoom old pushed text → length text ≤ 4096 → pushed.refused ≡ false
+line-kept ready takes short = takes.fits ready.kept (omega (arith, ready.room, ready.free, short))
+
+-- the number of bytes told so far still fits
+pub line-counts : (text : List ℕ) (old pushed : Block) → IsReady old → AppendsInRoom old pushed text → length text ≤ 4096 → CanCount old text
+    → CanCount pushed []
+line-counts text old pushed ready takes short few = grind (arith, common_steps, takes.adds.items (line-kept ready takes short))
 
 module _ {W : Type 0} (S : Calls W) where
   pub tells-then : (a b c : Progress W) (x y : List ℕ) → Advances S a b x → Advances S b c y → Advances S a c (x ++ y)
@@ -10,26 +20,24 @@ module _ {W : Type 0} (S : Calls W) where
     count = omega (arith, first.count, next.count, length-append x y);
   }
 
-  pub tells-same : (a b c : Progress W) (x : List ℕ) → Advances S a b x → Advances S b c [] → Advances S a c x
-  tells-same a b c x first next = subst (Advances S a c) (append-nil x) (tells-then a b c x [] first next)
-
   -- a text at the end of the block
-  pub tells-block : (writer : W) (a b : Block) (text : List ℕ) → b.written ≡ a.written → b.bytes.items ≡ a.bytes.items ++ text
+  tells-block : (writer : W) (a b : Block) (text : List ℕ) → AppendsInRoom a b text → b.bytes.items ≡ a.bytes.items ++ text
       → Advances S (progress_of writer a) (progress_of writer b) text
-  tells-block writer a b text same more = record {
-    ends = λ rest end last h. subst (λ (t : List ℕ). S writer [] t a.written end last)
+  tells-block writer a b text takes more = record {
+    ends = λ rest end last h. subst (λ (t : List ℕ). EndsAfter S a.stopped writer t a.written end last)
         (ap (λ (t : List ℕ). t ++ rest) more ∙ append_assoc a.bytes.items text rest)
-        (subst (λ (n : ℕ). S writer [] (b.bytes.items ++ rest) n end last) same h);
-    count = omega (arith, same, ap (λ (t : List ℕ). length t) more, length-append a.bytes.items text);
+        (subst (λ (s : Bool). EndsAfter S s writer (b.bytes.items ++ rest) a.written end last) takes.adds.stopped
+        (subst (λ (n : ℕ). EndsAfter S b.stopped writer (b.bytes.items ++ rest) n end last) takes.adds.written h));
+    count = omega (arith, takes.adds.written, ap (λ (t : List ℕ). length t) more, length-append a.bytes.items text);
   }
 
-  pub stopped-first : (a : Progress W) (x y : List ℕ) (last : W) (n : ℕ) → StopsIn S a x last n → StopsIn S a (x ++ y) last n
-  stopped-first a x y last n s = λ rest. subst (λ (t : List ℕ). Ends S a t (Err n) last) (sym (append_assoc x y rest)) (s (y ++ rest))
-
-  pub stopped-next : (a b : Progress W) (x y : List ℕ) (last : W) (n : ℕ) → Advances S a b x → StopsIn S b y last n → StopsIn S a (x ++ y) last n
-  stopped-next a b x y last n first s = λ rest. subst (λ (t : List ℕ). Ends S a t (Err n) last) (sym (append_assoc x y rest))
-      (first.ends (y ++ rest) (Err n) last (s rest))
-
-  -- it stopped once all of the text was told
-  pub stopped-after : (a b : Progress W) (x : List ℕ) (last : W) (n : ℕ) → Advances S a b x → HasStopped S b last n → StopsIn S a x last n
-  stopped-after a b x last n tells stopped = λ rest. tells.ends rest (Err n) last (stopped rest)
+  -- a line, in a block that is then made ready again
+  pub puts-line : (text : List ℕ) (held now : W) (old pushed new : Block) → IsReady old → AppendsInRoom old pushed text
+      → length text ≤ 4096 → Advances S (progress_of held pushed) (progress_of now new) []
+      → (HasRoom pushed → pushed.refused ≡ false → IsReady new) → KeepsReady S (progress_of held old) now new text
+  puts-line text held now old pushed new ready takes short settled again =
+      let kept = line-kept ready takes short in
+      let told = tells-block held old pushed text takes (takes.adds.items kept) in record {
+        tells = subst (Advances S _ _) (append-nil text) (tells-then _ (progress_of held pushed) _ text [] told settled);
+        ready = again (omega (arith, ready.room, takes.adds.capacity)) kept;
+      }

@@ -1,10 +1,10 @@
--- A row of texts written one after another: one more, and where it stops.
-use Rattle.council_report.proofs.Imports.{◌≡◌, ◌<◌, ◌≤◌, ◌+◌, ◌^◌, ◌++◌, ℕ, List, length, get_or, take, drop, sym, ap, ◌∙◌, subst}
-use Rattle.council_report.proofs.Imports.{range_with_len, flat_map-append, common_steps, take_all, take-append-drop, StopsIn, [], ◌∷◌}
+-- A row of texts told one after another: one more.
+use Rattle.council_report.proofs.Imports.{◌≡◌, ◌<◌, ◌≤◌, ◌+◌, ◌^◌, ◌++◌, ℕ, List, length, get_or, take, sym, ap, ◌∙◌, subst}
+use Rattle.council_report.proofs.Imports.{range_with_len, flat_map-append, common_steps, take_all, [], ◌∷◌}
 use Rattle.council_report.proofs.Imports.{get_or-range_with_len, length-range_with_len, nat_tests, Progress, Advances, Calls, count_of, arith, flat_map}
 use Rattle.council_report.proofs.Imports.{append-nil}
 use Rattle.std.proofs.lemmas.List.{take_more, Folds.length-flat_map-take}
-use Rattle.council_report.proofs.Telling.{tells-then, stopped-first, stopped-next}
+use Rattle.council_report.proofs.Telling.{tells-then}
 
 -- with one more
 pub rows-more : {X : Type 0} (f : X → List ℕ) (xs : List X) (x : X) → flat_map f (xs ++ x ∷ []) ≡ flat_map f xs ++ f x
@@ -32,17 +32,6 @@ module _ {W : Type 0} (S : Calls W) {X : Type 0} (f : X → List ℕ) where
   pub turn-told : {a b c : Progress W} {xs : List X} {i : ℕ} {x : X} → IsNext xs i x → Advances S a b (flat_map f (take i xs))
       → Advances S b c (f x) → Advances S a c (flat_map f (take (i + 1) xs))
   turn-told {a} {b} {c} next before more = subst (Advances S a c) (sym (with-next f next)) (tells-then S a b c _ _ before more)
-
-  pub turn-stopped : {a b : Progress W} {xs : List X} {i : ℕ} {x : X} {last : W} {n : ℕ}
-      → IsNext xs i x → Advances S a b (flat_map f (take i xs)) → StopsIn S b (f x) last n → StopsIn S a (flat_map f xs) last n
-  turn-stopped {a} {b} {xs} {i} {x} {last} {n} next before stopped =
-      let first : List ℕ = flat_map f (take i xs) in
-      let rest : List ℕ = flat_map f (drop (i + 1) xs) in
-      let whole : (first ++ f x) ++ rest ≡ flat_map f xs =
-      ap (λ (t : List ℕ). t ++ rest) (sym (with-next f next))
-      ∙ sym (flat_map-append f (take (i + 1) xs) (drop (i + 1) xs)) ∙ ap (flat_map f) (take-append-drop (i + 1) xs) in
-      subst (λ t. StopsIn S a t last n) whole
-      (stopped-first S a (first ++ f x) rest last n (stopped-next S a b first (f x) last n before stopped))
 
   -- the number of bytes told so far and of the next text is no greater than with all the texts
   pub turn-counts : {a b : Progress W} {xs : List X} {i : ℕ} {x : X} → IsNext xs i x → Advances S a b (flat_map f (take i xs))

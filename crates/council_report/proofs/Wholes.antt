@@ -1,10 +1,11 @@
 -- What a writer holds after the calls that a text takes.
 use Rattle.std.proofs.lemmas.Bool.Decides.{nat_tests}
 use Rattle.council_report.proofs.Imports.{◌≡◌, ◌≤◌, ◌+◌, ◌-◌, ◌++◌, ℕ, List, [], length, take, drop, Option, Some, None, Result, Ok, Err, ap}
-use Rattle.council_report.proofs.Imports.{◌∙◌, sym, subst, arith, append_assoc, append-nil, length-append, Appends, take-append-add, take-append-drop, Block, Calls, Ends, progress_of}
+use Rattle.council_report.proofs.Imports.{◌∙◌, sym, subst, arith, append_assoc, append-nil, length-append, Appends, take-append-add, take-append-drop, Advances, Block, Bool, Ends, Progress, false, progress_of}
 use Rattle.std.proofs.Common.{length-drop, length-take-le}
 use Rattle.std.specs.{Io.WritesAtMost, Io.KnownBytes.Keeps, Io.KnownBytes.WriteAppends, declared.io.Error.Error}
-use Rattle.council_report.specs.{Outcome.Writes, declared.fault.ReportFault.TheVariants.Write}
+use Rattle.council_report.specs.{Inner.Writing.Finishes, Inner.Written.EndsAfter, Outcome.Writes, declared.fault.ReportFault.ReportFault}
+use Rattle.council_report.specs.declared.fault.ReportFault.TheVariants.{Memory, Write}
 use Rattle.council_report.specs.Sending.{Sending, begins, takes, takes_none, fails, flushed, flush_fails}
 
 pub after-none : {a b c : List ℕ} → c ≡ a ++ b → a ≡ [] → c ≡ b
@@ -74,19 +75,24 @@ module _ {W : Type 0} (held : W → Option (List ℕ)) (is_write : W → List �
   sent (flushed w last count is) = (omega arith, appends-none (held w) (held last) (flushes w last (Ok tt) is))
   sent (flush_fails w last count e is) = holds-none (held w) (held last) [] count (appends-none (held w) (held last) (flushes w last (Err e) is))
 
-  pub writes-whole : (text : List ℕ) (first last : W) (n : ℕ) → Sending is_write is_flush first [] text 0 (Ok n) last
-      → Writes held is_write is_flush text first last (Ok n)
-  writes-whole text first last n calls =
-      let h = sent calls in (omega (arith, h.0), h.1, calls)
-
-  pub writes-part : (text : List ℕ) (first last : W) (n : ℕ) → Sending is_write is_flush first [] text 0 (Err n) last
-      → Writes held is_write is_flush text first last (Err (Write n))
-  writes-part text first last n calls =
-      let h = sent calls in
-      let all : n - 0 ≡ n = omega arith in
-      (omega (arith, h.1), subst (λ (k : ℕ). Appends (held first) (held last) (take k text)) all h.2, calls)
-
--- a text that begins with what a fresh block holds
-pub from-block : {W : Type 0} (S : Calls W) (first last : W) (block : Block) (heading lines : List ℕ) (end : Result ℕ ℕ) → block.written ≡ 0
-    → block.bytes.items ≡ heading → Ends S (progress_of first block) lines end last → S first [] (heading ++ lines) 0 end last
-from-block S first last block heading lines end none is ends = grind (arith, nat_tests)
+  -- how a report ended that began with what a fresh block holds
+  pub written-whole : (first last : W) (block : Block) (at : Progress W) (heading lines : List ℕ) (r : Result ℕ ReportFault) → block.written ≡ 0
+      → block.stopped ≡ false → block.bytes.items ≡ heading → Advances (Sending is_write is_flush) (progress_of first block) at lines
+      → Finishes (Sending is_write is_flush) at last r → Writes held is_write is_flush (heading ++ lines) first last r
+  written-whole first last block at heading lines r none on is tells finishes =
+      let text : List ℕ = heading ++ lines in
+      let calls : (end : Result ℕ ℕ) → Ends (Sending is_write is_flush) at [] end last → Sending is_write is_flush first [] text 0 end last =
+      λ end h. subst (λ (t : List ℕ). Sending is_write is_flush first [] t 0 end last)
+      (ap (λ (t : List ℕ). block.bytes.items ++ t) (append-nil lines) ∙ ap (λ (t : List ℕ). t ++ lines) is)
+      (subst (λ (n : ℕ). Sending is_write is_flush first [] (block.bytes.items ++ (lines ++ [])) n end last) none
+      (subst (λ (s : Bool). EndsAfter (Sending is_write is_flush) s first (block.bytes.items ++ (lines ++ [])) block.written end last) on
+      (tells.ends [] end last h))) in
+      elim r as (λ (r : Result ℕ ReportFault). Finishes (Sending is_write is_flush) at last r → Writes held is_write is_flush text first last r) [
+        | Ok n ↦ λ h.
+            let all = sent (calls (Ok n) h) in (omega (arith, all.0), all.1, calls (Ok n) h)
+        | Err Memory ↦ λ h. absurd h
+        | Err (Write n) ↦ λ h.
+            let some = sent (calls (Err n) h) in
+            let all : n - 0 ≡ n = omega arith in
+            (omega (arith, some.1), subst (λ (k : ℕ). Appends (held first) (held last) (take k text)) all some.2, calls (Err n) h)
+      ] finishes

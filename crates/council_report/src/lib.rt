@@ -21,4 +21,4 @@ mod text;
 
 pub use council_base::ReportLines;
 pub use fault::ReportFault;
-pub use report::{write_report, write_report_of, write_swings, write_tally};
+pub use report::{write_report, write_report_of, write_swings};

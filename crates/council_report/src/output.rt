@@ -1,10 +1,11 @@
 //! The block through which a report goes to its writer.
-ghost use Rattle.std.specs.Prelude.{◌≡◌, ◌≤◌, ◌<◌, ◌+◌, [], false, length, IfErr, IfOk, OnOk};
+ghost use Rattle.std.specs.Prelude.{◌≡◌, ◌≤◌, ◌+◌, [], false, length, IfOk};
 ghost use Rattle.std.specs.Vec.{vec_capacity};
-ghost use Rattle.council_report.specs.Inner.Writing.{TakesWhole};
+ghost use Rattle.council_report.specs.Inner.Writing.{Takes};
 ghost use Rattle.council_report.specs.Sending.{Sending};
 ghost use Rattle.council_report.specs.declared.output.TheConstants.{LINE, ROOM};
 
+use crate::fault::ReportFault;
 use council_base::Sink;
 use std::alloc::{AllocError, Global};
 
@@ -20,50 +21,43 @@ fn are_these_numbers()
     ensures line { LINE ≡ 4096 }
 {}
 
-/// A write or the flush failed.
-#[derive(Clone, Copy)]
-pub struct WriteFault {
-    /// How many bytes the writer had taken.
-    pub written: u64,
-}
-
-/// Writes all bytes. If the writer takes fewer than it is given, it is asked again for those that
-/// are left. A write that takes none or fails, whatever the cause, is the last call.
-fn write_whole<W: Sink>(writer: &mut W, bytes: &[u8]) -> Result<(), WriteFault>
-    ensures calls { TakesWhole (Sending W.is_write W.is_flush) bytes.now writer.old writer.new result }
-    ensures within { IfErr result (λ fault. fault.written ≤ length bytes.now) }
+/// Writes all bytes, and returns how many the writer took.
+///
+/// If the writer takes fewer than it is given, it is asked again for those that are left. A write
+/// that takes none or fails, whatever the cause, is the last call.
+fn write_whole<W: Sink>(writer: &mut W, bytes: &[u8]) -> usize
+    ensures { Takes (Sending W.is_write W.is_flush) bytes.now writer.old writer.new result }
 {
     let mut written = 0;
     while written < bytes.len() {
         match writer.write_once(&bytes[written..]) {
-            Ok(0) | Err(_) => {
-                return Err(WriteFault {
-                    written: written as u64,
-                });
-            }
+            Ok(0) | Err(_) => return written,
             Ok(count) => written += count,
         }
     }
-    Ok(())
+    written
 }
 
-/// Bytes on their way to a writer, whether memory for some was refused, and the number of those
-/// that the writer took before.
+/// Bytes on their way to a writer.
 #[derive(Drop)]
 pub(crate) struct Block {
     pub(crate) bytes: Vec<u8>,
+    /// Whether memory for some was refused.
     pub(crate) refused: bool,
+    /// How many bytes the writer took before.
     pub(crate) written: u64,
+    /// Whether a write failed or took nothing: then there is no other, and bytes are dropped.
+    pub(crate) stopped: bool,
 }
 
 impl Block {
-    ghost use Rattle.council_report.specs.Inner.Written.{Ends, progress_of};
-    ghost use Rattle.council_report.specs.Inner.Ready.{HasRoom, CanCount, AppendsInRoom};
-    ghost use Rattle.council_report.specs.Inner.Writing.{Drains, MakesRoom, end_of};
+    ghost use Rattle.council_report.specs.Inner.Written.{Advances, progress_of};
+    ghost use Rattle.council_report.specs.Inner.Ready.{HasRoom, IsReady, CanCount, AppendsInRoom};
+    ghost use Rattle.council_report.specs.Inner.Writing.{Drains, Finishes};
 
     /// Makes an empty block with all its room.
     pub(crate) fn new(alloc: Global) -> Result<Block, AllocError>
-        ensures empty { IfOk result (λ block. (block.bytes.items ≡ []) × (block.written ≡ 0)) }
+        ensures empty { IfOk result (λ block. (block.bytes.items ≡ []) × (block.written ≡ 0) × (block.stopped ≡ false)) }
         ensures kept { IfOk result (λ block. block.refused ≡ false) }
         ensures room { IfOk result HasRoom }
     {
@@ -72,6 +66,7 @@ impl Block {
             bytes: Vec::with_capacity(alloc, ROOM)?,
             refused: false,
             written: 0,
+            stopped: false,
         })
     }
 
@@ -84,50 +79,52 @@ impl Block {
     }
 
     /// Writes all bytes, and leaves the block empty.
-    fn drain<W: Sink>(&mut self, writer: &mut W) -> Result<(), WriteFault>
+    fn drain<W: Sink>(&mut self, writer: &mut W)
         requires { CanCount self.old [] }
-        ensures calls { Drains (Sending W.is_write W.is_flush) writer.old self.old writer.new self.new result }
-        ensures empty { OnOk result (self.new.bytes.items ≡ []) }
-        ensures count { OnOk result (self.new.written ≡ self.old.written + length self.old.bytes.items) }
+        ensures calls { Drains (Sending W.is_write W.is_flush)
+            (progress_of writer.old self.old) (progress_of writer.new self.new) }
+        ensures empty { self.new.bytes.items ≡ [] }
+        ensures count { self.new.written ≤ self.old.written + length self.old.bytes.items }
         ensures capacity { vec_capacity self.new.bytes ≡ vec_capacity self.old.bytes }
         ensures refused { self.new.refused ≡ self.old.refused }
     {
-        let before = self.written;
-        let after = before + self.bytes.len() as u64;
-        match write_whole(writer, &self.bytes) {
-            Ok(()) => {
-                self.bytes.clear();
-                self.written = after;
-                Ok(())
-            }
-            Err(fault) => Err(WriteFault {
-                written: before + fault.written,
-            }),
+        if self.stopped {
+            self.bytes.clear();
+            return;
         }
+        let taken = write_whole(writer, &self.bytes);
+        self.written += taken as u64;
+        self.stopped = taken < self.bytes.len();
+        self.bytes.clear();
     }
 
     /// Makes ready for a line: if the next might not fit, all bytes go to the writer.
-    pub(crate) fn settle<W: Sink>(&mut self, writer: &mut W) -> Result<(), WriteFault>
+    pub(crate) fn settle<W: Sink>(&mut self, writer: &mut W)
         requires { CanCount self.old [] }
-        ensures { MakesRoom (Sending W.is_write W.is_flush) writer.old self.old writer.new self.new result }
+        ensures tells { Advances (Sending W.is_write W.is_flush)
+            (progress_of writer.old self.old) (progress_of writer.new self.new) [] }
+        ensures ready { HasRoom self.old → self.old.refused ≡ false → IsReady self.new }
     {
-        if self.bytes.len() + LINE <= ROOM {
-            return Ok(());
+        if self.bytes.len() + LINE > ROOM {
+            self.drain(writer);
         }
-        self.drain(writer)
     }
 
-    /// Writes the last bytes, and flushes the writer once.
-    pub(crate) fn finish<W: Sink>(mut self, writer: &mut W) -> Result<u64, WriteFault>
+    /// Writes the last bytes, and flushes the writer once if no write failed.
+    ///
+    /// It returns the number of bytes that the writer took.
+    pub(crate) fn finish<W: Sink>(mut self, writer: &mut W) -> Result<u64, ReportFault>
         requires { CanCount self [] }
-        ensures { Ends (Sending W.is_write W.is_flush) (progress_of writer.old self) [] (end_of result) writer.new }
+        ensures { Finishes (Sending W.is_write W.is_flush) (progress_of writer.old self) writer.new result }
     {
-        self.drain(writer)?;
+        self.drain(writer);
+        let written = self.written;
+        if self.stopped {
+            return Err(ReportFault::Write { written });
+        }
         match writer.flush_once() {
-            Ok(()) => Ok(self.written),
-            Err(_) => Err(WriteFault {
-                written: self.written,
-            }),
+            Ok(()) => Ok(written),
+            Err(_) => Err(ReportFault::Write { written }),
         }
     }
 }

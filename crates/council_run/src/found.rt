@@ -12,7 +12,7 @@ ghost use Rattle.swings.specs.Swings.{AreWinningCounts};
 
 use council_base::{Coalition, Memory, ReportLines, Sink};
 use council_game::Game;
-use council_report::{ReportFault, write_report_of, write_tally};
+use council_report::{ReportFault, write_report_of};
 use mwc_gather::Gathered;
 use power_index::Counts;
 use power_index::laws::minimal_coalitions_can_be_counted;
@@ -58,28 +58,6 @@ pub(crate) fn pieces<'a>(
     gathered.pieces(alloc)
 }
 
-/// Writes a report with the coalitions in these pieces.
-fn write_pieces<W: Sink>(
-    alloc: Global,
-    game: &Game,
-    pieces: &[&[Coalition]],
-    counts: &Counts,
-    swings: Option<&Swings>,
-    lines: ReportLines,
-    writer: &mut W,
-) -> Result<u64, ReportFault>
-    requires pieces { joined pieces.now ≡ minimal_coalitions (votes_of game.now) }
-    requires counts { AreCountsOfGame game.now counts.now }
-    requires swings { IfSome swings (λ s. AreWinningCounts game.now s.now) }
-    ensures { Writes W.held W.is_write W.is_flush
-        (report_with (winning_lines game.now swings.entry) (added_fields game.now swings.entry)
-        lines game.now (minimal_coalitions (votes_of game.now))) writer.old writer.new result }
-{
-    game.was_checked();
-    minimal_coalitions_can_be_counted();
-    write_report_of(alloc, game, pieces, counts, swings, lines, writer)
-}
-
 impl Found {
     /// Writes the report of the game, and returns its length.
     ///
@@ -102,23 +80,20 @@ impl Found {
             (report_with (winning_lines game.now swings.entry) (added_fields game.now swings.entry)
             lines game.now (minimal_coalitions (votes_of game.now))) writer.old writer.new result }
     {
+        game.was_checked();
+        minimal_coalitions_can_be_counted();
         let counts = &self.counts;
         match &self.coalitions {
-            Coalitions::Counted => write_tally(alloc, game, counts, swings, lines, writer),
+            Coalitions::Counted => {
+                write_report_of(alloc, game, &[], counts, swings, lines, writer)
+            }
             Coalitions::Whole(list) => {
-                write_pieces(
-                    alloc,
-                    game,
-                    &[list.as_slice()],
-                    counts,
-                    swings,
-                    lines,
-                    writer,
-                )
+                let pieces = [list.as_slice()];
+                write_report_of(alloc, game, &pieces, counts, swings, lines, writer)
             }
             Coalitions::Parts(gathered) => {
                 let pieces = pieces(alloc, game, gathered)?;
-                write_pieces(alloc, game, &pieces, counts, swings, lines, writer)
+                write_report_of(alloc, game, &pieces, counts, swings, lines, writer)
             }
         }
     }

@@ -22,6 +22,13 @@ fn sums_for(states: usize, rules: usize, room: usize) -> usize {
         .min((1 << 20) / rules.max(1))
 }
 
+/// Returns how many rows the states of a level may have before equal ones are merged.
+///
+/// There are few if there is little room: a game of more takes long to tell.
+fn rows_for(room: usize) -> usize {
+    (room.saturating_mul(room) >> 12).clamp(64, 1 << 22)
+}
+
 /// Makes the table of the first level, whose only state is the need.
 fn first_table(alloc: Global, need: &Row) -> Result<Table, Memory>
     ensures { IfOk result (λ table. table ≡ (need.now ∷ []) ∷ []) }
@@ -52,7 +59,7 @@ pub(crate) fn build<G: Gate>(
 {
     let mut levels = Vec::with_capacity(alloc, members.len())?;
     let mut table = first_table(alloc, need)?;
-    let rows = room.saturating_mul(8).min(1 << 22);
+    let rows = rows_for(room);
     let mut left = room.min(1 << 26);
     for level in 0..members.len() {
         if table.len() > left {

@@ -24,6 +24,7 @@ pub record AppendsText (old new : Block) (text : List ℕ) : Type 0 where
   pub items : new.refused ≡ false → new.bytes.items ≡ old.bytes.items ++ text
   pub capacity : vec_capacity old.bytes ≤ vec_capacity new.bytes
   pub written : new.written ≡ old.written
+  pub stopped : new.stopped ≡ old.stopped
 
 -- and it was not refused if the text fits the room
 pub record AppendsInRoom (old new : Block) (text : List ℕ) : Type 0 where

@@ -2,8 +2,7 @@
 //! `call` and the line of the answer, one after the other.
 use crate::helpers::{assert_same, game, print_line};
 use council_game::plain_list;
-use council_report::{ReportFault, ReportLines, write_report, write_tally};
-use power_index::Counts;
+use council_report::{ReportFault, ReportLines, write_report};
 use power_index::laws::minimal_coalitions_can_be_counted;
 use std::io::{self, Print, Write};
 use std::process::Abort;
@@ -53,24 +52,5 @@ fn writes_a_report(rt: HostRuntime) {
     let mut writer = Counter { bytes: 0 };
     print_line(&rt, "call");
     let answer = write_report(alloc, &game, &list, lines, &mut writer);
-    print_answer(&rt, answer, &writer);
-}
-
-#[test]
-fn writes_a_tally(rt: HostRuntime) {
-    let alloc = rt.alloc();
-    let game = game(&rt, alloc, 7, &[1; 14]);
-    assert!(rt; game.members() <= 20);
-    let list = plain_list(alloc, &game).expect(&rt, "a list");
-    minimal_coalitions_can_be_counted();
-    let counts = Counts::of(&game, &list);
-    let lines = ReportLines {
-        list: false,
-        sizes: true,
-        notation: true,
-    };
-    let mut writer = Counter { bytes: 0 };
-    print_line(&rt, "call");
-    let answer = write_tally(alloc, &game, &counts, None, lines, &mut writer);
     print_answer(&rt, answer, &writer);
 }

@@ -22,12 +22,20 @@ loop-written-preserved g c =
           c.loop-written.written c.in-Ok.count count end (omega arith) c.in-Ok.ensures next);
     }
 
-pub returns-in-Ok-eq0-clause-calls : goal.returns-in-Ok-eq0-clause-calls
-returns-in-Ok-eq0-clause-calls g c = λ rest count. c.loop-written.invariant.calls rest count _ c.write_once.new.self
-    (takes-no-more g.W.Sink.is_write g.W.Sink.is_flush c.loop-written.writer c.write_once.new.self c.args.bytes.now rest
-    c.loop-written.written count c.write_once.result (grind (arith, common_steps)) (omega arith) c.write_once.ensures)
+pub returns-in-Ok-eq0 : goal.returns-in-Ok-eq0
+returns-in-Ok-eq0 g c = record {
+  within = omega arith;
+  all = λ is. absurd (omega (arith, is));
+  part = λ less rest count. c.loop-written.invariant.calls rest count _ c.write_once.new.self
+      (takes-no-more g.W.Sink.is_write g.W.Sink.is_flush c.loop-written.writer c.write_once.new.self c.args.bytes.now rest
+      c.loop-written.written count c.write_once.result (grind (arith, common_steps)) (omega arith) c.write_once.ensures);
+}
 
-pub returns-in-Ok-eq0-2-clause-calls : goal.returns-in-Ok-eq0-2-clause-calls
-returns-in-Ok-eq0-2-clause-calls g c = λ rest count. c.loop-written.invariant.calls rest count _ c.write_once.new.self
-    (takes-no-more g.W.Sink.is_write g.W.Sink.is_flush c.loop-written.writer c.write_once.new.self c.args.bytes.now rest
-    c.loop-written.written count c.write_once.result (grind (arith, common_steps)) (omega arith) c.write_once.ensures)
+pub returns-in-Ok-eq0-2 : goal.returns-in-Ok-eq0-2
+returns-in-Ok-eq0-2 g c = record {
+  within = omega arith;
+  all = λ is. absurd (omega (arith, is));
+  part = λ less rest count. c.loop-written.invariant.calls rest count _ c.write_once.new.self
+      (takes-no-more g.W.Sink.is_write g.W.Sink.is_flush c.loop-written.writer c.write_once.new.self c.args.bytes.now rest
+      c.loop-written.written count c.write_once.result (grind (arith, common_steps)) (omega arith) c.write_once.ensures);
+}

@@ -4,7 +4,7 @@ use Rattle.council_report.proofs.stream.put_pieces.Given as goal
 
 abbrev pub invariant-loop-piece : goal.invariant-loop-piece
 invariant-loop-piece g l = record {
-  lasts : KeepsReady (Sending g.W.Sink.is_write g.W.Sink.is_flush) (progress_of l.initial.writer l.initial.block) l.writer l.block
+  keeps : KeepsReady (Sending g.W.Sink.is_write g.W.Sink.is_flush) (progress_of l.initial.writer l.initial.block) l.writer l.block
       (flat_map (λ p. flat_map (coalition_line l.game) p.now) (take l.piece-index l.pieces));
   line : IsReadyLine l.game l.line;
 }
