@@ -14,8 +14,8 @@ ghost use Rattle.council_report.specs.Inner.Numbers.{AreSomeCounts};
 ghost use Rattle.council_report.specs.Inner.Lines.{fields_of, fields_of_counts, line_of_size, line_of_member};
 
 use crate::game_numbers::GameNumbers;
+use crate::lines::{push_field, push_number, push_values};
 use crate::output::Block;
-use crate::text::{push_field, push_number, push_values};
 use council_game::Game;
 use itoa::Buffer;
 use power_index::{Counts, Fraction, deegan_packel, public_good};

@@ -11,13 +11,11 @@ mod game_numbers;
 mod heading;
 mod lines;
 mod output;
-mod places;
 mod report;
 mod seat;
 mod shared_line;
 mod stream;
 mod subtotal;
-mod text;
 
 pub use council_base::ReportLines;
 pub use fault::ReportFault;

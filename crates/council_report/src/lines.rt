@@ -1,15 +1,43 @@
-//! The lines of a report, one function for each kind.
-ghost use Rattle.std.specs.Prelude.{◌≡◌, ◌<◌, Some};
-ghost use Rattle.council_report.specs.Inner.Ready.{AppendsText};
+//! The fields of a line, and the lines of the game itself.
+ghost use Rattle.std.specs.Prelude.{◌≡◌, ◌<◌, ℕ, List, Some, decimal, length};
+ghost use Rattle.council_report.specs.Inner.Ready.{AppendsInRoom, AppendsText};
 ghost use Rattle.council_game.specs.Game.{GameView};
+ghost use Rattle.council_game.specs.Joined.{GivesEach};
 ghost use Rattle.swings.specs.Swings.{AreWinningCounts};
-ghost use Rattle.council_report.specs.Lines.{title_line, members_line, quota_line, total_line, minimal_line};
+ghost use Rattle.council_report.specs.Lines.{members_line, minimal_line, quota_line, title_line, total_line, with_slashes, with_tab};
 ghost use Rattle.council_report.specs.SwingLines.{winning_line};
 
 use crate::output::Block;
-use crate::text::{push_field, push_number, push_values};
-use council_game::Game;
+use council_game::{Game, push_joined};
+use itoa::Buffer;
 use swings::Swings;
+
+/// Appends a field of bytes.
+pub(crate) fn push_field(out: &mut Block, field: &[u8])
+    ensures { AppendsInRoom out.old out.new (with_tab field.now) }
+{
+    out.push(b"\t");
+    out.push(field);
+}
+
+/// Appends a field of one number.
+pub(crate) fn push_number(out: &mut Block, number: u64)
+    ensures { AppendsInRoom out.old out.new (with_tab (decimal number)) }
+{
+    let mut buffer = Buffer::new();
+    push_field(out, buffer.format(number).as_bytes());
+}
+
+/// Appends a field of a value for each of some rules.
+pub(crate) fn push_values<F: Fn(usize) -> u64>(out: &mut Block, rules: usize, value: F)
+    requires { (r : ℕ) → r < rules → F.pre value r }
+    ensures { (vs : List ℕ) → length vs ≡ rules → GivesEach (F.post value) vs
+        → AppendsInRoom out.old out.new (with_tab (with_slashes vs)) }
+{
+    out.push(b"\t");
+    // memory: what was refused is noted, and a clause says when it is not
+    out.refused |= push_joined(&mut out.bytes, b"/", rules, value).is_err();
+}
 
 /// Appends the line `title`: the title; no line if there is none.
 #[tactic(auto, unfolding(crate::specs::Lines::title_line))]

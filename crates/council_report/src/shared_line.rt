@@ -1,19 +1,45 @@
 //! A line that one coalition shares with the next.
 ghost use Rattle.std.specs.Prelude.{◌≡◌, ◌+◌, ◌^◌, ◌<◌, ◌≤◌, true, false, length, IfOk};
 ghost use Rattle.std.specs.List.{flat_map};
+ghost use Rattle.council_base.specs.declared.limits.TheConstants.{MEMBERS};
 ghost use Rattle.council_game.specs.Game.{votes_of};
 ghost use Rattle.council_game.specs.Votes.{has, rule_at, weight};
 ghost use Rattle.council_report.specs.Lines.{coalition_line, with_tab, with_slashes, weights_of_coalition, names_of};
 ghost use Rattle.council_report.specs.Inner.Ready.{AppendsInRoom};
-ghost use Rattle.council_report.specs.Inner.SharedLine.{IsLine, IsReadyLine, IsWholeLine, SameBefore};
+ghost use Rattle.council_report.specs.Inner.SharedLine.{HasNoneFrom, IsLine, IsReadyLine, IsWholeLine, SameBefore};
 
+use crate::lines::{push_number, push_values};
 use crate::output::{Block, LINE};
-use crate::places::{first_difference, past_last};
 use crate::seat::{Seat, seats_of};
 use crate::subtotal::Subtotal;
-use crate::text::{push_number, push_values};
 use council_game::{Coalition, Game, limits};
 use std::alloc::{AllocError, Global};
+
+/// Returns the first place at which two coalitions differ.
+///
+/// It is `members` if they are the same.
+fn first_difference(members: usize, a: Coalition, b: Coalition) -> usize
+    requires few { members ≤ MEMBERS }
+    requires a_below { a < 2 ^ members }
+    requires b_below { b < 2 ^ members }
+    ensures within { result ≤ members }
+    ensures same { SameBefore members result a b }
+{
+    let digits = 64 - (a.mask() ^ b.mask()).leading_zeros() as usize;
+    members - digits
+}
+
+/// Returns the place after the last one that is in a coalition.
+#[tactic(auto, using(crate::proofs::Differences::last))]
+fn past_last(members: usize, coalition: Coalition) -> usize
+    requires few { members ≤ MEMBERS }
+    requires some { 0 < coalition }
+    requires below { coalition < 2 ^ members }
+    ensures within { result ≤ members }
+    ensures none { HasNoneFrom members result coalition }
+{
+    members - coalition.mask().trailing_zeros() as usize
+}
 
 /// The line of a coalition, with a subtotal at each place up to its last member. What the next
 /// coalition shares with it is kept, and only what follows is made anew; in listing order this is

@@ -1,7 +1,7 @@
 use Rattle.council_report.proofs.Imports.{◌≡◌, ◌-◌, ◌≤◌, ℕ, subst, sym, ap, ◌∙◌, arith, bit_xor, w64, leading_zeros, common_steps}
 use Rattle.council_report.proofs.Imports.{SameBefore}
 use Rattle.council_report.proofs.Differences.{Differs, differs}
-use Rattle.council_report.proofs.places.first_difference.Goals as goal
+use Rattle.council_report.proofs.shared_line.first_difference.Goals as goal
 
 -- the same of their masks
 masks-differ : (n a b x y : ℕ) → x ≡ a → y ≡ b → Differs n a b (bit_xor a b) → Differs n a b (bit_xor x y)
