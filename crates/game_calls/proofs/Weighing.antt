@@ -1,11 +1,11 @@
 -- What coalitions weigh: vetoers and swings by weight, and games in which no two disjoint ones win.
-use Rattle.std.proofs.Common.{◌≡◌, ◌∙◌, ◌||◌, ◌↔◌, ℕ, zero, suc, ◌+◌, ◌*◌, ◌^◌, ◌<◌, ◌≤◌, Bool, true, false, cond}
+use Rattle.std.proofs.Common.{◌≡◌, ◌∙◌, ◌||◌, ◌↔◌, ℕ, zero, suc, ◌+◌, ◌*◌, ◌^◌, ◌<◌, ◌≤◌, true, false, cond}
 use Rattle.std.proofs.Common.{List, [], ◌∷◌, length, map, get_or, sum, sum_by, sym, ap, refl, arith, inl, inr, All}
 use Rattle.std.specs.{List.AllByRecursion, List.list_all, List.range_with_len, Prelude.nat_le}
 use Rattle.std.proofs.lemmas.{Bool.Decides.nat_tests, List.get_or-map, List.FromFn.fill_by_all}
 use Rattle.std.proofs.lemmas.List.Sums.{length-filter, sum-map, sum_by-cons, sum_by-le-sum_by}
-use Rattle.std.proofs.lemmas.List.Elements.{All-weaker, recursion_from_All}
-use Rattle.std.proofs.lemmas.Bool.{and_from, and_parts, both_ways, cases_Bool, false_from_ne_true, not-true, not_from_false}
+use Rattle.std.proofs.lemmas.List.Elements.{recursion_from_All}
+use Rattle.std.proofs.lemmas.Bool.{both_ways, cases_Bool, false_from_ne_true}
 use Rattle.council_base.specs.Coalitions.{has, without}
 use Rattle.council_base.proofs.Shared.{Digits.has-gone, Lists.sum-plus}
 use Rattle.council_game.specs.Game.{GameView, IsGame, has_low_quota, has_low_quotas, total, votes_of}
@@ -16,7 +16,7 @@ use Rattle.council_game.proofs.Shared.Sets.{coalition_of_set, set-below, set-con
 use Rattle.council_game.proofs.Shared.{Making.ranks-are, Renamed.exchange, Weights.weight-without}
 use Rattle.swings.specs.{Critical.is_critical, Swings.swings}
 use Rattle.game_calls.specs.Winning.{AreDisjoint, IsProper, IsVetoer}
-use Rattle.game_calls.proofs.{Collecting.needed, Minimal.larger_wins-of, Swings.without-below}
+use Rattle.game_calls.proofs.{Collecting.needed, Minimal.larger_wins-of, Swings.critical-is, Swings.without-below}
 
 -- the weights of all members together
 whole : (ws : List ℕ) (n : ℕ) → length ws ≡ n → sum_by (λ k. get_or ws k 0) (range_with_len 0 n) ≡ sum ws
@@ -34,9 +34,6 @@ unfolding wins
 by-quota ranks [] c one = absurd (omega (arith, one))
 by-quota ranks (r ∷ []) c one = grind (arith, nat_tests)
 by-quota ranks (r ∷ s ∷ rs) c one = absurd (omega (arith, one))
-
-implied : (a b : Bool) → (a ≡ true → b ≡ true) → cond {A = ℕ} a 1 0 ≤ cond b 1 0
-implied a b h = grind (arith, nat_tests)
 
 sum-down-le : (f h : ℕ → ℕ) (n : ℕ) → ((c : ℕ) → c < n → f c ≤ h c) → sum_by f (down n) ≤ sum_by h (down n)
 unfolding down
@@ -107,26 +104,21 @@ module _ (g : GameView) (is : IsGame g) where
   unfolding wins
   not-both [] a c full high disjoint won = absurd (cc)
   not-both (r ∷ rs) a c full high disjoint won =
-      let rest : list_all has_low_quota rs ≡ false → wins (map (rule_by_rank g.ranks) rs) a ≡ true → wins (map (rule_by_rank g.ranks) rs) c ≡ false =
-      λ low. not-both rs a c full.1 low disjoint in
-      grind (arith, nat_tests, apart r a c full.0 disjoint, rest)
+      grind (arith, nat_tests, apart r a c full.0 disjoint, not-both rs a c full.1)
 
   pub proper : has_low_quotas g ≡ false → IsProper g
   proper high a c disjoint = not-both g.rules a c (recursion_from_All (λ (r : RuleView). length r.weights ≡ n) g.rules is.full) high disjoint
 
   -- ---- more weight has no fewer swings
-  wins-by : (x y : ℕ) (rs : List RuleView) → AllByRecursion (λ r. weighs r x ≤ weighs r y) rs → wins (map (rule_by_rank g.ranks) rs) x ≡ true
-      → wins (map (rule_by_rank g.ranks) rs) y ≡ true
-  unfolding wins
-  wins-by x y [] more won = refl
-  wins-by x y (r ∷ rs) more won = grind (arith, nat_tests, wins-by x y rs more.1)
+  module _ (i j : ℕ) (li : i < n) (lj : j < n) where
+    abbrev IsMore : RuleView → Type 0
+    IsMore r = get_or r.weights j 0 ≤ get_or r.weights i 0
 
-  module _ (i j : ℕ) (li : i < n) (lj : j < n) (more : All (λ r. get_or r.weights j 0 ≤ get_or r.weights i 0) g.rules) where
-    wins-more : (x y : ℕ) → ((r : RuleView) → get_or r.weights j 0 ≤ get_or r.weights i 0 → weighs r x ≤ weighs r y)
-        → wins (votes_of g).rules x ≡ true → wins (votes_of g).rules y ≡ true
-    wins-more x y step =
-        wins-by x y g.rules (recursion_from_All (λ (r : RuleView). weighs r x ≤ weighs r y) g.rules
-        (All-weaker (λ (r : RuleView). get_or r.weights j 0 ≤ get_or r.weights i 0) (λ (r : RuleView). weighs r x ≤ weighs r y) step g.rules more))
+    wins-by : (x y : ℕ) → ((r : RuleView) → IsMore r → weighs r x ≤ weighs r y) → (rs : List RuleView) → AllByRecursion IsMore rs
+        → wins (map (rule_by_rank g.ranks) rs) x ≡ true → wins (map (rule_by_rank g.ranks) rs) y ≡ true
+    unfolding wins
+    wins-by x y step [] more won = refl
+    wins-by x y step (r ∷ rs) more won = grind (arith, nat_tests, step r more.0, wins-by x y step rs more.1)
 
     -- a coalition with j for i, and i for j
     abbrev swap : ℕ → ℕ
@@ -144,43 +136,39 @@ module _ (g : GameView) (is : IsGame g) where
         )
 
     -- if j is critical after the exchange, i is before it
-    critical-too : (c : ℕ) → c < 2 ^ n → is_critical g (swap c) j ≡ true → is_critical g c i ≡ true
-    critical-too c below critical =
+    critical-too : All IsMore g.rules → (c : ℕ) → c < 2 ^ n → is_critical g (swap c) j ≡ true → is_critical g c i ≡ true
+    critical-too more c below critical =
         let s : ℕ = swap c in
-        let rules = (votes_of g).rules in
         let less-i : ℕ = without n (get_or g.ranks i 0) c in
         let less-j : ℕ = without n (get_or g.ranks j 0) s in
-        let parts = and_parts _ _ critical in
-        let first = and_parts _ _ parts.0 in
-        let inside : contains g i c ≡ true =
-        ap (λ (m : ℕ). contains g m c) (let e : i ≡ exchanged i j j = grind (arith, nat_tests) in e) ∙ sym (swap-has c j lj) ∙ first.0 in
-        let lost : wins rules less-j ≡ false = not-true _ parts.1 in
-        let weigh-i = λ (r : RuleView). lighter r c i li inside in
-        let weigh-j = λ (r : RuleView). lighter r s j lj first.0 in
+        let are = critical-is g s j critical in
+        let inside : contains g i c ≡ true = grind (arith, nat_tests, swap-has c j lj, are.0) in
+        let each = recursion_from_All IsMore g.rules more in
         elim (cases_Bool (contains g j c)) [
           | inl both ↦
               let same : s ≡ c = set-one g is s c (swap-back c below).0 below (λ k lk. swap-has c k lk ∙ grind (arith, nat_tests, inside, both)) in
-              let loses = false_from_ne_true (wins rules less-i) (λ still. both_ways _ lost (wins-more less-i less-j
-              (λ r le. omega (arith, le, weigh-i r, weigh-j r, ap (weighs r) same)) still)) in
-              and_from _ _ (and_from _ _ inside (ap (wins rules) (sym same) ∙ first.1)) (not_from_false _ loses)
+              let still = wins-by less-i less-j
+              (λ r le. omega (arith, le, lighter r c i li inside, lighter r s j lj are.0, ap (weighs r) same)) g.rules each in
+              grind (arith, nat_tests, inside, are.1, are.2, still, ap (wins (votes_of g).rules) same)
           | inr only ↦
               let same : less-i ≡ less-j =
               set-one g is less-i less-j (without-below n _ c below) (without-below n _ s (swap-back c below).0) (λ k lk.
               without-contains g is c i k li lk inside
               ∙ grind (arith, nat_tests, only, swap-has c k lk)
-              ∙ sym (without-contains g is s j k lj lk first.0)) in
-              let wins-c = wins-more s c (λ r le. omega (arith, le, weigh-i r, weigh-j r, ap (weighs r) same)) first.1 in
-              and_from _ _ (and_from _ _ inside wins-c) (not_from_false _ (ap (wins rules) same ∙ lost))
+              ∙ sym (without-contains g is s j k lj lk are.0)) in
+              let won = wins-by s c
+              (λ r le. omega (arith, le, lighter r c i li inside, lighter r s j lj are.0, ap (weighs r) same)) g.rules each in
+              grind (arith, nat_tests, inside, are.1, are.2, won, ap (wins (votes_of g).rules) same)
         ]
 
-    pub no_fewer : swings g j ≤ swings g i
+    pub no_fewer : All IsMore g.rules → swings g j ≤ swings g i
     unfolding swings
-    no_fewer =
+    no_fewer more =
         let one : ℕ → ℕ → ℕ = λ k c. cond (is_critical g c k) 1 0 in
         omega (
           arith,
           length-filter (λ c. is_critical g c j) (down (2 ^ n)),
           length-filter (λ c. is_critical g c i) (down (2 ^ n)),
           sum-moved (one j) swap swap (2 ^ n) swap-back swap-back,
-          sum-down-le (λ c. one j (swap c)) (one i) (2 ^ n) (λ c lt. implied _ _ (critical-too c lt)),
+          sum-down-le (λ c. one j (swap c)) (one i) (2 ^ n) (λ c lt. grind (arith, nat_tests, critical-too more c lt)),
         )
