@@ -3,8 +3,11 @@ mod Quotas
 pub mod Parts
 mod Collecting
 pub mod Distinct
+pub mod Few
 pub mod LowestTermsAddUp
 pub mod Masks
 pub mod Minimal
 pub mod Ordered
 mod RuleOrder
+pub mod Swings
+pub mod Weighing

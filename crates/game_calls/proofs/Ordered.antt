@@ -1,8 +1,11 @@
 -- Lowest terms keep the order of fractions, and tell them apart.
-use Rattle.std.proofs.Common.{◌≡◌, ◌∙◌, ℕ, ◌*◌, ◌<◌, ◌≤◌, ap, sym, subst, arith, nat_cmp, mul-pos, mul-le-mul_right, lt_of_mul-lt-mul_right}
+use Rattle.std.proofs.Common.{◌≡◌, ◌∙◌, ℕ, ◌*◌, ◌<◌, ◌≤◌, List, length, ap, sym, subst, arith, nat_cmp, mul-pos, mul-le-mul_right, lt_of_mul-lt-mul_right}
 use Rattle.std.proofs.{lemmas.Bool.cases_lt, lemmas.Bool.cases_eq, lemmas.Bool.Decides.nat_tests}
 use Rattle.std.proofs.lemmas.Grind.{common_steps}
+use Rattle.council_game.specs.Game.{GameView, IsGame, AreNonemptyCoalitions}
+use Rattle.power_index.specs.{Counting.count_of_member, Indices.public_good}
 use Rattle.power_index.specs.Fractions.{SameFraction, fraction_cmp, lowest_terms}
+use Rattle.power_index.proofs.Shared.AddUp.{public_good_bottom}
 use Rattle.power_index.proofs.Shared.LowestTerms.{lowest_terms-lowest, carried, lowest_from_same}
 
 less-times : (k x y : ℕ) → 0 < k → x < y → x * k < y * k
@@ -43,3 +46,10 @@ at_most_then_below p q r pos le lt = step p.0 p.1 q.0 q.1 r.0 r.1 pos le lt
         let first : a * d * f ≤ c * b * f = mul-le-mul_right f le in
         let second : c * f * b < e * d * b = less-times b (c * f) (e * d) pos lt in
         let both : a * f * d < e * b * d = omega (arith, first, second) in grind (arith, lt_of_mul-lt-mul_right)
+
+-- ---- fractions of the same bottom
+pub by_counts : (g : GameView) (list : List ℕ) (i j : ℕ) → IsGame g → 0 < length list → AreNonemptyCoalitions g list
+    → fraction_cmp (public_good g list i) (public_good g list j) ≡ nat_cmp (count_of_member g i list) (count_of_member g j list)
+unfolding public_good
+by_counts g list i j game some h =
+    scaled (public_good g list i).1 (count_of_member g i list) (count_of_member g j list) (public_good_bottom g list i game some h)

@@ -5,11 +5,11 @@ use Rattle.std.proofs.Common.{Err, le-ltb}
 use Rattle.std.proofs.lemmas.{Bool.or_parts, Grind.common_steps, List.Elements.recursion_from_All}
 use Rattle.std.specs.List.{list_any}
 use Rattle.council_game.specs.{Fault.Answers, declared.fault.GameFault.GameFault, declared.fault.GameFault.TheVariants.Memory}
-use Rattle.council_game.specs.Votes.{RuleView, rule_at}
+use Rattle.council_game.specs.Votes.{RuleView, rule_at, wins}
 use Rattle.council_game.specs.Game.{GameView, IsGame, made_game, total, is_heavy, has_bad_quota}
 use Rattle.council_game.proofs.Shared.Games.{passed, makes, first-full, nowhere_below, position-none}
 use Rattle.council_game.proofs.Shared.Rankings.{length-rank_places, of-ranking}
-use Rattle.game_calls.specs.Quotas.{at_quota}
+use Rattle.game_calls.specs.{Quotas.at_quota, Winning.IsVetoer}
 
 first-light : (rs : List RuleView) (q i : ℕ) → 0 < length rs → is_heavy rs i ≡ false
     → is_heavy (record { quota = q; weights = (rule_at rs 0).weights } ∷ []) i ≡ false
@@ -34,3 +34,8 @@ another_quota g game q some met =
 pub only-memory : (g : GameView) (q : ℕ) (fault : GameFault) → IsGame g → 1 ≤ q → q ≤ total (rule_at g.rules 0)
     → Answers (Err fault) (made_game g.title g.names (record { quota = q; weights = (rule_at g.rules 0).weights } ∷ [])) → fault ≡ Memory
 only-memory g q fault game some met gives = grind (arith, common_steps, another_quota)
+
+-- who wins at a higher quota wins at a lower one
+pub vetoes_stay : (g : GameView) (i q r : ℕ) → q ≤ r → IsVetoer (at_quota g q) i → IsVetoer (at_quota g r) i
+unfolding wins
+vetoes_stay g i q r le needed c below won = needed c below (grind (arith, nat_tests, won))

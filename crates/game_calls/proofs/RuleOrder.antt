@@ -1,6 +1,6 @@
 -- Rules in another order: who wins under the one wins under the other.
-use Rattle.std.proofs.Common.{◌≡◌, ◌∙◌, ℕ, Bool, true, List, [], ◌∷◌, length, map, refl, sym, arith, IsPermutation}
-use Rattle.std.specs.{Prelude.nat_le, List.AllZip, List.list_all, Cmp.both_ways as same_test}
+use Rattle.std.proofs.Common.{◌≡◌, ◌∙◌, ℕ, Bool, true, List, [], ◌∷◌, length, map, refl, IsPermutation}
+use Rattle.std.specs.{Prelude.nat_le, List.AllZip, Cmp.both_ways as same_test}
 use Rattle.std.proofs.lemmas.List.{Sorted.All-permutation, Sorted.IsPermutation-map, Sorted.IsPermutation-sym}
 use Rattle.std.proofs.lemmas.List.Sums.{AllPass-from_list_all, list_all-from_AllPass}
 use Rattle.council_game.specs.{Game.GameView, Game.IsGame, Ranks.rule_by_rank, Votes.RuleView, Votes.weight, Votes.wins}

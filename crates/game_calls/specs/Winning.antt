@@ -1,5 +1,5 @@
 -- What the laws say of winning coalitions.
-use Rattle.std.specs.Prelude.{ℕ, ◌^◌, ◌≡◌, ◌<◌, true, All, Contains, length}
+use Rattle.std.specs.Prelude.{ℕ, ◌^◌, ◌≡◌, ◌<◌, false, true, All, Contains, length}
 use Rattle.council_game.specs.Votes.{Votes, has, wins, minimal_coalitions}
 use Rattle.council_game.specs.Game.{GameView, votes_of}
 use Rattle.council_game.specs.Members.{contains, IsSubsetOf}
@@ -38,3 +38,11 @@ IsVetoer g i = (c : ℕ) → c < 2 ^ length g.names → wins (votes_of g).rules 
 -- member i is in each minimal winning coalition
 abbrev pub IsInAll : GameView → ℕ → Type 0
 IsInAll g i = All (λ m. contains g i m ≡ true) (minimal_coalitions (votes_of g))
+
+-- no member is in both coalitions
+abbrev pub AreDisjoint : GameView → ℕ → ℕ → Type 0
+AreDisjoint g a c = (i : ℕ) → i < length g.names → contains g i a ≡ true → contains g i c ≡ false
+
+-- no two disjoint coalitions win
+abbrev pub IsProper : GameView → Type 0
+IsProper g = (a c : ℕ) → AreDisjoint g a c → wins (votes_of g).rules a ≡ true → wins (votes_of g).rules c ≡ false

@@ -5,19 +5,22 @@
 //! game_calls::laws::lowest_terms_add_up();
 //! ```
 ghost use Rattle.council_base.specs.Coalitions.{has};
-ghost use Rattle.council_game.specs.Game.{GameView, IsGame, AreNonemptyCoalitions, first_weights, made_game, total, votes_of};
+ghost use Rattle.council_base.specs.declared.limits.TheConstants.{MEMBERS};
+ghost use Rattle.council_game.specs.Game.{GameView, IsGame, AreNonemptyCoalitions, first_weights, has_low_quotas, made_game, total, votes_of};
 ghost use Rattle.council_game.specs.Members.{HaveSameMembers, IsSubsetOf, size_of};
 ghost use Rattle.council_game.specs.Ranks.{rank_places};
 ghost use Rattle.council_game.specs.Renaming.{AreInverse, IsRenaming, exchanged};
-ghost use Rattle.council_game.specs.Votes.{RuleView, Votes, IsVotes, wins, rule_at};
+ghost use Rattle.council_game.specs.Votes.{RuleView, Votes, IsVotes, minimal_coalitions, wins, rule_at};
 ghost use Rattle.game_calls.specs.Quotas.{at_quota};
-ghost use Rattle.power_index.specs.Counting.{members};
+ghost use Rattle.power_index.specs.Counting.{count_of_member, members};
 ghost use Rattle.power_index.specs.Fractions.{SameFraction, fraction_cmp, lowest_terms, AddUpToOne};
 ghost use Rattle.power_index.specs.Indices.{deegan_packel, public_good};
 ghost use Rattle.std.specs.List.Sorted.{IsPermutation};
 ghost use Rattle.std.specs.List.{filter, range_with_len};
-ghost use Rattle.std.specs.Prelude.{◌≡◌, ℕ, ◌<◌, ◌^◌, false, [], length, slice_index, slice_index_or, true, ◌+◌, ◌++◌, ◌∷◌, Bool, if◌then◌else◌, ◌↔◌, ◌*◌, ◌≤◌, List, map, Ok, Option};
-ghost use Rattle.game_calls.specs.Winning.{IsSubset, HasMinimalSubsets, HasVetoersInAll, HasMinimalSubsetOf, IsInAll, IsVetoer};
+ghost use Rattle.std.specs.Ordering.{nat_cmp};
+ghost use Rattle.std.specs.Prelude.{◌≡◌, ℕ, ◌<◌, ◌^◌, false, [], length, slice_index, slice_index_or, true, All, ◌+◌, ◌++◌, ◌∷◌, Bool, if◌then◌else◌, ◌↔◌, ◌*◌, ◌≤◌, List, map, Ok, Option};
+ghost use Rattle.game_calls.specs.Winning.{IsSubset, HasMinimalSubsets, HasVetoersInAll, HasMinimalSubsetOf, IsInAll, IsProper, IsVetoer};
+ghost use Rattle.swings.specs.Swings.{coalitions, swings, winning_coalitions};
 
 /// Nobody is in the empty coalition.
 #[tactic(auto, using(crate::proofs::Masks::empty))]
@@ -73,6 +76,56 @@ pub fn members_of_all_are_vetoers()
         → IsInAll g i ↔ IsVetoer g i }
 {}
 
+/// A member has a swing exactly if some minimal winning coalition has it.
+///
+/// All others are dummies.
+#[tactic(auto, using(crate::proofs::Swings::in_some))]
+pub fn members_of_some_have_swings()
+    ensures { (g : GameView) → IsGame g → (i : ℕ) → i < length g.names
+        → (0 < swings g i) ↔ (0 < count_of_member g i (minimal_coalitions (votes_of g))) }
+{}
+
+/// A vetoer has a swing in each winning coalition.
+#[tactic(auto, using(crate::proofs::Swings::vetoer_swings))]
+pub fn vetoers_swing_in_all()
+    ensures { (g : GameView) (i : ℕ) → IsVetoer g i → swings g i ≡ length (winning_coalitions g) }
+{}
+
+/// A member of at least the weight of another has no fewer swings.
+///
+/// It has at least that weight under each rule.
+#[tactic(auto, using(crate::proofs::Weighing::no_fewer))]
+pub fn more_weight_has_no_fewer_swings()
+    ensures { (g : GameView) → IsGame g → (i j : ℕ) → i < length g.names → j < length g.names
+        → All (λ r. slice_index r.weights j ≤ slice_index r.weights i) g.rules
+        → swings g j ≤ swings g i }
+{}
+
+/// Under one rule a vetoer leaves the others less than the quota.
+///
+/// No other member does.
+#[tactic(auto, using(crate::proofs::Weighing::by_weight))]
+pub fn weights_tell_vetoers()
+    ensures { (g : GameView) → IsGame g → length g.rules ≡ 1 → (i : ℕ) → i < length g.names
+        → IsVetoer g i ↔ (total (rule_at g.rules 0)
+        < (rule_at g.rules 0).quota + slice_index (rule_at g.rules 0).weights i) }
+{}
+
+/// A higher quota of the first rule takes no veto away.
+pub fn higher_quotas_keep_vetoers()
+    ensures { (g : GameView) (i q r : ℕ) → q ≤ r → IsVetoer (at_quota g q) i
+        → IsVetoer (at_quota g r) i }
+{}
+
+/// No two disjoint coalitions win if some quota is above half of the total.
+///
+/// Such a game is proper (Felsenthal and Machover 1998). `Game::has_low_quotas` returns whether
+/// there is no such quota.
+#[tactic(auto, using(crate::proofs::Weighing::proper))]
+pub fn high_quotas_make_games_proper()
+    ensures { (g : GameView) → IsGame g → has_low_quotas g ≡ false → IsProper g }
+{}
+
 /// Rules in another order change nothing: coalitions of the same members win alike.
 ///
 /// So sizes, counts and indices are the same (`names_do_not_matter`, `names_change_no_count`).
@@ -115,6 +168,15 @@ pub fn quotas_can_be_changed()
         → IsGame (at_quota g q) }
 {}
 
+/// At most 40 members, and at most 2^40 coalitions, pass a test.
+#[tactic(auto, using(crate::proofs::Few::few_pass))]
+pub fn few_pass_a_test()
+    ensures members { (g : GameView) (test : ℕ → Bool) → IsGame g
+        → length (filter test (members g)) ≤ MEMBERS }
+    ensures coalitions { (g : GameView) (test : ℕ → Bool) → IsGame g
+        → length (filter test (coalitions g)) ≤ 2 ^ MEMBERS }
+{}
+
 /// What passes up to n is what passes below n, and then n if it passes.
 ///
 /// This is one step of a loop that keeps the members or places that pass a test.
@@ -140,6 +202,14 @@ pub fn maps_take_one_more()
 pub fn lowest_terms_keep_order()
     ensures { (p q : ℕ × ℕ) → 0 < p.1 → 0 < q.1 →
         fraction_cmp (lowest_terms p) (lowest_terms q) ≡ fraction_cmp p q }
+{}
+
+/// Public good indices are ordered as the counts of coalitions with the member.
+#[tactic(auto, using(crate::proofs::Ordered::by_counts))]
+pub fn counts_order_public_good()
+    ensures { (g : GameView) (list : List ℕ) (i j : ℕ) → IsGame g → 0 < length list
+        → AreNonemptyCoalitions g list → fraction_cmp (public_good g list i) (public_good g list j)
+        ≡ nat_cmp (count_of_member g i list) (count_of_member g j list) }
 {}
 
 /// Fractions have the same lowest terms exactly if they are the same number.
