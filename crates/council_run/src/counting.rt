@@ -2,6 +2,7 @@
 //! worker threads or by one walk.
 ghost use Rattle.std.specs.Prelude.{◌≡◌, ◌⊎◌, IfErr, IfOk, IfSome, None, false};
 ghost use Rattle.council_base.specs.declared.report_lines.ReportLines.{ReportLines};
+ghost use Rattle.council_run.specs.Run.{count_of};
 ghost use Rattle.council_run.specs.Found.{Finds, GatherFaultIs, IsWorkersFault};
 ghost use Rattle.council_run.specs.declared.fault.Cause.TheVariants as cause;
 ghost use Rattle.mwc_gather.specs.declared.fault.GatherFault.TheVariants as gather;
@@ -30,6 +31,10 @@ pub const MOST_STATES: usize = 1 << 22;
 /// millisecond to see that a game of 26 members has more.
 pub const FEW_STATES: usize = 1 << 9;
 
+/// The most states by which a game is counted to tell how many coalitions it has: some tenths of a
+/// second.
+const NUMBER_STATES: usize = 1 << 16;
+
 /// A tally has at least 2^8 slices if there are 8 members: the last of them are the longest, and
 /// with fewer one thread would still count when the others have ended.
 pub const LEAST_BITS: u8 = 8;
@@ -52,6 +57,22 @@ pub fn count_states<G: Gate>(
 {
     let ordered = game.by_contribution(alloc)?;
     count_by_states(alloc, choose_game(game, &ordered), room, gate)
+}
+
+/// Returns how many minimal winning coalitions a game has.
+///
+/// It is `None` if that takes many states.
+///
+/// # Errors
+///
+/// Returns `Memory` if an allocation was refused.
+pub fn number_by_states(alloc: Global, game: &Game) -> Result<Option<u64>, Memory>
+    ensures { IfOk result (λ number. IfSome number (λ n. n ≡ count_of game.now)) }
+{
+    match count_states(alloc, game, NUMBER_STATES, &NoGate)? {
+        Some(counts) => Ok(Some(counts.wide_total())),
+        None => Ok(None),
+    }
 }
 
 /// Counts the swings of a game's members by states.

@@ -15,7 +15,6 @@ mod findings;
 mod found;
 pub mod laws;
 mod listing;
-mod number;
 mod order;
 mod runs;
 
@@ -24,11 +23,10 @@ pub use columns::Columns;
 pub use council_base::{Gate, NoGate, Options, limits};
 pub use counting::{
     FEW_STATES, LEAST_BITS, MOST_STATES, count_by_threads, count_by_walk, count_by_workers,
-    count_states, find_swings,
+    count_states, find_swings, number_by_states,
 };
 pub use fault::{Cause, RunFault, status};
 pub use findings::{Findings, find_in_one_thread};
 pub use found::{Coalitions, Found};
 pub use listing::{list_by_walk, list_by_workers};
-pub use number::number_by_states;
 pub use runs::{report_game, run, tally};

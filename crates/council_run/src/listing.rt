@@ -15,7 +15,7 @@ use crate::order::choose_game;
 use council_base::{Gate, Memory, NoGate, Options};
 use council_game::Game;
 use mwc_gather::{GatherFault, Gathered, Guarded, gather};
-use mwc_walk::list_all;
+use mwc_walk::{Seek, Walk, list_all};
 use power_index::Counts;
 use power_index::laws::minimal_coalitions_can_be_counted;
 use std::alloc::Global;
@@ -28,6 +28,9 @@ const LONG: usize = 1 << 19;
 /// The most states by which the coalitions of a long list are counted. Some milliseconds show that
 /// a game has more.
 const STATES_OF_LONG: usize = 1 << 11;
+
+/// The most visits of a walk that ends sooner than states are found.
+const FEW_VISITS: u32 = 1 << 10;
 
 /// Gathers the minimal winning coalitions of a game.
 fn gather_all<T: Threads + Wait + Sync, G: Gate + Sync>(
@@ -47,8 +50,7 @@ fn gather_all<T: Threads + Wait + Sync, G: Gate + Sync>(
     gather(rt, alloc, &guarded, bits, options.workers, options.most)
 }
 
-/// Returns whether the workers listed so many coalitions that states are tried before one pass over
-/// them.
+/// Returns whether the workers listed `LONG` coalitions or more.
 fn is_long(gathered: &Gathered) -> bool {
     let mut count: usize = 0;
     for part in &gathered.parts {
@@ -93,12 +95,34 @@ fn has_more(counted: &Option<Box<Counts>>, most: u32) -> bool
     }
 }
 
+/// Returns whether a walk over a game ends within `FEW_VISITS` visits.
+fn is_short(game: &Game) -> bool {
+    let mut walk = Walk::new(game, 0, 0);
+    while walk.visits() < u64::from(FEW_VISITS) {
+        if let Seek::End = walk.seek(u64::from(FEW_VISITS)) {
+            return true;
+        }
+    }
+    false
+}
+
 /// Counts the coalitions of a game if few states do that, and fails if there are more than `most`.
-fn count_few(alloc: Global, game: &Game, most: u32) -> Result<Option<Box<Counts>>, RunFault>
+///
+/// `walked` is the game or has its members in another order. If the walk over it is short, nothing
+/// is counted.
+fn count_few(
+    alloc: Global,
+    game: &Game,
+    walked: &Game,
+    most: u32,
+) -> Result<Option<Box<Counts>>, RunFault>
     ensures counts { IfOk result (λ o. IfSome o (λ counts. AreCountsOfGame game.now counts.value)) }
     ensures fails { IfErr result (λ fault. IsNotFound (Some most) game.now fault.cause × (fault.written ≡ 0)) }
     ensures many { GatherFaultIs GatherFault.TooMany result }
 {
+    if most >= FEW_VISITS && is_short(walked) {
+        return Ok(None);
+    }
     let counted = count_states(alloc, game, FEW_STATES, &NoGate)?;
     if has_more(&counted, most) {
         return Err(RunFault::from(GatherFault::TooMany));
@@ -150,9 +174,9 @@ pub fn list_by_workers<T: Threads + Wait + Sync, G: Gate + Sync>(
     ensures { (lines : ReportLines) → lines.list ≡ options.now.list
         → Finds (Some options.now.most) lines game.now result }
 {
-    let counted = count_few(alloc, game, options.most)?;
     let ordered = game.by_contribution(alloc)?;
     let walked = choose_game(game, &ordered);
+    let counted = count_few(alloc, game, walked, options.most)?;
     let gathered = gather_all(rt, alloc, walked, options, gate)?;
     let counts = count_gathered(alloc, walked, &gathered, counted)?;
     let coalitions = keep(alloc, game, ordered, gathered, options.list)?;
@@ -171,10 +195,10 @@ pub fn list_by_walk(alloc: Global, game: &Game, most: u32, list: bool) -> Result
     ensures finds { (lines : ReportLines) → lines.list ≡ list → Finds (Some most) lines game.now result }
     ensures many { GatherFaultIs GatherFault.TooMany result }
 {
-    count_few(alloc, game, most)?;
     minimal_coalitions_can_be_counted();
     let ordered = game.by_contribution(alloc)?;
     let walked = choose_game(game, &ordered);
+    count_few(alloc, game, walked, most)?;
     let Some(mut all) = list_all(alloc, walked, most)? else {
         return Err(RunFault::from(GatherFault::TooMany));
     };

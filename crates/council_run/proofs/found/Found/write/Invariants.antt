@@ -3,9 +3,3 @@ use Rattle.council_run.proofs.found.Found.write.Given as goal
 
 abbrev pub ghost-write_report_of : goal.ghost-write_report_of
 ghost-write_report_of g a = minimal_coalitions (votes_of a.game.now)
-
-abbrev pub ghost-write_report_of-2 : goal.ghost-write_report_of-2
-ghost-write_report_of-2 g a = minimal_coalitions (votes_of a.game.now)
-
-abbrev pub ghost-write_report_of-3 : goal.ghost-write_report_of-3
-ghost-write_report_of-3 g a = minimal_coalitions (votes_of a.game.now)
