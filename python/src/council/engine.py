@@ -104,7 +104,7 @@ def find_library() -> Optional[Library]:
     said = os.environ.get("COUNCIL_LIBRARY")
     if said is not None:
         return load_library(os.path.realpath(said)) if said else None
-    path = next(filter(os.path.isfile, [f"{HOME}/libcouncil.so", f"{HOME}/../lib/libcouncil.so"]), None)
+    path = next((it for it in (f"{HOME}/libcouncil.so", f"{HOME}/../lib/libcouncil.so") if os.path.isfile(it)), None)
     try:
         return load_library(os.path.realpath(path)) if path else None
     except OSError:

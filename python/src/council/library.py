@@ -64,7 +64,8 @@ class Library:
     def count(self, quotas: Sequence[int], columns: Sequence[Sequence[int]], swings: bool) -> tuple[int, Summary, Sequence[Numbers]]:
         """Returns the numbers of a game or its fault, and those of each member."""
         numbers = (Numbers * len(columns[0]))()
-        return *self._ask(self._calls.council_indices, quotas, columns, c_bool(swings), U64(0), numbers, Size(len(numbers))), numbers
+        status, summary = self._ask(self._calls.council_indices, quotas, columns, c_bool(swings), U64(0), numbers, Size(len(numbers)))
+        return status, summary, list(numbers)
 
     def list_masks(self, quotas: Sequence[int], columns: Sequence[Sequence[int]], room: int) -> tuple[int, Summary, Sequence[int]]:
         """Returns the number of coalitions or the fault of a game, and the coalitions, at most `room`."""

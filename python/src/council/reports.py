@@ -9,7 +9,7 @@ import operator
 from fractions import Fraction
 from typing import TYPE_CHECKING, Any, Callable, Iterable, NamedTuple, Optional, Sequence, TypeVar
 
-from .columns import GROUPS, SWINGS, Group
+from .columns import GROUPS, MINIMAL, SWINGS, Group
 
 # the most coalitions that a report lists, and the letters that one of its lines may have
 MOST, LINE = 4_000_000, 1 << 16
@@ -189,7 +189,7 @@ class Report:
         # the groups of columns and the indices that it has
         self.groups = list(counts)
         self.indices = [index for it in counts for index in it.indices]
-        self.minimal, self.winning = map(counts.get, GROUPS)
+        self.minimal, self.winning = counts.get(MINIMAL), counts.get(SWINGS)
         self.coalitions: Optional[Sequence[Coalition]] = None
         # how many coalitions a text lists
         self.listed = 0

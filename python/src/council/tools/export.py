@@ -211,14 +211,14 @@ def write_json(lines: Iterable[str], words: argparse.Namespace) -> None:
     the members, so they wait in a temporary file."""
     write = functools.lru_cache(functools.partial(json.dumps, ensure_ascii=False))
 
-    def write_coalition(it: Coalition) -> None:
+    def write_coalition(it: Coalition) -> str:
         members = '", "'.join(it.members)
         # most names need no escape
         plain = members.isprintable() and "\\" not in members and members.count('"') == 2 * len(it.members) - 2
-        coalitions.write(f',\n  {{"members": [{chr(34) + members + chr(34) if plain else ", ".join(map(write, it.members))}], "weights": {write(it.weights)}}}')
+        return f',\n  {{"members": [{chr(34) + members + chr(34) if plain else ", ".join(map(write, it.members))}], "weights": {write(it.weights)}}}'
 
     with tempfile.TemporaryFile("w+", encoding="utf-8", newline="", buffering=1 << 20) as coalitions:
-        report = Report.read(lines, write_coalition)
+        report = Report.read(lines, lambda it: coalitions.write(write_coalition(it)))
         warn_of_low_quotas(report.quotas, report.totals)
         head = json.dumps(describe(report, choose_indices([report], words.index), words.decimals), indent=1, ensure_ascii=False)
         if report.listed:
