@@ -109,14 +109,14 @@ class Coalitions(Sequence[Coalition]):
 
 def list_coalitions(members: Sequence[Member], masks: Sequence[int]) -> Coalitions:
     """Returns the coalitions of these masks, each with its heaviest member first."""
-    ranked = sorted(((1 << at, it) for at, it in enumerate(members)), key=lambda it: -it[1].weights[0])
+    ranked = sorted(((1 << at, it.name, it.weights) for at, it in enumerate(members)), key=lambda it: -it[2][0])
     return Coalitions(masks, functools.partial(make_coalition, ranked))
 
 
-def make_coalition(ranked: Sequence[tuple[int, Member]], mask: int) -> Coalition:
+def make_coalition(ranked: Sequence[tuple[int, str, tuple[int, ...]]], mask: int) -> Coalition:
     """Returns the coalition of the members whose digits a mask has."""
-    its = [it for digit, it in ranked if mask & digit]
-    return Coalition(tuple([it.name for it in its]), tuple(map(sum, zip(*[it.weights for it in its]))))
+    _, names, weights = zip(*[it for it in ranked if it[0] & mask])
+    return Coalition(names, tuple(map(sum, zip(*weights))))
 
 
 def read_coalition(line: str) -> Coalition:
