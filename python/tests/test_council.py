@@ -110,7 +110,7 @@ class Reports(unittest.TestCase):
             if path.suffix in (".toml", ".txt"):
                 stored = path.with_suffix(".tsv") if path.suffix == ".toml" else Path(f"{path}.tsv")
                 with self.subTest(path.name):
-                    self.check_same(council.report(file=path), Report(stored.read_text(encoding="utf-8").split("\n")[:-1]))
+                    self.check_same(council.report(file=path), Report.read(stored.read_text(encoding="utf-8").split("\n")[:-1]))
 
     def test_random_games_as_the_oracle(self):
         rng = random.Random(1)

@@ -141,12 +141,12 @@ class Export(Tests):
             self.check_refused(Run("export", "csv", input=data), status=1)
 
     def test_a_changed_report_is_refused(self):
-        """Each report in which one field is another is refused, except for names, what repeats, and
-        fields after the last one of a member, which a later version may have."""
+        """Each report in which one field is another is refused, except for names, counts, what repeats,
+        and fields after the last one of a member, which a later version may have."""
         for number, line in enumerate(TWO.split("\n")[:-1]):
             fields = line.split("\t")
             for at in range(len(fields)):
-                if (fields[0], at) in [("title", 1), ("member", 1)] or (fields[0] == "coalition" and at > 1) or (fields[0], at) == ("member", 3) or (fields[0], at) in [("quota", 1), ("minimal", 1)]:
+                if (fields[0], at) in [("title", 1), ("quota", 1), ("minimal", 1), ("winning", 1), ("member", 1), ("member", 3), ("member", 8)] or (fields[0] == "coalition" and at > 1):
                     continue
                 for new in fields[at] + "1", "x" + fields[at], "", fields[at] + "\t", "-" + fields[at], "\uff11" + fields[at]:
                     if fields[0] == "member" and at == len(fields) - 1 and new.endswith("\t"):
