@@ -58,9 +58,9 @@ def report(
     - `file`: the path of a game file.
     - `game`: the text of a game file, or a text such as "[51; 50, 49, 1]".
 
-    With `coalitions=True` the report has the list of all minimal winning coalitions, and a game
-    with more than `most` of them raises `TooMany`; `most` is at most 4,000,000. Without it, they
-    are counted, however many there are.
+    With `coalitions=True` the report has all minimal winning coalitions, and makes each when you
+    ask for it; a game with more than `most` of them raises `TooMany`; `most` is at most 4,000,000.
+    Without it, they are counted, however many there are.
 
     The indices are those of Deegan and Packel and of Holler. With `swings=True` each member also has
     its number of swings and the indices that rest on them: Banzhaf's, Penrose's measure, and that of

@@ -13,6 +13,8 @@ import os
 import re
 import shutil
 import subprocess
+from contextlib import suppress
+from pathlib import Path
 from typing import Optional, Sequence
 
 from .columns import GROUPS
@@ -51,10 +53,7 @@ class TooMany(Refused):
 
 def find_home() -> str:
     """Returns the folder of this package; if it is in a zipapp, the folder of that."""
-    here = os.path.dirname(os.path.realpath(__file__))
-    while not os.path.isdir(here):
-        here = os.path.dirname(here)
-    return here
+    return next(str(it) for it in Path(__file__).resolve().parents if it.is_dir())
 
 
 def find_clone(launcher: str) -> Optional[str]:
@@ -120,12 +119,14 @@ def compute(game: bytes, *, listed: bool = False, most: int = MOST, program: Opt
     named is used instead of the library.
     """
     words = ["--only-swings"] if only else (["--list", "--most", str(most)] if listed else ["--tally"]) + ["--swings"] * (only is not None)
-    library = None if program else find_library()
+    library, told = None if program else find_library(), ""
     if library is None:
         status, text, told = run_program(find_program(program), game, words)
     else:
         status, text = library.report(game, Options(most=most if listed else 0, tally=not listed and not only), only)
-        told = explain(game, words) if status in (3, 4) else ""
+        if status in (3, 4):
+            with suppress(NotFound, OSError):
+                told = run_program(find_program(), game, words)[2]
     if status not in (0, 1, 3, 4, 6):
         raise MemoryError(text) if text == "out of memory" else RuntimeError(text)
     if status:
@@ -170,12 +171,3 @@ def run_program(program: str, game: bytes, words: Sequence[str]) -> tuple[int, s
     first, *others = done.stderr.decode("utf-8", "replace").rstrip("\n").split("\n")
     told = first[len("council: ") :] if first.startswith("council: ") else first
     return done.returncode, told or f"{program} ended with status {done.returncode}", "\n".join(it.strip() for it in others)
-
-
-def explain(game: bytes, words: Sequence[str]) -> str:
-    """Returns what the program says of a game that the library has refused; nothing if there is no
-    program."""
-    try:
-        return run_program(find_program(), game, words)[2]
-    except (NotFound, OSError):
-        return ""
