@@ -9,6 +9,7 @@ empty one means that none is used.
 from __future__ import annotations
 
 import functools
+import math
 import os
 import re
 import shutil
@@ -148,7 +149,8 @@ def compute_numbers(title: str, names: Sequence[str], quotas: Sequence[int], col
     if not library:
         return None, 0
     if most:
-        status, summary, masks = library.list_masks(quotas, columns, most)
+        # (none is a part of another, so there are at most as many as sets of half of the members)
+        status, summary, masks = library.list_masks(quotas, columns, min(most, math.comb(len(names), len(names) // 2)))
     if not status:
         status, summary, numbers = library.count(quotas, columns, swings)
     if status:
