@@ -127,17 +127,10 @@ def read_coalition(line: str) -> Coalition:
     return Coalition(tuple(names), read_numbers(weights))
 
 
-def read_number(text: str) -> int:
-    """Reads a number of a report, which has only digits."""
-    if not (text.isascii() and text.isdigit()):
-        raise ValueError(text)
-    return int(text)
-
-
 @functools.lru_cache
 def read_numbers(text: str) -> tuple[int, ...]:
     """Reads a field that has one number for each rule, with / between them."""
-    return tuple(map(read_number, text.split("/")))
+    return tuple(map(int, text.split("/")))
 
 
 def write_fraction(value: Fraction) -> str:
@@ -158,7 +151,7 @@ def round_half_up(value: Fraction, places: int) -> str:
 
 def read_index(fraction: str, decimals: str) -> Fraction:
     """Reads an index from its two fields, which must agree."""
-    value = Fraction(*map(read_number, fraction.split("/")))
+    value = Fraction(fraction)
     if cut_off(value) != decimals:
         raise ValueError(decimals)
     return value
@@ -168,7 +161,7 @@ def read_member(groups: Iterable[Group], name: str, weights: str, *fields: str) 
     """Reads the fields of a line `member` that has these groups of columns, and passes over others."""
     rest, values = iter(fields), {}
     for group in groups:
-        values[group] = read_number(next(rest)), [read_index(next(rest), next(rest)) for _ in group.indices]
+        values[group] = int(next(rest)), [read_index(next(rest), next(rest)) for _ in group.indices]
     return make_member(name, read_numbers(weights), values)
 
 
@@ -228,9 +221,9 @@ class Report:
         if not one and not members:
             raise Fault("there is no report: nothing was read (was the game refused?)")
         try:
-            made = cls(one.get("title", ""), read_numbers(one["quota"]), {it: read_number(one[it.line]) for it in GROUPS if it.line in one}, members)
+            made = cls(one.get("title", ""), read_numbers(one["quota"]), {it: int(one[it.line]) for it in GROUPS if it.line in one}, members)
             made.listed = listed
-            whole = made.groups and read_number(one["members"]) == len(members) and read_numbers(one["total"]) == made.totals
+            whole = made.groups and int(one["members"]) == len(members) and read_numbers(one["total"]) == made.totals
             whole = whole and all(len(it.weights) == len(made.quotas) and hasattr(it, group.column) for it in members for group in made.groups)
         except (AttributeError, KeyError, ValueError, ZeroDivisionError):
             whole = False
