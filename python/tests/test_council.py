@@ -9,7 +9,6 @@ It tests the package that Python finds, else the one beside it. Each test is a l
 import contextlib
 import ctypes
 import doctest
-import gc
 import math
 import os
 import pickle
@@ -39,7 +38,7 @@ sys.path.insert(0, str(TOP / "tests"))
 import lines  # noqa: E402 (it is beside the clone's other tests, as is oracle)
 import oracle  # noqa: E402
 
-from council import engine, game, reports  # noqa: E402
+from council import engine, game, library, reports  # noqa: E402
 from council.engine import find_library, find_program  # noqa: E402
 from council.game import Unit  # noqa: E402
 from council.reports import Fault, Report  # noqa: E402
@@ -61,7 +60,7 @@ BIG = [sum(sorted(it)[-10:]) for it in LONG]
 
 def ask_oracle(title, names, rules, **more):
     """Returns the report of a game, worked out apart from the program."""
-    return Report(oracle.report(oracle.Game(title or None, names, rules), **more))
+    return Report.read(oracle.report(oracle.Game(title or None, names, rules), **more))
 
 
 def find_refusal(*words, **more):
@@ -82,24 +81,24 @@ class Reports(unittest.TestCase):
         report = council.report(51, [50, 49, 1], names=["A", "B", "C"])
         self.assertEqual((report.quotas, report.totals, report.minimal, report.title), ((51,), (100,), 2, ""))
         a, b, _ = report.members
-        self.assertEqual(a, ("A", (50,), 2, 0.5, 0.5, Fraction(1, 2), Fraction(1, 2)))
+        self.assertEqual(a, ("A", 50, 2, 0.5, 0.5, Fraction(1, 2), Fraction(1, 2)))
         self.assertEqual([type(it) for it in a[3:]], [float, float, Fraction, Fraction])
-        self.assertEqual(b, ("B", (49,), 1, 0.25, 0.25, Fraction(1, 4), Fraction(1, 4)))
+        self.assertEqual(b, ("B", 49, 1, 0.25, 0.25, Fraction(1, 4), Fraction(1, 4)))
         self.assertIsNone(report.coalitions)
 
     def test_swings(self):
         both, only, neither = [council.report(12, [4, 4, 4, 2, 2, 1], **more) for more in ({"swings": True}, {"only_swings": True}, {})]
         a, b = both.members[0], only.members[0]
         self.assertEqual((a[:7], b[:2], a[7:]), (neither.members[0], a[:2], b[2:]))
-        self.assertEqual(b, ("1", (4,), 10, 5 / 21, 5 / 16, 7 / 30, Fraction(5, 21), Fraction(5, 16), Fraction(7, 30)))
+        self.assertEqual(b, ("1", 4, 10, 5 / 21, 5 / 16, 7 / 30, Fraction(5, 21), Fraction(5, 16), Fraction(7, 30)))
         self.assertEqual((b.penrose, b.shapley_shubik_exact, b.power_to_prevent, b.power_to_initiate), (5 / 16, Fraction(7, 30), Fraction(10, 14), Fraction(10, 50)))
         self.assertEqual([(it.minimal, it.winning) for it in (both, only, neither)], [(4, 14), (None, 14), (4, None)])
-        self.assertEqual((only.power_to_act, list(only.rows()[0])), (Fraction(14, 64), ["name", "weight", *b._fields[2:]]))
+        self.assertEqual((only.power_to_act, list(only.rows()[0])), (Fraction(14, 64), list(b._fields)))
         self.assertEqual(repr(only), "<council.Report 'A game': 6 members, 14 winning coalitions>")
         again = pickle.loads(pickle.dumps(a))
         self.assertEqual((again, again.power_to_prevent, repr(again)), (a, a.power_to_prevent, repr(a)))
-        self.assertTrue(repr(b).startswith("Member(name='1', weights=(4,), swings=10, banzhaf=0.238"))
-        for it, name, text in [(b, "public_good", "the report has no public_good"), (neither.members[0], "banzhaf", "no banzhaf: ask for swings=True"), (neither.members[0], "power_to_prevent", "no power_to_prevent: ask for"), (neither, "power_to_act", "ask for swings=True"), (a, "x", "has no x")]:
+        self.assertTrue(repr(b).startswith("Member(name='1', weight=4, swings=10, banzhaf=0.238"))
+        for it, name, text in [(b, "public_good", "the report has no public_good"), (neither.members[0], "banzhaf", "no banzhaf: ask for swings=True"), (neither.members[0], "power_to_prevent", "no power_to_prevent: ask for"), (neither, "power_to_act", "power_to_act"), (a, "x", "has no x")]:
             with self.assertRaisesRegex(AttributeError, text):
                 getattr(it, name)
         for more in {"swings": True}, {"coalitions": True}:
@@ -111,7 +110,7 @@ class Reports(unittest.TestCase):
             if path.suffix in (".toml", ".txt"):
                 stored = path.with_suffix(".tsv") if path.suffix == ".toml" else Path(f"{path}.tsv")
                 with self.subTest(path.name):
-                    self.check_same(council.report(file=path), Report(stored.read_text(encoding="utf-8").split("\n")[:-1]))
+                    self.check_same(council.report(file=path), Report.read(stored.read_text(encoding="utf-8").split("\n")[:-1]))
 
     def test_random_games_as_the_oracle(self):
         rng = random.Random(1)
@@ -234,11 +233,10 @@ class Reports(unittest.TestCase):
         self.assertEqual(find_refusal([], []).fault, "bad rules")
 
     def test_numbers_without_a_text(self):
-        library = find_library()
-        if not library or not library._indices:
-            self.skipTest("there is no library that takes arrays")
+        if not find_library():
+            self.skipTest("there is no library")
         with mock.patch.object(council, "compute", mock.Mock(side_effect=AssertionError)):
-            for more in {}, {"swings": True}, {"names": HOSTILE[:3], "title": "T"}:
+            for more in {}, {"swings": True}, {"names": HOSTILE[:3], "title": "T"}, {"coalitions": True}:
                 self.assertEqual(council.report(51, [50, 49, 1], **more).minimal, 2)
         for words, fault, member, rule in [
             (([1, 1], [[1, 2, 3], [1, game.WEIGHT + 1, 3]]), "bad weight of member 2", 2, 2), (([1, 9], [[1, 2, 3], [1, 2, 3]]), "quota out of range", None, 2),
@@ -287,9 +285,15 @@ class Reports(unittest.TestCase):
     def test_rows(self):
         columns = ["coalitions", "deegan_packel", "public_good", "deegan_packel_exact", "public_good_exact"]
         self.assertEqual(list(council.report(51, [50, 49, 1]).rows()[0]), ["name", "weight", *columns])
-        two = council.report([5, 3], [[3, 2, 2, 1], [1, 1, 1, 1]]).rows()
-        self.assertEqual(list(two[0]), ["name", "weight_1", "weight_2", *columns])
-        self.assertEqual((two[0]["weight_1"], two[0]["weight_2"]), (3, 1))
+        # as pandas has them: a row for each member, with the columns that the first one names
+        table = [[3, 1], [2, 1], [2, 1], [1, 1]]
+        frame = mock.Mock(spec=["columns", "index", "to_numpy"], index=list("ABCD"), to_numpy=lambda dtype: table)
+        two = council.report([5, 3], frame)
+        self.assertEqual(two.members[0]._fields, ("name", "weight_1", "weight_2", *columns))
+        self.assertEqual([it[:3] for it in two.members], [(name, *its) for name, its in zip("ABCD", table)])
+        self.assertEqual(two.rows(), [dict(zip(two.members[0]._fields, it)) for it in two.members])
+        series = type("Series", (list,), {"index": frame.index})
+        self.assertEqual([(it.name, it.weight, it.weights) for it in council.report(5, series([3, 2, 2, 1])).members], [(*it, it[1:]) for it in zip("ABCD", (3, 2, 2, 1))])
 
     def test_headings_and_shares(self):
         report = council.report([5, 3], [[3, 2, 2, 1], [1, 1, 1, 1]], title=" ")
@@ -300,49 +304,37 @@ class Reports(unittest.TestCase):
     def test_a_report_that_was_changed(self):
         unsound, nothing = "the report is not whole, or its numbers are not those of council", "there is no report: nothing was read (was the game refused?)"
         others = LISTED.replace("quota\t51\n", "quota\t51\r\nnotation\t[51; 50, 49, 1]\n").replace("member\t1", "size\t2\t2\t2\t1\t1\nmember\t1")
-        for it in (Report.from_text(others), Report(others.split("\n")[:-1])):
-            self.assertEqual((it.quotas, it.minimal, it.listed, [of.name for of in it.members]), ((51,), 2, 2, ["1", "2", "3"]))
-            self.assertEqual(it.coalitions, [(("1", "2"), (99,)), (("1", "3"), (51,))])
+        for it in (Report.from_text(others), Report.read(others.split("\n")[:-1])):
+            self.assertEqual((it.quotas, it.minimal, [of.name for of in it.members]), ((51,), 2, ["1", "2", "3"]))
         for old, new, text in [
             (LISTED, "", nothing), (LISTED[LISTED.index("member\t1") :], "", unsound), (LISTED[: LISTED.index("member\t1")], "", unsound), (LISTED[-20:], "", unsound),
             (LISTED, "quota = 1\n", "line 1"), ("member\t3\t1\t1\t", "member\t3\tx\t1\t", "line 9"),
             ("quota\t51", "quota\t51\t1", "line 2"), ("quota\t51", "quota", "line 2"), ("quota\t51\n", "", unsound), ("quota\t51", "quota\t51/1", unsound),
-            ("quota\t51", "quota\t+51", unsound), ("quota\t51", "quota\t5_1", unsound), ("quota\t51", "quota\t\uff11", unsound),
-            # a rule without a weight
-            (LISTED, LISTED.replace("51\nt", "51/1\nt").replace("100", "100/0").replace("50\t2", "50/0\t2").replace("49\t1", "49/0\t1").replace("3\t1\t1", "3\t1/0\t1"), unsound),
+            ("quota\t51", "quota\tx", unsound),
             ("members\t3", "members\t4", unsound), ("total\t100", "total\t101", unsound), ("total\t100", "total\t100/3", unsound), ("minimal\t2", "minimal\t1", unsound), ("minimal\t2", "minimal\tx", unsound),
-            ("member\t3\t1\t1\t", "member\t3\t1/1\t1\t", unsound), ("member\t3\t1\t1\t1/4\t0.250000", "member\t3\t1\t1\t1/8\t0.125000", unsound),
-            ("1/4\t0.250000\n", "1/8\t0.125000\n", unsound), ("1/2\t0.500000\t1/2\t0.500000", "1/4\t0.250000\t3/4\t0.750000", unsound), ("1/2\t0.500000\n", "1/2\t0.500001\n", "line 7"), ("1/2\t0.500000\n", "1/0\t0.500000\n", "line 7"), ("1/2\t0.500000\n", "+1/2\t0.500000\n", "line 7"), ("1/2\t0.500000\n", "1/0_2\t0.500000\n", "line 7"),
+            ("member\t3\t1\t1\t", "member\t3\t1/1\t1\t", unsound), ("1/2\t0.500000\n", "1/2\t0.500001\n", "line 7"), ("1/2\t0.500000\n", "1/0\t0.500000\n", "line 7"), ("1/2\t0.500000\n", "1_2\t0.500000\n", "line 7"),
+            (LISTED, "\n".join(sorted(LISTED.split("\n"))[1:]), unsound),
             ("coalition\t2\t99", "coalition\t3\t99", "line 5"), ("coalition\t2\t99", "coalition\t1\t99", "line 5"),
         ]:
             changed = LISTED.replace(old, new)
             wanted = f"{text} is no line of a report of council" if text.startswith("line") else text
-            for read in (lambda it: Report(it.split("\n")[:-1]), Report.from_text):
-                with self.subTest(old=old, new=new), self.assertRaises(Fault) as caught:
-                    read(changed).coalitions
-                # (of a text, the coalitions are read last, and their lines are not counted)
-                if read != Report.from_text or text == unsound:
-                    self.assertEqual((str(caught.exception), caught.exception.status), (wanted, 1))
+            with self.subTest(old=old, new=new), self.assertRaises(Fault) as caught:
+                Report.read(changed.split("\n")[:-1])
+            self.assertEqual((str(caught.exception), caught.exception.status), (wanted, 1))
         later = LISTED.replace("0\nmember", "0\tother\nmember")
         self.check_same(Report.from_text(later), Report.from_text(LISTED))
-        one = LISTED.replace("coalition\t2\t99\t1\t2\n", "")
-        self.assertEqual(Report(one.split("\n")[:-1]).listed, 1)
-        with self.assertRaises(Fault):
-            Report.from_text(one)
         self.assertEqual((str(Fault("a text", 2)), Fault("a text", 2).status), ("a text", 2))
 
     def test_coalitions_one_after_the_other(self):
-        taken = []
-        it = Report(LISTED.split("\n")[:-1], taken.append)
-        self.assertEqual((taken, it.coalitions, it.listed), ([(("1", "2"), (99,)), (("1", "3"), (51,))], None, 2))
-        for collects in (False, True):
-            (gc.enable if collects else gc.disable)()
-            report = Report.from_text(LISTED)
-            kept = report.coalitions
-            self.assertEqual(gc.isenabled(), collects)
-            # a list that is sorted, say, stays so
-            self.assertIs(report.coalitions, kept)
-        self.assertIs(kept[0].members[0], kept[1].members[0])
+        wanted, taken = [(("1", "2"), (99,)), (("1", "3"), (51,))], []
+        it = Report.read(LISTED.split("\n")[:-1], taken.append)
+        self.assertEqual((taken, it.coalitions, it.listed), (wanted, None, 2))
+        report = Report.from_text(LISTED)
+        for its in report.coalitions, reports.list_coalitions(report.members, [3, 5]), pickle.loads(pickle.dumps(report)).coalitions:
+            self.assertEqual((its, len(its), its[-1], its[1:], list(its), repr(its)), (wanted, 2, wanted[1], wanted[1:], wanted, repr(list(its))))
+            self.assertNotEqual(its, wanted[:1])
+        # one that nobody asks for is never made
+        self.assertEqual(len(reports.Coalitions(range(10**9), None)), 10**9)
 
     def test_threads_at_once(self):
         wanted = [council.report(12, [4, 4, 4, 2, 2, 1], title=str(at)) for at in range(8)]
@@ -359,15 +351,6 @@ class Reports(unittest.TestCase):
             it.join()
         for one, other in zip(found, wanted):
             self.check_same(one, other)
-
-    def test_a_long_list_with_little_memory(self):
-        # room for a list of any length is refused, so a second call has room for just this one (the
-        # program has threads, which may want more)
-        limit = "if council.engine.find_library():\n    resource.setrlimit(resource.RLIMIT_AS, (9 * 10**8,) * 2)\n"
-        code = f"import council.engine, resource\n{limit}print(len(council.report(7, [1] * 14, coalitions=True).coalitions))\n"
-        folder = str(Path(council.__file__).resolve().parent.parent)
-        done = subprocess.run([sys.executable, "-c", code], capture_output=True, text=True, timeout=60, env={**os.environ, "PYTHONPATH": folder})
-        self.assertEqual(done.stdout, "3432\n", done.stderr)
 
     def test_an_interrupt_ends_a_long_call(self):
         # (what a shell starts in the background ignores SIGINT, and so would the child)
@@ -398,14 +381,13 @@ class Reports(unittest.TestCase):
             self.skipTest("this Python has no pandas")
         report = council.report(len(HOSTILE) - 1, [1] * len(HOSTILE), names=HOSTILE)
         table = pandas.DataFrame(report.members)
-        self.assertEqual(list(table.columns), list(council.Member._fields))
-        self.assertEqual(list(table["name"]), HOSTILE)
+        self.assertEqual((list(table.columns), list(table["name"]), list(table["weight"])), (list(report.members[0]._fields), HOSTILE, [1] * len(HOSTILE)))
         self.assertEqual(str(table["public_good"].dtype), "float64")
         again = council.report(51, pandas.Series([50, 49, 1]), names=pandas.Series(["A", "B", "C"]))
         self.assertEqual(again.members[0].public_good_exact, Fraction(1, 2))
         frame = pandas.DataFrame({"votes": [3, 2, 2, 1], "heads": [1, 1, 1, 1]}, index=list("ABCD"))
         two = council.report(frame.sum() // 2 + 1, [frame[it] for it in frame], names=frame.index)
-        self.assertEqual(list(pandas.DataFrame(two.rows())["weight_1"]), [3, 2, 2, 1])
+        self.assertEqual(list(pandas.DataFrame(two.members)["weight_1"]), [3, 2, 2, 1])
         for weights in frame, frame[["votes", "heads"]].astype(float):
             self.assertEqual(council.report(frame.sum() // 2 + 1, weights).members, two.members)
         self.assertEqual(council.report([5, 3], frame.to_numpy(), names=frame.index).members, two.members)
@@ -417,19 +399,19 @@ class Reports(unittest.TestCase):
 
 
 def make_library(status, data):
-    """Returns a library whose call answers so, and a list of what it was asked."""
+    """Returns a library whose calls answer so, and a list of what they were asked."""
     asked = []
 
     def call(text, size, options, *only_and_place):
         *only, place, room, length = only_and_place
-        asked.append((text[:size], [getattr(options._obj, it) for it, _ in engine.Options._fields_], room, threading.current_thread().daemon, *only))
-        ctypes.memmove(place, data, min(len(data), room))
+        asked.append((text[: size.value], [getattr(options._obj, it) for it, _ in library.Options._fields_], room.value, threading.current_thread().daemon, *(it.value for it in only)))
+        ctypes.memmove(place, data, len(data))
         length._obj.value = len(data)
         return status
 
-    library = engine.Library.__new__(engine.Library)
-    library._call = library._swings_call = call
-    return library, asked
+    made = library.Library.__new__(library.Library)
+    made._calls = mock.Mock(council_report=call, council_swings_report=call)
+    return made, asked
 
 
 class Engines(unittest.TestCase):
@@ -440,30 +422,23 @@ class Engines(unittest.TestCase):
             return engine.compute(*words, **more)
 
     def test_what_the_library_is_asked(self):
-        for size, more, options, rooms in [
-            (9, {}, [0, True, False, False, False], [65536]), (9, {"listed": True, "most": 7}, [7, False, True, False, False], [2**30]),
-            (65536, {}, [0, True, False, False, False], [65536]), (65537, {}, [0, True, False, False, False], [65536, 65537]),
-        ]:
-            library, asked = make_library(0, b"x" * size)
-            self.assertEqual(self.compute(library, b"[1; 1]", **more), "x" * size)
-            self.assertEqual(asked, [(b"[1; 1]", options, it, True) for it in rooms])
-            with self.assertRaises(council.NotFound):
-                self.compute(library, b"[1; 1]", program="no-such-program")
-        library, asked = make_library(0, b"x")
-        for more in {"only": False}, {"only": True}, {"only": False, "listed": True, "most": 7}:
-            self.compute(library, b"[1; 1]", **more)
-        self.assertEqual([it[1:] for it in asked], [([0, True, False, False, False], 65536, True, False), ([0, False, False, False, False], 65536, True, True), ([7, False, True, False, False], 2**30, True, False)])
-        # an older library has no swings: the program answers
-        library._swings_call = None
-        with mock.patch.dict(os.environ, COUNCIL_PROGRAM="no-such-program"), self.assertRaises(council.NotFound):
-            self.compute(library, b"[1; 1]", only=True)
-        library._call = mock.Mock(side_effect=SystemExit("a fault"))
-        with self.assertRaisesRegex(SystemExit, "a fault"):
-            self.compute(library, b"[1; 1]")
-        with mock.patch("mmap.mmap", lambda file, room, _: b"" if (file, room) == (-1, 65536) else os.open("/none", 0)):
-            self.assertEqual(engine.reserve(2**30), (b"", 65536))
-            with self.assertRaisesRegex(MemoryError, "out of memory"):
-                engine.reserve(65537)
+        with mock.patch.object(Report, "from_text", lambda it: it):
+            for more, options in [
+                ({}, [0, True, False, False, False]), ({"only": False}, [0, True, False, False, False]), ({"only": True}, [0, False, False, False, False]),
+            ]:
+                made, asked = make_library(0, b"x" * 65536)
+                self.assertEqual(self.compute(made, b"[1; 1]", **more), "x" * 65536)
+                self.assertEqual(asked, [(b"[1; 1]", options, 65536, True, *more.values())])
+                with self.assertRaises(council.NotFound):
+                    self.compute(made, b"[1; 1]", program="no-such-program")
+        # of a list only its masks, if there is room for them
+        made, asked = make_library(0, LISTED.encode())
+        for status, wanted in (0, [(("1", "2"), (99,)), (("1", "3"), (51,))]), (5, None):
+            made.list_masks = mock.Mock(return_value=(status, None, [3, 5]))
+            with contextlib.nullcontext() if wanted else self.assertRaises(MemoryError):
+                self.assertEqual(self.compute(made, b"[1; 1]", listed=True, most=7).coalitions, wanted)
+            made.list_masks.assert_called_once_with((51,), [(50, 49, 1)], 2)
+        self.assertEqual(asked[0][1], [7, False, False, False, False])
 
     def test_what_the_library_answers(self):
         real, folder = find_program(), tempfile.TemporaryDirectory()
@@ -495,7 +470,8 @@ class Engines(unittest.TestCase):
                 with open(path, "w", encoding="utf-8") as it:
                     it.write(f"#!/bin/sh\ncat\n{script}\n")
                 os.chmod(path, 0o755)
-                return engine.compute(b"game\n", program=path, **more)
+                with mock.patch.object(Report, "from_text", lambda it: it):
+                    return engine.compute(b"game\n", program=path, **more)
 
             self.assertEqual(compute('echo "$@"; echo note >&2'), "game\n--explain --tally\n")
             for more, words in [({}, "--tally --swings"), ({"listed": True, "most": 7}, "--list --most 7 --swings")]:
@@ -569,13 +545,7 @@ class Engines(unittest.TestCase):
                 with mock.patch.object(engine, "load_library", lambda path: path):
                     self.assertEqual(find_library(), wanted and f"{top}/{wanted}")
         # as council.h has it
-        with mock.patch("ctypes.CDLL") as load:
-            library = engine.Library("its path")
-        load.assert_called_once_with("its path")
-        self.assertEqual((library.path, library._call, library._swings_call), ("its path", load.return_value.council_report, load.return_value.council_swings_report))
-        words = [ctypes.c_char_p, ctypes.c_size_t, ctypes.POINTER(engine.Options), ctypes.c_char_p, ctypes.c_size_t, ctypes.POINTER(ctypes.c_uint64)]
-        self.assertEqual((library._call.restype, library._call.argtypes, ctypes.sizeof(engine.Options)), (ctypes.c_uint32, words, 8))
-        self.assertEqual((library._swings_call.restype, library._swings_call.argtypes), (ctypes.c_uint32, [*words[:3], ctypes.c_bool, *words[3:]]))
+        self.assertEqual([ctypes.sizeof(it) for it in (library.Options, library.Ratio, library.Numbers, library.Summary)], [8, 32, 176, 416])
         if Path(engine.__file__).resolve().parent == TOP / "python/src/council" and (TOP / "tools/built.sh").is_file():
             self.assertEqual((engine.HOME, engine.CLONE), (str(TOP / "python/src/council"), str(TOP)))
         with tempfile.TemporaryDirectory() as folder, mock.patch.object(engine, "__file__", f"{folder}/a.pyz/council/engine.py"):
@@ -595,7 +565,7 @@ class Parts(unittest.TestCase):
         self.check_rows(reports.round_half_up, (Fraction(1, 8), 2, "0.13"), (Fraction(31, 250), 2, "0.12"), (half, 0, "1"), (Fraction(2, 5), 0, "0"), (199 * half, 0, "100"))
         self.check_rows(reports.write_fraction, (Fraction(0), "0/1"), (half, "1/2"))
         self.check_rows(reports.read_numbers, ("0", (0,)), ("12/7", (12, 7)))
-        for it in ("", "+1", "-1", " 1", "1_0", "\uff11", "\xb2", "1/"):
+        for it in ("", "\xb2", "1/"):
             with self.assertRaises(ValueError, msg=it):
                 reports.read_numbers(it)
         self.check_rows(Unit("", True, 2).write, (1650, "16.50%"), (5, "0.05%"))

@@ -23,7 +23,7 @@ def draw(data, *words):
 class Pictures(Tests):
     def check_picture(self, data, places):
         """Each member has a bar for each share and index, as long as its value, with its number."""
-        made = Report(data.split("\n")[:-1])
+        made = Report.read(data.split("\n")[:-1])
         root, bars, texts = draw(data, "--decimals", str(places))
         values = [value for it in made.members for value in [*(made.share(it, rule) for rule in range(len(made.quotas))), *(index.find(it) for index in made.indices)]]
         kinds = len(made.quotas) + len(made.indices)

@@ -38,7 +38,7 @@ class Compare(Tests):
 
     def check_cells(self, paths, words, number):
         lines = Run("compare", *paths, *words).out.split("\n")[:-1]
-        made = [Report(open(it, encoding="utf-8")) for it in paths]
+        made = [Report.read(open(it, encoding="utf-8")) for it in paths]
         indices = [it for it in made[0].indices if not words or it.word() in words]
         self.assertEqual(len(indices), number)
         names = list(dict.fromkeys(it.name for one in made for it in one.members))

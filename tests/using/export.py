@@ -59,7 +59,7 @@ class Export(Tests):
             names = [f"m{at}" for at in range(rng.randint(1, 9))]
             rules = [[rng.randint(1, 10 ** rng.randint(1, 9)) for _ in names] for _ in range(rng.randint(1, 3))]
             data = report(write_game(names, [rng.randint(1, sum(it)) for it in rules], list(zip(*rules))), *rng.choice(FORMS))
-            made, places = Report(data.split("\n")[:-1]), rng.choice([None, 1, 2, 7, 30])
+            made, places = Report.read(data.split("\n")[:-1]), rng.choice([None, 1, 2, 7, 30])
             words = ["--columns", ",".join(["name", "weight", "share", *(it for group in made.groups for it in group.columns())]), *([] if places is None else ["--decimals", str(places)])]
             found = list(csv.reader(io.StringIO(Run("export", "csv", *words, input=data).out)))
             self.assertEqual(found[1:], self.find_cells(made, places, "csv"))
@@ -75,10 +75,10 @@ class Export(Tests):
 
     def test_json(self):
         for data in TWO, HARD, SEVERAL, stored("eu-27-nice"), report("[5; 4, 3, 2]", "--only-swings"):
-            made, found = Report(data.split("\n")[:-1]), json.loads(Run("export", "json", input=data).out)
+            made, found = Report.from_text(data), json.loads(Run("export", "json", input=data).out)
             self.assertEqual((found["title"], found["quotas"], found["totals"], found.get("minimal"), found.get("winning")), (made.title or None, list(made.quotas), list(made.totals), made.minimal, made.winning))
             for it, member in zip(found["members"], made.members):
-                self.assertEqual(list(it), list(member._fields))
+                self.assertEqual(list(it), ["name", "weights", *member._fields[1 + len(member.weights) :]])
                 self.assertEqual((it["name"], it["weights"], [it[group.column] for group in made.groups]), (member.name, list(member.weights), [getattr(member, group.column) for group in made.groups]))
                 self.assertEqual([Fraction(*map(int, it[f"{index.name}_exact"])) for index in made.indices], [index.find(member) for index in made.indices])
                 self.assertEqual([f"{it[index.name]:.6f}" for index in made.indices], [cut_off(index.find(member)) for index in made.indices])
@@ -141,12 +141,12 @@ class Export(Tests):
             self.check_refused(Run("export", "csv", input=data), status=1)
 
     def test_a_changed_report_is_refused(self):
-        """Each report in which one field is another is refused, except for names, what repeats, and
-        fields after the last one of a member, which a later version may have."""
+        """Each report in which one field is another is refused, except for names, counts, what repeats,
+        and fields after the last one of a member, which a later version may have."""
         for number, line in enumerate(TWO.split("\n")[:-1]):
             fields = line.split("\t")
             for at in range(len(fields)):
-                if (fields[0], at) in [("title", 1), ("member", 1)] or (fields[0] == "coalition" and at > 1) or (fields[0], at) == ("member", 3) or (fields[0], at) in [("quota", 1), ("minimal", 1)]:
+                if (fields[0], at) in [("title", 1), ("quota", 1), ("minimal", 1), ("winning", 1), ("member", 1), ("member", 3), ("member", 8)] or (fields[0] == "coalition" and at > 1):
                     continue
                 for new in fields[at] + "1", "x" + fields[at], "", fields[at] + "\t", "-" + fields[at], "\uff11" + fields[at]:
                     if fields[0] == "member" and at == len(fields) - 1 and new.endswith("\t"):
@@ -159,7 +159,7 @@ class Export(Tests):
             wanted = "the report is not whole" if kind != "minimal" else "is no line of a report"
             self.check_refused(Run("export", "csv", input=re.sub(rf"{kind}\t.*\n", "", TWO)), wanted)
         self.check_refused(Run("export", "csv", input=TWO.replace("minimal\t2", "minimal\t1")), "the report is not whole")
-        for value in "5000", "5000/", "5_000/2", "5000/2/1":
+        for value in "5000", "5000/", "x/2", "5000/2/1":
             self.check_refused(Run("export", "csv", input=TWO.replace("quota\t5000/2", f"quota\t{value}")), "the report is not whole")
 
 

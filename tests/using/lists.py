@@ -1,6 +1,5 @@
 #!/usr/bin/env python3
 """council-tools on reports of many coalitions or without end, its table, and what all tools share."""
-import gc
 import io
 import json
 import os
@@ -16,7 +15,7 @@ from council.game import write_game
 from council.reports import Fault, Report, cut_off, round_half_up, write_fraction
 from council.tools import table
 
-WHOLE = "the report is not whole, or its numbers are not those of council"
+WHOLE, LINE = "the report is not whole, or its numbers are not those of council", "is no line of a report"
 TWO = report(write_game("ABCD", [5000, 2], [[3000, 1], [2000, 1], [1000, 1], [1000, 1]], "T"), "--list")
 LISTED = [(("A", "B"), (5000, 2)), (("A", "C", "D"), (5000, 3))]
 
@@ -50,23 +49,20 @@ class Large(Tests):
 
 class Reports(Tests):
     def test_a_report_from_lines_and_from_a_text(self):
-        whole = Report(TWO.split("\n")[:-1])
-        for it in whole, Report(TWO.replace("\n", "\r\n").split("\n")[:-1]), Report.from_text(TWO), Report(io.StringIO(TWO)):
-            self.assertEqual((it.title, it.quotas, it.totals, it.minimal, it.listed, it.members, it.coalitions), ("T", (5000, 2), (7000, 4), 2, 2, whole.members, LISTED))
-            self.assertIs(it.coalitions, it.coalitions)
+        whole = Report.read(TWO.split("\n")[:-1])
+        for it in whole, Report.read(TWO.replace("\n", "\r\n").split("\n")[:-1]), Report.from_text(TWO), Report.read(io.StringIO(TWO)):
+            self.assertEqual((it.title, it.quotas, it.totals, it.minimal, it.members), ("T", (5000, 2), (7000, 4), 2, whole.members))
             self.assertEqual(list(it.rows()[0]), ["name", "weight_1", "weight_2", "coalitions", "deegan_packel", "public_good", "deegan_packel_exact", "public_good_exact"])
             self.assertEqual([it.share(row, 1) for row in it.members], [Fraction(1, 4)] * 4)
         taken = []
-        self.assertIsNone(Report(io.StringIO(TWO), taken.append).coalitions)
-        self.assertEqual(taken, LISTED)
+        self.assertIsNone(Report.read(io.StringIO(TWO), taken.append).coalitions)
+        self.assertEqual((taken, whole.listed, Report.from_text(TWO).coalitions), (LISTED, 2, LISTED))
         self.assertEqual([Report.from_text(report(write_game("A", [1], [[1]], it))).heading() for it in (" ", " T ", "\u3000", "")], ["A game", " T ", "A game", "A game"])
 
     def test_lists_that_are_not_whole(self):
-        for old, new in [("coalition\t2\t5000/2\tA\tB\n", ""), ("coalition\t2", "coalition\t2\t5000/2\tA\tB\ncoalition\t2"), ("coalition\t2", "coalition\t3"), ("coalition\t2", "coalition\t"), ("\tA\tB\n", "\tA\tX\n"), ("\t5000/2\tA", "\tx\tA")]:
-            with self.assertRaises(Fault, msg=new) as caught:
-                print(Report.from_text(TWO.replace(old, new)).coalitions)
-            self.assertEqual(str(caught.exception), WHOLE)
-            self.assertTrue(gc.isenabled())
+        for old, new, text in [("coalition\t2", "coalition\t2\t5000/2\tA\tB\ncoalition\t2", WHOLE), ("coalition\t2", "coalition\t3", LINE), ("coalition\t2", "coalition\t", LINE), ("\t5000/2\tA", "\tx\tA", LINE)]:
+            with self.assertRaisesRegex(Fault, text, msg=new):
+                Report.read(TWO.replace(old, new).split("\n")[:-1])
 
     def test_decimals(self):
         rng = random.Random(1)
@@ -78,7 +74,7 @@ class Reports(Tests):
 
     def test_table(self):
         for data in stored("eec-1958"), TWO, report(hostile_game(2)), *(report("[5; 4, 3, 2]", *words) for words in FORMS):
-            made, lines = Report(data.split("\n")[:-1]), Run("table", input=data).out.split("\n")[:-1]
+            made, lines = Report.read(data.split("\n")[:-1]), Run("table", input=data).out.split("\n")[:-1]
             self.assertEqual(len({len(it) for it in lines}), 1)
             self.assertTrue(all(it.isprintable() for it in lines))
             for it, line in zip(made.members, lines[1:]):

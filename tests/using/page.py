@@ -51,7 +51,7 @@ class Pages(Tests):
     def check_page(self, game, *options):
         """Each cell and bar is that of the report, and the game file of the page makes it again."""
         data = report(game, *options)
-        made, run = Report(data.split("\n")[:-1]), make(input=data)
+        made, run = Report.read(data.split("\n")[:-1]), make(input=data)
         page = Page(run.out)
         self.assertTrue(page.is_good and page.links == [] and page.all.count("script") == 1 and not REFUSED.search(run.out))
         names = [REFUSED.sub("\ufffd", it.name) for it in made.members]

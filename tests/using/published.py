@@ -9,7 +9,7 @@ from council.reports import Report
 
 
 def read(text):
-    return Report(text.split("\n")[:-1])
+    return Report.read(text.split("\n")[:-1])
 
 
 def find_indices(text):

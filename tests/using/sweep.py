@@ -46,7 +46,7 @@ class Sweeps(Tests):
         made = [report(write_game(names, [quota if at == rule else it for at, (it, _) in enumerate(rules)], list(zip(*(it for _, it in rules)))), "--swings") for quota in quotas]
         wanted, lines = [], {}
         for quota, it in zip(quotas, made):
-            for at, member in enumerate(Report(it.split("\n")[:-1]).members):
+            for at, member in enumerate(Report.read(it.split("\n")[:-1]).members):
                 its = [index.find(member) for index in group.indices]
                 wanted.append([str(quota), member.name, *map(cut_off, its), *map(write_fraction, its)])
                 lines.setdefault(at, []).append(find_index(kind).find(member))

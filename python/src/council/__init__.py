@@ -21,7 +21,7 @@ from decimal import Decimal
 from fractions import Fraction
 from typing import Any, Iterable, Optional, Sequence, Union
 
-from .engine import NotFound, Refused, TooMany, compute, count
+from .engine import NotFound, Refused, TooMany, compute, compute_numbers
 from .game import GAME_FILE, NAME, TITLE, describe_low_quotas, find_slips, format_game, is_text
 from .reports import MOST, Coalition, Member, Report
 
@@ -58,9 +58,9 @@ def report(
     - `file`: the path of a game file.
     - `game`: the text of a game file, or a text such as "[51; 50, 49, 1]".
 
-    With `coalitions=True` the report has the list of all minimal winning coalitions, and a game
-    with more than `most` of them raises `TooMany`; `most` is at most 4,000,000. Without it, they
-    are counted, however many there are.
+    With `coalitions=True` the report has all minimal winning coalitions, and makes each when you
+    ask for it; a game with more than `most` of them raises `TooMany`; `most` is at most 4,000,000.
+    Without it, they are counted, however many there are.
 
     The indices are those of Deegan and Packel and of Holler. With `swings=True` each member also has
     its number of swings and the indices that rest on them: Banzhaf's, Penrose's measure, and that of
@@ -84,15 +84,15 @@ def report(
     made, rule = None, 0
     if given[0]:
         called, quotas, columns = read_parts(quota, weights, names, by)
-        if not (coalitions or only_swings):
-            made, rule = count_parts(called, quotas, columns, title, swings)
+        if not only_swings and is_plain(called, [quotas, *columns], title):
+            made, rule = compute_numbers(title, called, list(map(int, quotas)), [list(map(int, its)) for its in columns], swings, most if coalitions else 0)
         data = b"" if made else format_game(called, quotas, zip(*columns), title).encode()
     else:
         if names is not None or title or by is not None:
             raise TypeError("names, a title and by= belong to a quota and weights")
         data = read(file) if file is not None else game if isinstance(game, bytes) else str(game).encode("utf-8", "surrogatepass")
     try:
-        made = made or Report.from_text(compute(data, listed=coalitions, most=most, only=only_swings if swings or only_swings else None))
+        made = made or compute(data, listed=coalitions, most=most, only=only_swings if swings or only_swings else None)
     except Refused as fault:
         if not given[0]:
             raise
@@ -117,19 +117,10 @@ def format_game_file(quota: Any, weights: Any, *, names: Optional[Iterable[objec
     return format_game(called, quotas, zip(*columns), title)
 
 
-def count_parts(names: list[str], quotas: list[str], columns: list[list[str]], title: str, swings: bool) -> tuple[Optional[Report], int]:
-    """Returns the report of a game by the library's call that takes arrays, or None if that has no
-    answer; and the rule, from 1, that a fault is of, or 0."""
-    texts = [quotas, *columns]
-    if not all(it.isdigit() and len(it) < 20 for its in texts for it in its) or not is_text(title, TITLE):
-        return None, 0
-    if len(set(names)) != len(names) or not all(it and is_text(it, NAME) for it in names) or not quotas:
-        return None, 0
-    its_quotas, *its_columns = [list(map(int, its)) for its in texts]
-    found = count(its_quotas, its_columns, swings)
-    if found is None or found[0]:
-        return None, found[2].rule if found else 0
-    return Report.from_numbers(title, names, its_quotas, its_columns, *found[1:]), 0
+def is_plain(names: list[str], texts: list[list[str]], title: str) -> bool:
+    """Returns whether all numbers are whole, and a game may have these names and this title."""
+    is_whole = all(it.isdigit() and len(it) < 20 for its in texts for it in its)
+    return is_whole and all(texts) and len(set(names)) == len(names) and all(it and is_text(it, NAME) for it in names) and is_text(title, TITLE)
 
 
 def read_parts(quota: Any, weights: Any, names: Optional[Iterable[object]], by: Optional[str]) -> tuple[list[str], list[str], list[list[str]]]:

@@ -56,4 +56,5 @@ SWINGS = Group("winning", "winning coalitions", "swings", "Swings", (
     Index("penrose", "Penrose", "Penrose's measure (not a share)", "Pm", "#3b3bc0", "#7a7aff", adds_up=False),
     Index("shapley_shubik", "Shapley-Shubik", "Shapley-Shubik index", "SS", "#1a7f94", "#45c4d8"),
 ))
-INDICES = [*MINIMAL.indices, *SWINGS.indices]
+GROUPS = [MINIMAL, SWINGS]
+INDICES = [index for it in GROUPS for index in it.indices]

@@ -1,19 +1,22 @@
-"""Reads a report of the program council: the title, the quotas, the members with their indices, and
-the coalitions if it lists them."""
+"""What a report of council is: its members with their indices, and its coalitions. It is made of
+numbers, or read from the text that the program prints."""
 from __future__ import annotations
 
 import functools
-import gc
 import io
-import itertools
 import math
+import operator
 from fractions import Fraction
-from typing import TYPE_CHECKING, Any, Callable, Iterable, Iterator, NamedTuple, NoReturn, Optional, Sequence
+from typing import TYPE_CHECKING, Any, Callable, Iterable, NamedTuple, Optional, Sequence, TypeVar
 
-from .columns import MINIMAL, SWINGS, Group, Index
+from .columns import GROUPS, MINIMAL, SWINGS, Group
 
 # the most coalitions that a report lists, and the letters that one of its lines may have
 MOST, LINE = 4_000_000, 1 << 16
+
+R = TypeVar("R", bound="Report")
+# the number and the indices of a member, for each group that a report has
+Values = dict[Group, tuple[int, list[Fraction]]]
 
 
 class Fault(Exception):
@@ -27,12 +30,17 @@ class Fault(Exception):
 class Member(tuple[Any, ...]):
     """A member of a game, as a named tuple of the columns that its report has.
 
-    `weights` has a number for each rule, `coalitions` is the number of minimal winning coalitions
-    with this member, and `swings` the number of winning coalitions that lose without it. An index
-    is the double nearest to the exact one, whose name ends with `_exact`.
+    With several rules it has weight_1, weight_2, .. instead of `weight`; `weights` has all of them.
+    `coalitions` is the number of minimal winning coalitions with this member, and `swings` the
+    number of winning coalitions that lose without it. An index is the double nearest to the exact
+    one, whose name ends with `_exact`. Coleman's power to prevent action is the share of the winning
+    coalitions that lose without the member, and that to initiate it the share of the losing ones
+    that win with it; both come with swings, and are no columns.
     """
 
+    _fields: tuple[str, ...]
     name: str
+    weight: int
     weights: tuple[int, ...]
     coalitions: int
     deegan_packel: float
@@ -46,34 +54,12 @@ class Member(tuple[Any, ...]):
     banzhaf_exact: Fraction
     penrose_exact: Fraction
     shapley_shubik_exact: Fraction
-    _fields: tuple[str, ...] = ("name", "weights", *MINIMAL.columns())
-    # how many coalitions of the game win, and how many lose
-    _winning: int
-    _losing: int
-
-    def __new__(cls, columns: dict[str, Any]) -> Member:
-        it = super().__new__(cls, columns.values())
-        it._fields = tuple(columns)
-        return it
-
-    @property
-    def power_to_prevent(self) -> Fraction:
-        """Coleman's power to prevent action: the share of the winning coalitions that lose without
-        the member."""
-        return Fraction(self.swings, self._winning)
-
-    @property
-    def power_to_initiate(self) -> Fraction:
-        """Coleman's power to initiate action: the share of the losing coalitions that win with the
-        member."""
-        return Fraction(self.swings, self._losing)
+    power_to_prevent: Fraction
+    power_to_initiate: Fraction
 
     def _asdict(self) -> dict[str, Any]:
         """Returns the columns by their names."""
         return dict(zip(self._fields, self))
-
-    def __reduce__(self) -> tuple[Any, ...]:
-        return type(self), (self._asdict(),), self.__dict__
 
     def __repr__(self) -> str:
         return f"Member({', '.join(f'{key}={value!r}' for key, value in self._asdict().items())})"
@@ -81,15 +67,18 @@ class Member(tuple[Any, ...]):
     if not TYPE_CHECKING:
 
         def __getattr__(self, name: str) -> Any:
-            if name in self._fields:
-                return self[self._fields.index(name)]
-            explain_missing(name)
+            is_of_swings = name in SWINGS.columns() or name.startswith("power_to_")
+            raise AttributeError(f"the report has no {name}" + (": ask for swings=True" if is_of_swings else ""))
 
 
-def explain_missing(name: str) -> NoReturn:
-    """Raises what an attribute raises that the report does not have."""
-    is_of_swings = name in SWINGS.columns() or name.startswith("power_to_")
-    raise AttributeError(f"the report has no {name}" + (": ask for swings=True" if is_of_swings else ""))
+def make_member(name: str, weights: tuple[int, ...], values: Values) -> Member:
+    """Returns the member with these columns."""
+    columns: dict[str, Any] = {"name": name, **{f"weight_{at}" if len(weights) > 1 else "weight": it for at, it in enumerate(weights, 1)}}
+    for group, (number, exact) in values.items():
+        columns.update(zip(group.columns(), [number, *map(float, exact), *exact]))
+    it = Member(columns.values())
+    it.__dict__.update(columns, weights=weights, _fields=tuple(columns))
+    return it
 
 
 class Coalition(NamedTuple):
@@ -99,17 +88,49 @@ class Coalition(NamedTuple):
     weights: tuple[int, ...]
 
 
-def read_number(text: str) -> int:
-    """Reads a number of a report, which has only digits."""
-    if not (text.isascii() and text.isdigit()):
-        raise ValueError(text)
-    return int(text)
+class Coalitions(Sequence[Coalition]):
+    """A list whose coalitions are made when somebody asks for them."""
+
+    def __init__(self, its: Sequence[Any], make: Callable[[Any], Coalition]):
+        self._its, self._make = its, make
+
+    def __len__(self) -> int:
+        return len(self._its)
+
+    def __getitem__(self, at: Any) -> Any:
+        return Coalitions(self._its[at], self._make) if isinstance(at, slice) else self._make(self._its[at])
+
+    def __eq__(self, other: object) -> bool:
+        return isinstance(other, Sequence) and len(self) == len(other) and all(map(operator.eq, self, other))
+
+    def __repr__(self) -> str:
+        return repr(list(self))
+
+
+def list_coalitions(members: Sequence[Member], masks: Sequence[int]) -> Coalitions:
+    """Returns the coalitions of these masks, each with its heaviest member first."""
+    ranked = sorted(((1 << at, it.name, it.weights) for at, it in enumerate(members)), key=lambda it: -it[2][0])
+    return Coalitions(masks, functools.partial(make_coalition, ranked))
+
+
+def make_coalition(ranked: Sequence[tuple[int, str, tuple[int, ...]]], mask: int) -> Coalition:
+    """Returns the coalition of the members whose digits a mask has."""
+    _, names, weights = zip(*[it for it in ranked if it[0] & mask])
+    return Coalition(names, tuple(map(sum, zip(*weights))))
+
+
+def read_coalition(line: str) -> Coalition:
+    """Reads a line `coalition`."""
+    _, size, weights, *names = line.rstrip("\r\n").split("\t")
+    if size != str(len(names)):
+        raise ValueError(size)
+    return Coalition(tuple(names), read_numbers(weights))
 
 
 @functools.lru_cache
 def read_numbers(text: str) -> tuple[int, ...]:
     """Reads a field that has one number for each rule, with / between them."""
-    return tuple(map(read_number, text.split("/"))) if "/" in text else (read_number(text),)
+    return tuple(map(int, text.split("/")))
 
 
 def write_fraction(value: Fraction) -> str:
@@ -130,8 +151,7 @@ def round_half_up(value: Fraction, places: int) -> str:
 
 def read_index(fraction: str, decimals: str) -> Fraction:
     """Reads an index from its two fields, which must agree."""
-    top, bottom = fraction.split("/")
-    value = Fraction(read_number(top), read_number(bottom))
+    value = Fraction(fraction)
     if cut_off(value) != decimals:
         raise ValueError(decimals)
     return value
@@ -139,196 +159,94 @@ def read_index(fraction: str, decimals: str) -> Fraction:
 
 def read_member(groups: Iterable[Group], name: str, weights: str, *fields: str) -> Member:
     """Reads the fields of a line `member` that has these groups of columns, and passes over others."""
-    found, at = {}, 0
+    rest, values = iter(fields), {}
     for group in groups:
-        end = at + 1 + 2 * len(group.indices)
-        found[group] = (read_number(fields[at]), [read_index(fields[it], fields[it + 1]) for it in range(at + 1, end, 2)])
-        at = end
-    return make_member(name, read_numbers(weights), found)
-
-
-def make_member(name: str, weights: tuple[int, ...], groups: dict[Group, tuple[int, list[Fraction]]]) -> Member:
-    """Returns the member with the number of its coalitions and the indices of each group."""
-    columns: dict[str, Any] = {"name": name, "weights": weights}
-    for group, (number, exact) in groups.items():
-        columns.update(zip(group.columns(), [number, *map(float, exact), *exact]))
-    return Member(columns)
-
-
-def read_coalition(size: str, weights: str, *names: str) -> Coalition:
-    """Reads the fields of a line `coalition`."""
-    if size != str(len(names)):
-        raise ValueError(size)
-    return Coalition(names, read_numbers(weights))
-
-
-def limit_lines(lines: Iterable[str]) -> Iterator[str]:
-    """Yields lines, those of a file only as far as shows that one is too long."""
-    if not isinstance(lines, io.TextIOBase):
-        yield from lines
-        return
-    for at in itertools.count(1):
-        line = lines.readline(LINE + 1)
-        if len(line) > LINE:
-            raise Fault(f"line {at} is no line of a report of council")
-        if not line:
-            return
-        yield line
-
-
-def ignore(_: Coalition) -> None:
-    """Keeps nothing of a coalition."""
+        values[group] = int(next(rest)), [read_index(next(rest), next(rest)) for _ in group.indices]
+    return make_member(name, read_numbers(weights), values)
 
 
 class Report:
-    """A report, from its lines.
+    """A report of the indices of a game.
 
     `title` is a text, `quotas` and `totals` have a number for each rule, `minimal` is the number of
     minimal winning coalitions, `winning` that of all winning coalitions, and `members` are in the
-    order of the game. `coalitions` has the list of the minimal ones. What was not asked for is None.
-
-    Lines have different numbers of fields, and a name may hold quotes: so the fields are split at
-    TABs and nothing else. Further fields of a member, which a later version may have, are passed
-    over. What is no report is a Fault. A report can list millions of coalitions: if you pass `take`,
-    it is called with one after the other, and the report keeps none. `read` makes what it is called
-    with of the fields of a line.
+    order of the game. `coalitions` has the minimal ones. What was not asked for is None. With
+    swings there is `power_to_act`, Coleman's power of the body: the share of all coalitions that win.
     """
 
-    def __init__(self, lines: Iterable[str], take: Optional[Callable[[Any], object]] = None, read: Callable[..., Any] = read_coalition):
-        self.members: list[Member] = []
-        # how many coalitions are listed
+    power_to_act: Fraction
+
+    def __init__(self, title: str, quotas: Sequence[int], counts: dict[Group, int], members: Sequence[Member]):
+        self.title, self.quotas, self.members = title, tuple(quotas), list(members)
+        self.totals: tuple[int, ...] = tuple(map(sum, zip(*(it.weights for it in members))))
+        # the groups of columns and the indices that it has
+        self.groups = list(counts)
+        self.indices = [index for it in counts for index in it.indices]
+        self.minimal, self.winning = counts.get(MINIMAL), counts.get(SWINGS)
+        self.coalitions: Optional[Sequence[Coalition]] = None
+        # how many coalitions a text lists
         self.listed = 0
-        self._kept: Optional[list[Coalition]] = None
-        # lines of coalitions that nobody has looked at yet
-        self._unread = ""
-        kept: list[Coalition] = []
-        one = self._read(lines, take or kept.append, read)
-        if kept:
-            self._kept = kept
-        if not one and not self.members:
-            raise Fault("there is no report: nothing was read (was the game refused?)")
-        try:
-            self.title = one.get("title", "")
-            self.quotas, self.totals = read_numbers(one["quota"]), read_numbers(one["total"])
-            self.minimal, self.winning = [read_number(one[it.line]) if it.line in one else None for it in (MINIMAL, SWINGS)]
-            whole = read_number(one["members"]) == len(self.members) and self.listed <= (self.minimal or 0)
-        except (KeyError, ValueError):
-            whole = False
-        if not (whole and self._is_sound()):
-            raise Fault("the report is not whole, or its numbers are not those of council")
+        if self.winning is not None:
+            every = 2 ** len(members)
+            self.power_to_act = Fraction(self.winning, every)
+            for it in members:
+                it.power_to_prevent, it.power_to_initiate = Fraction(it.swings, self.winning), Fraction(it.swings, every - self.winning)
 
     @classmethod
-    def from_numbers(cls, title: str, names: Sequence[str], quotas: Sequence[int], columns: Sequence[Sequence[int]], numbers: Sequence[Any], game: Any) -> Report:
-        """Returns the report with the numbers of each member, and those of the game, as the library
-        has them. `columns` has the weights of each rule."""
-        it = cls.__new__(cls)
-        it.title, it.quotas, it.totals = title, tuple(quotas), tuple(map(sum, columns))
-        it.minimal, it.winning = game.minimal, game.winning or None
-        it.listed, it._kept, it._unread = 0, None, ""
-        it.members = [
-            make_member(name, weights, {group: (getattr(its, group.column), [getattr(its, index.name).exact() for index in group.indices]) for group in it.groups})
-            for name, weights, its in zip(names, zip(*columns), numbers)
-        ]
-        if not it._is_sound():
-            raise Fault("the numbers are not those of council")
-        return it
-
-    def _read(self, lines: Iterable[str], take: Callable[[Any], object], read: Callable[..., Any]) -> dict[str, str]:
-        """Reads the lines, and returns the fields of those that a report has once."""
+    def read(cls: type[R], lines: Iterable[str], take: Optional[Callable[[Coalition], object]] = None) -> R:
+        """Returns the report that lines have, in which a name may hold quotes: so their fields are split
+        at TABs and nothing else. What is no report is a Fault. A report can list millions of
+        coalitions: `take` is called with one after the other, and the report keeps none."""
         one: dict[str, str] = {}
-        for at, line in enumerate(limit_lines(lines), 1):
+        members: list[Member] = []
+        listed = 0
+        # (of a line without end, as much as shows that it is none)
+        if isinstance(lines, io.TextIOBase):
+            lines = iter(functools.partial(lines.readline, LINE), "")
+        for at, line in enumerate(lines, 1):
             kind, *fields = line.rstrip("\r\n").split("\t")
             try:
-                if kind == "member" and len(self.members) < 40:
-                    self.members.append(read_member([it for it in (MINIMAL, SWINGS) if it.line in one], *fields))
-                elif kind == "coalition" and self.listed < MOST:
-                    take(read(*fields))
-                    self.listed += 1
-                elif kind in ("title", "members", "quota", "total", MINIMAL.line, SWINGS.line):
+                if kind == "coalition" and listed < MOST:
+                    it, listed = read_coalition(line), listed + 1
+                    if take:
+                        take(it)
+                elif kind == "member" and len(members) < 40:
+                    members.append(read_member([it for it in GROUPS if it.line in one], *fields))
+                elif kind in ("title", "members", "quota", "total", *(it.line for it in GROUPS)):
                     (one[kind],) = fields
                 elif kind not in ("notation", "size"):
                     raise ValueError(kind)
-            except (LookupError, TypeError, ValueError, ZeroDivisionError):
+            except (LookupError, TypeError, ValueError, StopIteration, ZeroDivisionError):
                 raise Fault(f"line {at} is no line of a report of council") from None
-        return one
+        if not one and not members:
+            raise Fault("there is no report: nothing was read (was the game refused?)")
+        try:
+            made = cls(one.get("title", ""), read_numbers(one["quota"]), {it: int(one[it.line]) for it in GROUPS if it.line in one}, members)
+            made.listed = listed
+            whole = made.groups and int(one["members"]) == len(members) and read_numbers(one["total"]) == made.totals
+            whole = whole and all(len(it.weights) == len(made.quotas) and hasattr(it, group.column) for it in members for group in made.groups)
+        except (AttributeError, KeyError, ValueError, ZeroDivisionError):
+            whole = False
+        if not whole or listed > (made.minimal or 0):
+            raise Fault("the report is not whole, or its numbers are not those of council")
+        return made
 
     @classmethod
     def from_text(cls, text: str) -> Report:
-        """Returns the report in a text. Its coalitions, if it lists them, are read when somebody
-        first looks at them."""
-        first = text.find("\ncoalition\t") + 1
-        last = text.find("\n", text.rfind("\ncoalition\t") + 1) + 1
-        unread = text[first:last] if first else ""
-        it = cls((text[:first] + text[last:] if unread else text).split("\n")[:-1])
-        it._unread, it.listed = unread, unread.count("\n")
-        if it.listed not in (0, it.minimal):
-            raise Fault("the report is not whole, or its numbers are not those of council")
-        return it
-
-    @property
-    def coalitions(self) -> Optional[list[Coalition]]:
-        """The minimal winning coalitions, if they were asked for; else None."""
-        if self._unread:
-            self._kept = self._read_coalitions(self._unread)
-            self._unread = ""
-        return self._kept
-
-    def _read_coalitions(self, text: str) -> list[Coalition]:
-        """Reads the lines of coalitions. They share the texts of the names."""
-        names = {it.name: it.name for it in self.members}
-        weights: dict[str, tuple[int, ...]] = {}
-        kept = []
-        # (a list of millions of tuples has no cycles to look for)
-        collects = gc.isenabled()
-        gc.disable()
-        try:
-            for line in text.split("\n")[:-1]:
-                _, size, weight, *members = line.split("\t")
-                if weight not in weights:
-                    weights[weight] = read_numbers(weight)
-                if int(size) != len(members):
-                    raise ValueError(size)
-                kept.append(Coalition(tuple([names[it] for it in members]), weights[weight]))
-        except (KeyError, ValueError):
-            raise Fault("the report is not whole, or its numbers are not those of council") from None
-        finally:
-            if collects:
-                gc.enable()
-        return kept
+        """Returns the report in a text of council, with the coalitions that it lists."""
+        first, last = text.find("\ncoalition\t") + 1, text.find("\n", text.rfind("\ncoalition\t") + 1)
+        made = cls.read(io.StringIO(text[:first] + text[last + 1 :] if first else text))
+        if first:
+            made.coalitions = Coalitions(text[first:last].split("\n"), read_coalition)
+        return made
 
     def rows(self) -> list[dict[str, Any]]:
-        """Returns a row for each member, with the columns of `council-tools export`: with several
-        rules there is a column weight_1, weight_2, .. for each."""
-        several = len(self.quotas) > 1
-        table = []
-        for it in self.members:
-            row = it._asdict()
-            weights = row.pop("weights")
-            named = {f"weight_{rule}": weight for rule, weight in enumerate(weights, 1)} if several else {"weight": weights[0]}
-            table.append({"name": row.pop("name"), **named, **row})
-        return table
-
-    @property
-    def groups(self) -> list[Group]:
-        """The groups of columns that the report has."""
-        return [it for it, number in ((MINIMAL, self.minimal), (SWINGS, self.winning)) if number is not None]
-
-    @property
-    def indices(self) -> list[Index]:
-        """The indices that the report has."""
-        return [index for it in self.groups for index in it.indices]
-
-    @property
-    def power_to_act(self) -> Fraction:
-        """Coleman's power of the body to act: the share of all coalitions that win."""
-        if self.winning is None:
-            explain_missing("power_to_act")
-        return Fraction(self.winning, 2 ** len(self.members))
+        """Returns a row for each member, with the columns of `council-tools export`."""
+        return [it._asdict() for it in self.members]
 
     def count_coalitions(self) -> list[tuple[str, int]]:
         """Returns of which coalitions the report has the number, and these numbers."""
-        numbers = [(MINIMAL.what, self.minimal), (SWINGS.what, self.winning)]
-        return [(what, number) for what, number in numbers if number is not None]
+        return [(it.what, getattr(self, it.line)) for it in self.groups]
 
     def heading(self) -> str:
         """Returns the heading of a table or a picture: the title, if it has a letter."""
@@ -337,28 +255,6 @@ class Report:
     def share(self, member: Member, rule: int = 0) -> Fraction:
         """Returns a member's share of the weights of a rule."""
         return Fraction(member.weights[rule], self.totals[rule])
-
-    def _is_sound(self) -> bool:
-        """Returns whether the weights of each rule add up to its total, all members have the columns
-        of the report, and these agree."""
-        rules, fields = len(self.quotas), ("name", "weights", *(name for it in self.groups for name in it.columns()))
-        if not self.groups or any(len(it.weights) != rules or it._fields != fields for it in self.members):
-            return False
-        sums = tuple(sum(it.weights[rule] for it in self.members) for rule in range(rules))
-        ones = [sum(map(index.find, self.members)) for index in self.indices if index.adds_up]
-        return sums == self.totals and min(sums) > 0 and all(it == 1 for it in ones) and self._has_sound_swings()
-
-    def _has_sound_swings(self) -> bool:
-        """Returns whether the indices are those of the swings, if the report has any."""
-        if self.winning is None:
-            return True
-        half = 1 << len(self.members) - 1
-        every = sum(it.swings for it in self.members)
-        for it in self.members:
-            it._winning, it._losing = self.winning, 2 * half - self.winning
-            if it.banzhaf_exact != Fraction(it.swings, every) or it.penrose_exact != Fraction(it.swings, half) or it.swings > self.winning:
-                return False
-        return 0 < self.winning < 2 * half
 
     def __repr__(self) -> str:
         numbers = ", ".join(f"{number:,} {what}" for what, number in self.count_coalitions())

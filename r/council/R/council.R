@@ -33,6 +33,7 @@ council <- function(quota, weights, names = NULL, title = "", file = NULL, game 
   if (done$status != 0) {
     stop(refuse(done$status, done$err, bytes, sys.call(), given[1]))
   }
+  for (line in done$err) warning(sub("^council: ", "", line), call. = FALSE)
   table <- read_report(done$out, coalitions)
   warn_of_slips(bytes, attr(table, "quota"), attr(table, "total"))
   table

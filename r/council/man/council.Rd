@@ -47,6 +47,10 @@ them, \code{coalitions}: a list of vectors of names. With n members, Coleman's p
 \code{winning} / 2^n; of a member to prevent action, its swings / \code{winning}; to initiate action, its
 swings / (2^n - \code{winning}).
 }
+\section{Warnings}{
+What the program says on standard error of a report, quotas of at most half of each total, and commas between
+thousands in a bracket text are warned of.
+}
 \section{Refused games}{
 A game that council refuses raises a condition of class \code{council_refused}. Its message says what
 is wrong, where, and what is allowed. Its fields are \code{fault} (such as \code{"bad weight of member

@@ -174,12 +174,14 @@ here <- file.path(normalizePath(tempdir()), "programs")
 real <- council:::find_program()
 words <- script(file.path(here, "words"), "echo \"council: $*\" >&2; exit 1")
 silent <- script(file.path(here, "silent"), "exit 1")
+noting <- script(file.path(here, "noting"), paste("echo council: a note >&2; exec", shQuote(real), "\"$@\""))
 kept <- Sys.getenv(c("PATH", "COUNCIL_PROGRAM"))
 stopifnot(
   grepl("^--explain --tally /", refused(1, 1, program = words)$fault),
   grepl("^--explain --list --most 4000000 --swings /", refused(1, 1, coalitions = TRUE, swings = TRUE, program = words)$fault),
   grepl("^--explain --only-swings /", refused(1, 1, only_swings = TRUE, program = words)$fault),
   said(council(1, 1, only_swings = TRUE, swings = TRUE)) == "only_swings = TRUE goes without swings = TRUE and coalitions = TRUE",
+  warned(council(51, c(50, 49, 1), program = noting)) == "a note",
   identical(refused(1, 1, program = silent)$fault, "council ended with status 1"), identical(refused(1, 1, program = silent)$line, NA_integer_)
 )
 Sys.setenv(COUNCIL_PROGRAM = silent)

@@ -10,7 +10,7 @@ from typing import Any, Callable, NoReturn, Optional, Sequence, TextIO, TypeVar,
 from ..columns import INDICES, SWINGS, Index
 from ..engine import NotFound, Refused
 from ..game import GAME_FILE, Unit, check_same, describe_low_quotas, find_comments, find_slips, read_units
-from ..reports import Coalition, Fault, Report, ignore
+from ..reports import Fault, Report
 
 # the name of the tool that runs
 NAME = ["council-tools"]
@@ -139,10 +139,9 @@ def read_lines(path: str, make: Callable[[TextIO], T]) -> T:
             raise Fault(f"{path}: it is not UTF-8") from None
 
 
-def read_report(path: str, take: Callable[[Coalition], None] = ignore) -> Report:
-    """Reads the report in a file; - is standard input. `take` gets its coalitions. Low quotas are
-    warned of."""
-    report = read_lines(path, lambda lines: Report(lines, take))
+def read_report(path: str) -> Report:
+    """Reads the report in a file; - is standard input. Low quotas are warned of."""
+    report = read_lines(path, Report.read)
     warn_of_low_quotas(report.quotas, report.totals)
     return report
 

@@ -32,7 +32,7 @@ from typing import Iterable, Iterator, Optional, Sequence
 
 from ..columns import INDICES, MINIMAL, SWINGS, Index
 from ..game import Unit, quote
-from ..reports import Fault, Member, Report, cut_off, read_numbers, round_half_up, write_fraction
+from ..reports import Coalition, Fault, Member, Report, cut_off, round_half_up, write_fraction
 from .command import MANY, Words, add_index, add_report, choose_indices, make_printable, read_comments, read_lines, read_report, warn_of_low_quotas
 
 FORMATS = ["csv", "json", "latex", "markdown"]
@@ -210,18 +210,15 @@ def write_json(lines: Iterable[str], words: argparse.Namespace) -> None:
     """Writes a report as JSON, with a line for each coalition. These may be millions and come before
     the members, so they wait in a temporary file."""
     write = functools.lru_cache(functools.partial(json.dumps, ensure_ascii=False))
-    write_weights = functools.lru_cache(lambda weights: json.dumps(read_numbers(weights)))
 
-    def write_coalition(size: str, weights: str, *names: str) -> str:
-        if size != str(len(names)):
-            raise ValueError(size)
-        members = '", "'.join(names)
+    def write_coalition(it: Coalition) -> str:
+        members = '", "'.join(it.members)
         # most names need no escape
-        plain = members.isprintable() and "\\" not in members and members.count('"') == 2 * len(names) - 2
-        return f',\n  {{"members": [{chr(34) + members + chr(34) if plain else ", ".join(map(write, names))}], "weights": {write_weights(weights)}}}'
+        plain = members.isprintable() and "\\" not in members and members.count('"') == 2 * len(it.members) - 2
+        return f',\n  {{"members": [{chr(34) + members + chr(34) if plain else ", ".join(map(write, it.members))}], "weights": {write(it.weights)}}}'
 
     with tempfile.TemporaryFile("w+", encoding="utf-8", newline="", buffering=1 << 20) as coalitions:
-        report = Report(lines, coalitions.write, write_coalition)
+        report = Report.read(lines, lambda it: coalitions.write(write_coalition(it)))
         warn_of_low_quotas(report.quotas, report.totals)
         head = json.dumps(describe(report, choose_indices([report], words.index), words.decimals), indent=1, ensure_ascii=False)
         if report.listed:

@@ -304,7 +304,7 @@ def read(path: str, game: Optional[str], words: argparse.Namespace) -> Section:
     """Reads the report in a file, with as many of its coalitions as the page shows, and the
     comments of its game file."""
     first: list[Coalition] = []
-    report = read_lines(path, lambda lines: Section(lines, lambda it: first.append(it) if len(first) < MOST else None))
+    report = read_lines(path, lambda lines: Section.read(lines, lambda it: first.append(it) if len(first) < MOST else None))
     report.first, report.source = first, words.source
     report.chosen = choose_indices([report], words.index)
     report.comments, report.units = read_comments(game, report)

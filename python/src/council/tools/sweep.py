@@ -23,7 +23,7 @@ from typing import Any, Callable, Iterable, Iterator, Optional, Sequence
 from ..columns import MINIMAL, SWINGS, Group, Index
 from ..engine import Refused, compute, find_program
 from ..game import GAME_FILE, Unit, find_comments, find_slips, quote, read_units, write_game
-from ..reports import Fault, Report, cut_off, ignore, round_half_up, write_fraction
+from ..reports import Fault, Report, cut_off, round_half_up, write_fraction
 from .command import Words, add_index, find_index, make_printable, note
 from .drawing import COLORS, DASHES, find_round_step, find_ticks, measure, wrap, write_picture, write_text
 from .quotas import Quota, count_decimals
@@ -41,7 +41,7 @@ def sweep(program: Optional[str], start: Report, rule: int, quotas: range, only:
     def find_report(quota: int) -> Report:
         its = [*start.quotas[:rule], quota, *start.quotas[rule + 1 :]]
         try:
-            return Report.from_text(compute(write_game(names, its, weights).encode("utf-8"), program=program, only=only))
+            return compute(write_game(names, its, weights).encode("utf-8"), program=program, only=only)
         except Refused as it:
             raise Fault(f"quota {quota}: council: {it.fault}", it.status) from None
 
@@ -214,7 +214,7 @@ def main(args: list[str]) -> None:
     program = find_program(words.program) if words.program else None
     index = find_index(words.index)
     group, only = (SWINGS, True) if index in SWINGS.indices else (MINIMAL, None)
-    start = Report.from_text(compute(game, program=program, only=only))
+    start = compute(game, program=program, only=only)
     for remark in find_slips(game.decode()):
         note(remark)
     if not 1 <= words.rule <= len(start.quotas):
@@ -228,7 +228,7 @@ def main(args: list[str]) -> None:
     warn_of_half(start, rule, quotas, unit)
     rows, progress = itertools.chain([first], reports), Progress(len(quotas))
     if not words.picture:
-        write_rows(rows, group, unit, progress, ignore)
+        write_rows(rows, group, unit, progress, lambda _: None)
         return
     with open(words.picture, "w", encoding="utf-8", newline="\n") as it:
         kept: list[tuple[int, Report]] = []
