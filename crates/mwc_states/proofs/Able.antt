@@ -1,9 +1,8 @@
 -- Members that a minimal set may have.
-use Rattle.std.proofs.lemmas.Grind.{common_steps}
-use Rattle.mwc_states.proofs.Imports.{list_all, and_parts, both_ways, not-true, nat_tests, list_all-map, get_or-range_with_len, sum_by-cons}
-use Rattle.mwc_states.proofs.Imports.{◌≡◌, ◌∙◌, ℕ, ◌+◌, ◌≤◌, Bool, true, false, not, cond, List, [], ◌∷◌, get_or, sym, arith, zero-add}
-use Rattle.mwc_states.proofs.Imports.{MOST, min, weigh, meets, without_one, needs_each, fits, weigh_able, false_from_ne_true}
-use Rattle.std.proofs.lemmas.{Bool.cond-true, Bool.cond_both, Bool.true_from_ne_false, List.Folds.list_any_at}
+use Rattle.std.proofs.{Common.take_all, lemmas.Bool.cond-true, lemmas.Bool.true_from_ne_false, lemmas.List.Folds.list_any_at}
+use Rattle.mwc_states.proofs.Imports.{common_steps, list_all, and_parts, both_ways, not-true, nat_tests, list_all-map, false_from_ne_true}
+use Rattle.mwc_states.proofs.Imports.{get_or-range_with_len, sum_by-cons, ◌≡◌, ◌∙◌, ℕ, ◌+◌, ◌≤◌, Bool, true, false, not, List, [], ◌∷◌}
+use Rattle.mwc_states.proofs.Imports.{get_or, sym, arith, zero-add, MOST, min, weigh, meets, without_one, needs_each, fits, weigh_able}
 use Rattle.mwc_states.specs.Inner.Later.{is_able}
 use Rattle.mwc_states.proofs.Meeting.{Reaches, reach, reached}
 
@@ -13,9 +12,6 @@ spared : (need row member : List ℕ) (others : ℕ → ℕ) → is_able need ro
 unfolding is_able
 spared need row member others not_able meets_need meets_row r lt =
     grind (arith, get_or-range_with_len, zero-add, false_from_ne_true, both_ways, list_any_at, nat_tests)
-
-pub able-le : (need row : List ℕ) (r : ℕ) (member : List ℕ) → cond (is_able need row member) (get_or member r 0) 0 ≤ get_or member r 0
-able-le need row r member = cond_both (is_able need row member) (get_or member r 0) 0 (λ (n : ℕ). n ≤ get_or member r 0) (λ e. omega arith) (λ e. omega arith)
 
 within-able : (need row : List ℕ) (members : List (List ℕ)) (set : List Bool) (others : ℕ → ℕ)
     → list_all (λ less. not (meets (λ r. others r + weigh members less r) need)) (without_one set) ≡ true
@@ -50,3 +46,5 @@ missed need row able members set is small not_met fitting =
     ((λ i. list_all (λ less. not (meets (λ r. zero-add (weigh members less r) i) need)) (without_one set)) ∙ parts.1)
     (λ k below. omega (arith, reach _ need parts.0 k below)) (λ k below. omega (arith, reach _ row e k below)) r in
     omega (arith, within, is r, small r, reach _ row e r lt))))
+
+pub ruleset able = (nat_tests, missed, min, weigh_able, take_all, not-true)

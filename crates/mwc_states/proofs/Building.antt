@@ -1,13 +1,18 @@
 -- Levels of the graph: what the states of a table leave, and the graph, one level after the other.
+use Rattle.mwc_states.proofs.Imports.{arith, nat_tests, inl, inr, length-append, cases_lt, get_or_append_left, get_or_push, What, completes}
 use Rattle.mwc_states.proofs.Imports.{zero, suc, ◌^◌, ◌≤◌, refl, drop, drop-cons, length-drop, Minimal, Winning, accepts, rows_at, link_at}
-use Rattle.mwc_states.proofs.Imports.{arith, inl, inr, length-append, cases_lt, get_or_append_left, get_or_push, What, completes, IsLevel}
-use Rattle.mwc_states.proofs.Imports.{◌≡◌, ◌∙◌, ℕ, ◌*◌, ◌+◌, ◌<◌, Bool, true, false, cond, List, [], ◌∷◌, ◌++◌, length, get_or, sym, ap}
-use Rattle.mwc_states.proofs.Imports.{IsBuilding, IsGraphOf, meets, without_one, weigh, AreDecided, Leads}
+use Rattle.mwc_states.proofs.Imports.{IsLevel, ◌≡◌, ◌∙◌, ℕ, ◌*◌, ◌+◌, ◌<◌, Bool, true, false, cond, List, [], ◌∷◌, ◌++◌, length, get_or}
+use Rattle.mwc_states.proofs.Imports.{sym, ap, IsBuilding, IsGraphOf, meets, without_one, weigh, AreDecided, Leads}
 use Rattle.mwc_states.specs.Inner.{Graphs.Continue, Tables.AreFound, Tables.IsLast}
 use Rattle.std.proofs.Common.{append_assoc, append-nil, add-one}
 
 abbrev Rows : Type 0
 Rows = List (List ℕ)
+
+-- the links of one state are among those of all
+small : (n k : ℕ) (taken : Bool) → k < n → 2 * k + cond taken 1 0 < 2 * n
+small n k true lt = omega arith
+small n k false lt = omega arith
 
 module _ (what : What) (member : List ℕ) (later : Rows) (table : List Rows) where
   -- one state more
@@ -15,29 +20,9 @@ module _ (what : What) (member : List ℕ) (later : Rows) (table : List Rows) wh
       → Leads what later member false (get_or table i []) without → Leads what later member true (get_or table i []) with
       → AreDecided what member later table ((next ++ without ∷ []) ++ with ∷ []) (i + 1)
   decided-more next without with i are out in' = record {
-    long = omega (arith, are.long, long, length-append (next ++ without ∷ []) (with ∷ []));
-    each = λ k taken lt. elim (cases_lt k i) [
-      | inl less ↦ rw (before (2 * k + cond taken 1 0) (small k taken less)) (are.each k taken less)
-      | inr ge ↦ (let e : k ≡ i = omega arith in rw e (last taken))
-    ];
+    long = simp length-append (omega (arith, are.long));
+    each = λ k taken lt set. grind (arith, nat_tests, are.each k taken, out set, in' set, length-append, get_or_push, get_or_append_left, small i k taken);
   }
-    where
-      long : length (next ++ without ∷ []) ≡ 2 * i + 1
-      long = omega (arith, are.long, length-append next (without ∷ []))
-
-      small : (k : ℕ) (taken : Bool) → k < i → 2 * k + cond taken 1 0 < 2 * i
-      small k true lt = omega arith
-      small k false lt = omega arith
-
-      before : (j : ℕ) → j < 2 * i → get_or ((next ++ without ∷ []) ++ with ∷ []) j [] ≡ get_or next j []
-      before j lt = get_or_append_left (next ++ without ∷ []) (with ∷ []) [] j (omega (arith, long))
-          ∙ get_or_append_left next (without ∷ []) [] j (omega (arith, are.long))
-
-      last : (taken : Bool) → Leads what later member taken (get_or table i []) (get_or ((next ++ without ∷ []) ++ with ∷ []) (2 * i + cond taken 1 0) [])
-      last true = rw (get_or_push (next ++ without ∷ []) with [] (2 * i + 1) long) in'
-      last false =
-          let e : 2 * i + 0 ≡ 2 * i = omega arith in
-          rw (e, get_or_append_left (next ++ without ∷ []) (with ∷ []) [] (2 * i) (omega (arith, long)), get_or_push next without [] (2 * i) are.long) out
 
   pub level-found : (next sorted : List Rows) (links : List ℕ) → AreDecided what member later table next (length table) → AreFound next sorted links
       → IsLevel what member later table links sorted
@@ -45,12 +30,8 @@ module _ (what : What) (member : List ℕ) (later : Rows) (table : List Rows) wh
     long = found.long ∙ are.long;
     below = found.below;
     each = λ k taken lt set. are.each k taken lt set
-        ∙ ap (λ rows. completes what later rows set) (sym (found.here (2 * k + cond taken 1 0) (omega (arith, are.long, small k taken lt))));
+        ∙ ap (λ rows. completes what later rows set) (sym (found.here (2 * k + cond taken 1 0) (omega (arith, are.long, small (length table) k taken lt))));
   }
-    where
-      small : (k : ℕ) (taken : Bool) → k < length table → 2 * k + cond taken 1 0 < 2 * length table
-      small k true lt = omega arith
-      small k false lt = omega arith
 
 -- a level more in front of levels that go on from its table
 continues : (what : What) (member : List ℕ) (later : Rows) (table next : List Rows) (links : List ℕ) (rest : List (List ℕ)) → length table ≤ 2 ^ 26
@@ -99,20 +80,7 @@ at-end what later table end none = record {
 
 module _ (what : What) (members : Rows) (need : List ℕ) where
   pub built-none : (room : ℕ) → 1 ≤ length members → length members ≤ 40 → room ≤ 2 ^ 26 → IsBuilding what members need [] ((need ∷ []) ∷ []) 0 room
-  built-none room some few room_few = record {
-    room_few = room_few;
-    onward = λ rest on. record {
-      graph = record {
-        some = omega (arith, on.long);
-        few = omega (arith, on.long);
-        root = omega (arith, on.rows);
-        few_rows = on.few;
-        linked = on.linked;
-      };
-      long = on.long;
-      accepts_all = λ set long. on.accept 0 set (omega arith) long;
-    };
-  }
+  built-none room some few room_few = record { room_few = room_few; onward = λ rest on. grind (arith, on.accept) }
 
   pub built-more : (levels : List (List ℕ)) (table next : List Rows) (links : List ℕ) (i room less : ℕ) → i < length members
       → IsBuilding what members need levels table i room → IsLevel what (get_or members i []) (drop (i + 1) members) table links next
@@ -128,3 +96,5 @@ module _ (what : What) (members : Rows) (need : List ℕ) where
       → IsGraphOf what members need levels
   built-all levels table i room end last built =
       rw append-nil at (built.onward [] (at-end what _ table last (omega (arith, length-drop i members, end))))
+
+pub ruleset found = (nat_tests, level-found, length)

@@ -50,12 +50,7 @@ long-set n c = length-map-range_with_len (λ q. has n q c) 0 n
 set-less : (n c p : ℕ) → p < n → has n p c ≡ true → set (set_of n c) p false ≡ set_of n (without n p c)
 set-less n c p lt inside =
     fill_by_all (λ q. has n q (without n p c)) (set (set_of n c) p false) n false (length-set (set_of n c) p false ∙ long-set n c)
-    (λ q below. elim (cases_eq q p) [
-      | inl same ↦
-          ap (λ (k : ℕ). get_or (set (set_of n c) p false) k false) same
-          ∙ get_or-set_same (set_of n c) p false false (omega (arith, long-set n c, lt)) ∙ sym (ap (λ (k : ℕ). has n k (without n p c)) same ∙ has-gone n p c inside)
-      | inr other ↦ get_or-set_other (set_of n c) p q false false other ∙ set-at n c q below ∙ sym (has-kept n q p c below lt other inside)
-    ])
+    (λ q below. grind (arith, nat_tests, cases_eq q p, get_or-set_same, get_or-set_other, set-at n c q below, has-gone, has-kept, long-set n c))
 
 -- ---- who wins meets the quotas
 all-past : (t : ℕ → Bool) (k n : ℕ) → k ≤ n → ((i : ℕ) → k ≤ i → t i ≡ true) → list_all t (range_with_len 0 n) ≡ list_all t (range_with_len 0 k)
@@ -63,7 +58,8 @@ all-past t k n le past = same_test _ _
     (λ all. all-of t k (λ i lt. all-at t n i (omega arith) all))
     (λ all. all-of t n (λ i lt. elim (cases_lt i k) [ inl below ↦ all-at t k i below all | inr above ↦ past i above ]))
 
-module _ (v : Votes) (members : List (List ℕ)) (need : List ℕ) (game : IsVotes v) (rows : AreRowsOf v members need) where
+module _ (v : Votes) (members : List (List ℕ)) (need : List ℕ) (game : IsVotes v) (rows : AreRowsOf v.rules members v.members)
+    (quotas : (r : ℕ) → get_or need r 0 ≡ (rule_at v.rules r).quota) where
   abbrev n : ℕ
   n = v.members
 
@@ -71,9 +67,9 @@ module _ (v : Votes) (members : List (List ℕ)) (need : List ℕ) (game : IsVot
   unfolding wins meets
   wins-meets c =
       let t : ℕ → Bool = λ i. leb (get_or need i 0) (weigh members (set_of n c) i) in
-      let past : (i : ℕ) → length v.rules ≤ i → t i ≡ true = λ i le. grind (arith, nat_tests, rows.quotas i, get_or_past) in
+      let past : (i : ℕ) → length v.rules ≤ i → t i ≡ true = λ i le. grind (arith, nat_tests, quotas i, get_or_past) in
       let same : (i : ℕ) → i < length v.rules → t i ≡ leb (rule_at v.rules i).quota (weight (rule_at v.rules i).weights c) =
-      λ i lt. (λ k. leb (rows.quotas i k) (weigh-set members (rule_at v.rules i).weights i n c rows.long (rule-is v i game lt).full (λ p below. rows.weights p i below) k)) in
+      λ i lt. (λ k. leb (quotas i k) (weigh-set members (rule_at v.rules i).weights i n c rows.long (rule-is v i game lt).full (λ p below. rows.weights p i below) k)) in
       sym (all-past t (length v.rules) 4 game.few_rules past ∙ all-rules (λ r. leb r.quota (weight r.weights c)) t v.rules same)
 
   minimal-completes : (c : ℕ) → minimal v c ≡ completes Minimal members (need ∷ []) (set_of n c)

@@ -1,7 +1,7 @@
 -- Rows that are all missed, and what is left of a state once a member is decided.
-use Rattle.mwc_states.proofs.Imports.{arith, list_all, nat_tests, meets, misses_all, list_all-map, drop_more, What, Minimal, Winning, weigh}
-use Rattle.mwc_states.proofs.Imports.{◌≡◌, ◌∙◌, ℕ, Bool, true, not, ◌&&◌, List, [], ◌∷◌, ◌++◌, get_or, take, drop, filter, ap, sym, refl}
-use Rattle.mwc_states.proofs.Imports.{without_one, row_at, ◌+◌, ◌-◌, ◌<◌, false, cond, length, needs_each, completes, fits, Leads}
+use Rattle.mwc_states.proofs.Imports.{and_parts, ℕ, Bool, true, not, ◌&&◌, List, [], ◌∷◌, ◌++◌, get_or, take, drop, filter, ap, sym, refl}
+use Rattle.mwc_states.proofs.Imports.{without_one, arith, list_all, nat_tests, meets, misses_all, list_all-map, What, Minimal, Winning}
+use Rattle.mwc_states.proofs.Imports.{weigh, ◌≡◌, ◌∙◌, row_at, ◌+◌, ◌-◌, ◌<◌, false, cond, length, needs_each, completes, fits, Leads}
 use Rattle.mwc_states.specs.Inner.Later.{misses_left}
 use Rattle.std.specs.List.{list_any}
 use Rattle.std.proofs.{Common.take-append-drop, lemmas.List.Folds.list_all-append, lemmas.List.Folds.list_all_more}
@@ -64,33 +64,32 @@ unfolding completes
 none-completes members need misses set any = grind (arith, nat_tests, misses_all-implied (weigh members set) need misses any)
 
 -- ---- where a state leads
-module _ (members : List (List ℕ)) (member : List ℕ) (taken : Bool) (state : List (List ℕ)) (need : List ℕ) (some : 0 < length state)
-    (alike : Alike members member taken (row_at state 0) need) where
-  pub leads-open : (misses : List (List ℕ)) → ((set : List Bool) → fits members need set ≡ true
-      → misses_all (weigh members set) misses ≡ misses_left members member taken (row_at state 0) (drop 1 state) set)
-      → Leads Minimal members member taken state (need ∷ misses)
+module _ (members : List (List ℕ)) (member : List ℕ) (taken : Bool) (old need : List ℕ) (misses : List (List ℕ))
+    (alike : Alike members member taken old need) where
+  pub leads-open : (left : List (List ℕ)) → ((set : List Bool) → fits members need set ≡ true
+      → misses_all (weigh members set) left ≡ misses_left members member taken old misses set)
+      → Leads Minimal members member taken (old ∷ misses) (need ∷ left)
   unfolding completes
-  leads-open misses left set =
-      ap (λ rows. completes Minimal (member ∷ members) rows (taken ∷ set)) (drop_more state 0 [] some)
-      ∙ grind (arith, nat_tests, completes-left members member taken (row_at state 0) need (drop 1 state) set alike, left set)
+  leads-open left same set = grind (arith, nat_tests, completes-left members member taken old need misses set alike, same set)
 
-  pub leads-dead : (misses : List (List ℕ)) → Leads Minimal members member taken state (need ∷ misses)
-      → list_any (λ row. meets (λ r. get_or need r 0) row) misses ≡ true → Leads Minimal members member taken state []
+  pub leads-dead : (left : List (List ℕ)) → Leads Minimal members member taken (old ∷ misses) (need ∷ left)
+      → list_any (λ row. meets (λ r. get_or need r 0) row) left ≡ true → Leads Minimal members member taken (old ∷ misses) []
   unfolding completes
-  leads-dead misses leads any set = leads set ∙ none-completes members need misses set any
+  leads-dead left leads any set = leads set ∙ none-completes members need left set any
 
-  pub leads-winning : Leads Winning members member taken state (need ∷ [])
+  pub leads-winning : Leads Winning members member taken (old ∷ misses) (need ∷ [])
   unfolding completes
-  leads-winning set = ap (λ rows. completes Winning (member ∷ members) rows (taken ∷ set)) (drop_more state 0 [] some) ∙ sym (alike set)
+  leads-winning set = sym (alike set)
 
-  pub leads-unmet : (what : What) → ((set : List Bool) → meets (weigh members set) need ≡ false) → Leads what members member taken state []
+  pub leads-unmet : (what : What) → ((set : List Bool) → meets (weigh members set) need ≡ false)
+      → Leads what members member taken (old ∷ misses) []
   unfolding completes
-  leads-unmet Minimal unmet set =
-      ap (λ rows. completes Minimal (member ∷ members) rows (taken ∷ set)) (drop_more state 0 [] some) ∙ grind (arith, nat_tests, alike set, unmet set)
-  leads-unmet Winning unmet set =
-      ap (λ rows. completes Winning (member ∷ members) rows (taken ∷ set)) (drop_more state 0 [] some) ∙ grind (arith, nat_tests, alike set, unmet set)
+  leads-unmet Minimal unmet set = grind (arith, nat_tests, alike set, unmet set)
+  leads-unmet Winning unmet set = grind (arith, nat_tests, alike set, unmet set)
 
 pub no-state : (what : What) (members state : List (List ℕ)) (set : List Bool) → length state ≡ 0 → completes what members state set ≡ false
 unfolding completes
 no-state what members [] set none = cc
 no-state what members (row ∷ rows) set none = absurd (omega arith)
+
+pub ruleset missing = (nat_tests, misses_all-implied, misses-more, and_parts)

@@ -1,8 +1,7 @@
 -- Coalitions, which are numbers, as sets: how many of them pass a test, and what they weigh.
-use Rattle.std.proofs.lemmas.Grind.{common_steps}
-use Rattle.mwc_states.proofs.Imports.{get_or, map, filter, sum_by, refl, sym, ap, arith, nat_tests, sum_by-cons, size, down, weight, weigh}
-use Rattle.mwc_states.proofs.Imports.{◌≡◌, ◌∙◌, ℕ, zero, suc, ◌+◌, ◌^◌, ◌<◌, Bool, true, false, ◌&&◌, ◌==◌, cond, List, [], ◌∷◌, length}
-use Rattle.mwc_states.proofs.Imports.{count_sets, has}
+use Rattle.mwc_states.proofs.Imports.{common_steps, get_or, map, filter, sum_by, refl, sym, ap, arith, nat_tests, sum_by-cons, size, down}
+use Rattle.mwc_states.proofs.Imports.{weight, weigh, ◌≡◌, ◌∙◌, ℕ, zero, suc, ◌+◌, ◌^◌, ◌<◌, Bool, true, false, ◌&&◌, ◌==◌, cond, List, []}
+use Rattle.mwc_states.proofs.Imports.{◌∷◌, length, count_sets, has}
 use Rattle.std.specs.List.{range_with_len}
 use Rattle.std.proofs.lemmas.List.Sums.{length-filter}
 use Rattle.council_game.proofs.Shared.Sets.{double-pow, first-in, first-out, rest-in, rest-out, sum-down, sum-none}

@@ -54,3 +54,5 @@ weigh-within (member ∷ members) (false ∷ set) r = simp sum_by-cons (omega (a
 pub meets-total : (members : List (List ℕ)) (total row : List ℕ) (set : List Bool) → IsTotal members total → ((r : ℕ) → get_or row r 0 ≤ MOST)
     → meets (weigh members set) row ≡ true → meets (λ r. get_or total r 0) row ≡ true
 meets-total members total row set is small met = grind (arith, nat_tests, reached, weigh-within, reach)
+
+pub ruleset total = (nat_tests, meets-total)

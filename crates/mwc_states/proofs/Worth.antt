@@ -1,12 +1,13 @@
 -- How many sets pass a test, what choices are worth, and the sets of a graph that have a member.
-use Rattle.mwc_states.proofs.Imports.{drop-cons, drop_all, get_or_append_left, get_or_past, get_or_push, get_or-map, length-map, map-append}
-use Rattle.mwc_states.proofs.Imports.{accepts, link_at, lists, rows_at, count_at, worth, with_member, All, IsWithin, sum_by-cons, Choices}
+use Rattle.mwc_states.proofs.Imports.{drop-cons, get_or_append_left, get_or_past, get_or_push, get_or-map, length-map, map-append, accepts}
+use Rattle.mwc_states.proofs.Imports.{sum_by_more_le, arith, nat_tests, cases_lt, inl, inr, count_sets, ◌++◌, ◌&&◌, cond, leb, [], length}
 use Rattle.mwc_states.proofs.Imports.{◌≡◌, ◌∙◌, ℕ, zero, suc, ◌+◌, ◌-◌, ◌*◌, ◌^◌, ◌<◌, ◌≤◌, Bool, true, false, List, ◌∷◌, refl, sym, ap}
-use Rattle.mwc_states.proofs.Imports.{arith, nat_tests, cases_lt, inl, inr, count_sets, ◌++◌, ◌&&◌, cond, leb, [], length, drop, get_or}
+use Rattle.mwc_states.proofs.Imports.{link_at, lists, rows_at, count_at, worth, with_member, All, IsWithin, sum_by-cons, Choices, drop}
+use Rattle.mwc_states.proofs.Imports.{get_or}
+use Rattle.std.proofs.lemmas.List.{drop_all, get_or_default, Elements.All-cons, Elements.All-nil}
 use Rattle.mwc_states.specs.Inner.Counting.{later, over_choices, step, AreLeading, AreCompleting}
 use Rattle.std.proofs.Common.{◌⊎◌, ◌/◌, pow_mono, Vec, Global}
 use Rattle.mwc_states.specs.Inner.{Links.IsGraph, Sets.has}
-use Rattle.std.proofs.lemmas.List.{get_or_default, Elements.All-cons, Elements.All-nil}
 unfoldable use Rattle.mwc_states.specs.Inner.Sets.{count_sets}
 unfoldable use Rattle.mwc_states.specs.Inner.Links.{accepts}
 unfoldable use Rattle.mwc_states.specs.Inner.Counting.{over_choices}
@@ -27,22 +28,17 @@ sets-few (suc n) (suc s) test =
     let more : 2 ^ suc n ≡ 2 * 2 ^ n = omega arith in omega (arith, more, sets-few n (suc s) (λ set. test (false ∷ set)), sets-few n s (λ set. test (true ∷ set)))
 
 -- sets of one member more, that have it or not
-module _ (n a s : ℕ) (test : List Bool → Bool) where
-  pub sets-step : later a (count_sets (suc n) test) s ≡ later a (count_sets n (λ set. test (false ∷ set))) s + later (a + 1) (count_sets n (λ set. test (true ∷ set))) s
-  unfolding count_sets
-  sets-step = by-size (s - a) refl (cases_lt s a)
-    where
-      by-size : (d : ℕ) → s - a ≡ d → (s < a) ⊎ (a ≤ s) → later a (count_sets (suc n) test) s
-          ≡ later a (count_sets n (λ set. test (false ∷ set))) s + later (a + 1) (count_sets n (λ set. test (true ∷ set))) s
-      by-size d is (inl lt) = grind (arith, nat_tests)
-      by-size zero is (inr le) =
-          let one : count_sets (suc n) test (s - a) ≡ count_sets n (λ set. test (false ∷ set)) (s - a) =
-          ap (count_sets (suc n) test) is ∙ sym (ap (count_sets n (λ set. test (false ∷ set))) is) in grind (arith, nat_tests, one)
-      by-size (suc d) is (inr le) =
-          let less : s - (a + 1) ≡ d = omega arith in
-          let both : count_sets (suc n) test (s - a) ≡ count_sets n (λ set. test (false ∷ set)) (s - a) + count_sets n (λ set. test (true ∷ set)) (s - (a + 1)) =
-          ap (count_sets (suc n) test) is ∙ (λ i. count_sets n (λ set. test (false ∷ set)) (sym is i) + count_sets n (λ set. test (true ∷ set)) (sym less i)) in
-          grind (arith, nat_tests, both)
+sets-more : (n d : ℕ) (test : List Bool → Bool) → count_sets (suc n) test d
+    ≡ count_sets n (λ set. test (false ∷ set)) d + later 1 (count_sets n (λ set. test (true ∷ set))) d
+unfolding count_sets
+sets-more n zero test = omega arith
+sets-more n (suc d) test = grind (arith, nat_tests)
+
+pub sets-step : (n a s : ℕ) (test : List Bool → Bool) → later a (count_sets (suc n) test) s
+    ≡ later a (count_sets n (λ set. test (false ∷ set))) s + later (a + 1) (count_sets n (λ set. test (true ∷ set))) s
+sets-step n a s test =
+    let one : s - (a + 1) ≡ s - a - 1 = omega arith in
+    grind (arith, nat_tests, sets-more n (s - a) test, ap (count_sets n (λ set. test (true ∷ set))) one)
 
 -- ---- what choices are worth
 -- a value that is at most c
@@ -56,23 +52,17 @@ choices-few levels (suc i) c value few =
     rw more (omega (arith, rest))
 
 -- the choice of no member
-pub lead-root : (levels : List (List ℕ)) (choices : List Choices) → 1 ≤ rows_at levels 0 → choices ≡ record { size = 0; row = 0; count = 1 } ∷ [] → AreLeading levels 0 choices
+pub lead-root : (levels : List (List ℕ)) → 1 ≤ rows_at levels 0 → AreLeading levels 0 (record { size = 0; row = 0; count = 1 } ∷ [])
 unfolding over_choices
-lead-root levels choices root is = rw is (record {
+lead-root levels root = record {
   within = All-cons (IsWithin (rows_at levels 0) 0) (record { size = 0; row = 0; count = 1 }) [] (record { row = root; size = omega arith }) (All-nil (IsWithin (rows_at levels 0) 0));
   sums = λ value. omega (arith, sum_by-cons (λ (some : Choices). some.count * value some.row some.size) (record { size = 0; row = 0; count = 1 }) []);
-})
+}
 
 -- two values of each row
 pub worth-both : (choices : List Choices) (f g : ℕ → ℕ → ℕ) → worth choices (λ p a. f p a + g p a) ≡ worth choices f + worth choices g
 worth-both [] f g = omega arith
-worth-both (some ∷ rest) f g = omega (
-  arith,
-  worth-both rest f g,
-  sum_by-cons (λ some. some.count * (f some.row some.size + g some.row some.size)) some rest,
-  sum_by-cons (λ some. some.count * f some.row some.size) some rest,
-  sum_by-cons (λ some. some.count * g some.row some.size) some rest,
-)
+worth-both (some ∷ rest) f g = simp sum_by-cons (omega (arith, worth-both rest f g))
 
 -- no size more
 pub later-none : (f : ℕ → ℕ) (s : ℕ) → later 0 f s ≡ f s
@@ -223,24 +213,24 @@ module _ {levels : List (List ℕ)} {i : ℕ} {links : List ℕ} (graph : IsGrap
     later-none (count_at (lists sizes) (link_at links p 0)) s,
   )
 
-pub complete-last : (levels : List (Vec ℕ Global)) → AreCompleting (lists levels) (length levels) ((0 ∷ 1 ∷ []) ∷ [])
+last-counts : (k s : ℕ) → k < 2 → count_at ((0 ∷ 1 ∷ []) ∷ []) k s ≡ count_sets 0 (accepts [] k) s
 unfolding accepts count_sets
+last-counts zero zero lt = refl
+last-counts zero (suc s) lt = refl
+last-counts (suc zero) zero lt = refl
+last-counts (suc zero) (suc s) lt = refl
+last-counts (suc (suc k)) s lt = absurd (omega arith)
+
+pub complete-last : (levels : List (Vec ℕ Global)) → AreCompleting (lists levels) (length levels) ((0 ∷ 1 ∷ []) ∷ [])
 complete-last levels = record {
-  each = λ k s lt. here k s (omega (arith, lt, ap (λ (l : List ℕ). length l / 2) past)) ∙ (λ t. count_sets (sym none t) (accepts (sym gone t) k) s);
+  each = λ k s lt.
+      let long = as-many levels in
+      let none : length (lists levels) - length levels ≡ 0 = omega arith in
+      let gone : drop (length levels) (lists levels) ≡ [] = drop_all _ (lists levels) (omega arith) in
+      let past = get_or_past (lists levels) (length levels) (0 ∷ 0 ∷ 0 ∷ 0 ∷ []) (omega arith) in
+      rw (none, gone) (last-counts k s (rw past at lt));
 }
-  where
-    past : get_or (lists levels) (length levels) (0 ∷ 0 ∷ 0 ∷ 0 ∷ []) ≡ 0 ∷ 0 ∷ 0 ∷ 0 ∷ []
-    past = get_or_past (lists levels) (length levels) (0 ∷ 0 ∷ 0 ∷ 0 ∷ []) (omega (arith, as-many levels))
 
-    none : length (lists levels) - length levels ≡ 0
-    none = omega (arith, as-many levels)
+pub ruleset counting = (nat_tests, sum_by_more_le, complete-last, later-none, with_member, lists, link_at, get_or)
 
-    gone : drop (length levels) (lists levels) ≡ []
-    gone = drop_all _ (lists levels) (omega (arith, as-many levels))
-
-    here : (k s : ℕ) → k < 2 → count_at ((0 ∷ 1 ∷ []) ∷ []) k s ≡ count_sets 0 (accepts [] k) s
-    here zero zero lt = refl
-    here zero (suc s) lt = refl
-    here (suc zero) zero lt = refl
-    here (suc zero) (suc s) lt = refl
-    here (suc (suc k)) s lt = absurd (omega arith)
+pub ruleset leading = (nat_tests, lead-within, level-at)

@@ -4,7 +4,7 @@ ghost use Rattle.council_base.specs.declared.limits.TheConstants.{MEMBERS};
 ghost use Rattle.mwc_states.specs.Inner.Counting.{AreLeading, IsWithin, worth};
 ghost use Rattle.mwc_states.specs.Inner.Links.{IsGraph, link_at, lists};
 
-use crate::level::{Links, link_at};
+use crate::graph::{Links, link_at};
 use council_base::Memory;
 use std::alloc::Global;
 
@@ -85,6 +85,7 @@ fn follow(
 }
 
 /// Decides the member of a level in all choices of those before it.
+#[tactic(auto, using(crate::proofs::Worth::leading))]
 pub(crate) fn decide_all(
     alloc: Global,
     levels: &[Links],

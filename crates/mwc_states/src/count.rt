@@ -1,5 +1,5 @@
 //! The counts of a game.
-ghost use Rattle.std.specs.Prelude.{◌≡◌, ◌<◌, ℕ, [], IfOk, IfSome, length, slice_index, slice_index_or};
+ghost use Rattle.std.specs.Prelude.{◌≡◌, ◌<◌, ℕ, IfOk, IfSome, length, slice_index};
 ghost use Rattle.council_game.specs.Game.{votes_of};
 ghost use Rattle.council_game.specs.Votes.{rule_at};
 ghost use Rattle.mwc_states.specs.Inner.Games.{AreCountsOf, AreRowsOf, counted_coalitions};
@@ -9,7 +9,7 @@ ghost use Rattle.swings.specs.Swings.{AreWinningCounts};
 use crate::graph::build;
 use crate::row::Row;
 use crate::set_counts::{SetCounts, count};
-use crate::what::What;
+use crate::state::What;
 use council_base::{Gate, Memory};
 use council_game::Game;
 use power_index::Counts;
@@ -41,10 +41,8 @@ fn quotas(game: &Game) -> Row
 
 /// Lists the weights of the members by rank place.
 fn members(alloc: Global, game: &Game) -> Result<Vec<Row>, Memory>
-    ensures long { IfOk result (λ rows. length rows.items ≡ length game.now.names) }
-    ensures weights { IfOk result (λ rows. (p r : ℕ) → p < length game.now.names
-        → slice_index (slice_index_or rows.items p []) r
-        ≡ slice_index (rule_at (votes_of game.now).rules r).weights p) }
+    ensures { IfOk result (λ rows. AreRowsOf (votes_of game.now).rules rows.items
+        (length game.now.names)) }
 {
     let mut rows = Vec::with_capacity(alloc, game.members())?;
     for place in 0..game.members() {
@@ -82,6 +80,7 @@ fn count_sets<G: Gate>(
 /// # Errors
 ///
 /// Returns `Memory` if an allocation was refused.
+#[tactic(auto, unfolding(council_game::specs::Votes::minimal_coalitions))]
 pub fn count_by_states<G: Gate>(
     alloc: Global,
     game: &Game,
@@ -103,6 +102,7 @@ pub fn count_by_states<G: Gate>(
 /// # Errors
 ///
 /// Returns `Memory` if an allocation was refused.
+#[tactic(auto, unfolding(swings::specs::Swings::winning_coalitions))]
 pub fn count_swings<G: Gate>(
     alloc: Global,
     game: &Game,

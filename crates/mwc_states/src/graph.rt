@@ -1,15 +1,61 @@
 //! The graph of states, level by level.
-ghost use Rattle.std.specs.Prelude.{◌≡◌, ◌≤◌, [], ◌∷◌, IfOk, IfSome, length, map};
+ghost use Rattle.std.specs.Prelude.{◌≡◌, ◌+◌, ◌*◌, ◌<◌, ◌≤◌, ◌^◌, IfOk, IfSome, length, map};
 ghost use Rattle.council_base.specs.declared.limits.TheConstants.{MEMBERS, RULES};
 ghost use Rattle.mwc_states.specs.Inner.Graphs.{IsGraphOf};
+ghost use Rattle.mwc_states.specs.Inner.Links.{link_at};
+ghost use Rattle.mwc_states.specs.Inner.Tables.{IsLevel};
 
 use crate::later::Later;
-use crate::level::{Links, decide_level};
 use crate::row::Row;
+use crate::state::{What, decide};
 use crate::table::Table;
-use crate::what::What;
 use council_base::{Gate, Memory};
 use std::alloc::Global;
+
+/// Where each state of a level leads without its member, and then with it.
+pub(crate) type Links = Vec<u32>;
+
+/// Returns where a row leads without the member (0) or with it (1).
+#[inline]
+pub(crate) fn link_at(links: &Links, row: usize, choice: usize) -> u32
+    requires { 2 * row + choice < length links.now.items }
+    ensures { result ≡ link_at links.now.items row choice }
+{
+    links[2 * row + choice]
+}
+
+/// Decides a member in each state of a level, and returns the links to the next one and its states.
+///
+/// Returns `None` if these have more than `rows` rows, before equal ones are merged.
+#[tactic(auto, using(crate::proofs::Building::found))]
+pub(crate) fn decide_level(
+    alloc: Global,
+    what: What,
+    table: &Table,
+    member: &Row,
+    later: &Later,
+    rows: usize,
+) -> Result<Option<(Links, Table)>, Memory>
+    requires { length table.now ≤ 2 ^ 26 }
+    ensures { IfOk result (λ o. IfSome o (λ level. IsLevel what member.now later.now.members.now
+        table.now level.0.items level.1)) }
+{
+    let mut next = Table::new(alloc);
+    let mut left = Vec::new(alloc);
+    for place in 0..table.len() {
+        if next.rows() > rows {
+            return Ok(None);
+        }
+        decide(what, table.state(place), member, false, later, &mut left)?;
+        next.push(&left)?;
+        decide(what, table.state(place), member, true, later, &mut left)?;
+        next.push(&left)?;
+    }
+    let Some(level) = next.sort(alloc)? else {
+        return Ok(None);
+    };
+    Ok(Some(level))
+}
 
 /// Returns how many sums of later members are listed under each rule, if a level has these states.
 ///
@@ -27,15 +73,6 @@ fn sums_for(states: usize, rules: usize, room: usize) -> usize {
 /// There are few if there is little room: a game of more takes long to tell.
 fn rows_for(room: usize) -> usize {
     (room.saturating_mul(room) >> 12).clamp(64, 1 << 22)
-}
-
-/// Makes the table of the first level, whose only state is the need.
-fn first_table(alloc: Global, need: &Row) -> Result<Table, Memory>
-    ensures { IfOk result (λ table. table ≡ (need.now ∷ []) ∷ []) }
-{
-    let mut table = Table::new(alloc);
-    table.push(&[*need])?;
-    Ok(table)
 }
 
 /// Builds the graph of the sets of members that complete a need.
@@ -58,7 +95,8 @@ pub(crate) fn build<G: Gate>(
         IsGraphOf what members.now need.now (map (λ links. links.items) levels.items))) }
 {
     let mut levels = Vec::with_capacity(alloc, members.len())?;
-    let mut table = first_table(alloc, need)?;
+    let mut table = Table::new(alloc);
+    table.push(&[*need])?;
     let rows = rows_for(room);
     let mut left = room.min(1 << 26);
     for level in 0..members.len() {

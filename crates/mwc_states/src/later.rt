@@ -7,7 +7,6 @@ ghost use Rattle.mwc_states.specs.Inner.Sums.{AreSums};
 ghost use Rattle.mwc_states.specs.Inner.Later.{IsTotal, is_able};
 ghost use Rattle.mwc_states.specs.Inner.States.{fits, misses_all};
 
-use crate::misses;
 use crate::row::{self, Row, ZERO};
 use crate::sums::Sums;
 use council_base::{Memory, limits};
@@ -74,6 +73,7 @@ impl<'m> Later<'m> {
     /// Returns whether all members together meet a need.
     ///
     /// If they do not, no subset does.
+    #[tactic(auto, using(crate::proofs::Meeting::total))]
     pub(crate) fn is_reachable(&self, need: &Row) -> bool
         ensures { (set : List Bool)
             → meets (weigh self.now.members.now set) need.now ≡ true → result ≡ true }
@@ -86,6 +86,7 @@ impl<'m> Later<'m> {
     ///
     /// The answer is yes if all members that may be in such a set miss the row together. It may be
     /// no where yes is true.
+    #[tactic(auto, using(crate::proofs::Able::able))]
     fn is_missed(&self, need: &Row, row: &Row) -> bool
         ensures { (set : List Bool) → fits self.now.members.now need.now set ≡ true
             → result ≡ true → meets (weigh self.now.members.now set) row.now ≡ false }
@@ -118,6 +119,7 @@ impl<'m> Later<'m> {
     }
 
     /// Adds a row to the misses of a state with this need, if it tells anything.
+    #[tactic(auto, using(crate::proofs::Leaving::missing))]
     pub(crate) fn add_miss(
         &self,
         need: &Row,
@@ -130,13 +132,13 @@ impl<'m> Later<'m> {
             && not (meets (weigh self.now.members.now set) miss.now))) }
     {
         let miss = self.raise_miss(need, miss);
-        if misses::is_implied(misses, &miss) {
+        if row::is_implied(misses, &miss) {
             return Ok(());
         }
         if self.is_missed(need, &miss) {
             return Ok(());
         }
-        misses::add(misses, &miss)?;
+        row::add_miss(misses, &miss)?;
         Ok(())
     }
 }

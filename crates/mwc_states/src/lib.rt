@@ -5,13 +5,10 @@ mod choices;
 mod count;
 mod graph;
 mod later;
-mod level;
-mod misses;
 mod row;
 mod set_counts;
 mod state;
 mod sums;
 mod table;
-mod what;
 
 pub use count::{count_by_states, count_swings};

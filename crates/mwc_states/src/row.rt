@@ -1,9 +1,11 @@
-//! Rows.
-ghost use Rattle.std.specs.Prelude.{◌≡◌, ◌+◌, ◌-◌, ◌≤◌, ℕ, min, max, slice_index, if◌then◌else◌};
+//! Rows, and the misses of a state.
+ghost use Rattle.std.specs.Prelude.{◌≡◌, ◌+◌, ◌-◌, ◌≤◌, ◌&&◌, ℕ, min, max, not, slice_index, if◌then◌else◌, OnOk};
+ghost use Rattle.std.specs.List.{list_any};
 ghost use Rattle.mwc_states.specs.Inner.Sets.{MOST, meets};
 ghost use Rattle.mwc_states.specs.Inner.Later.{IsTotal};
+ghost use Rattle.mwc_states.specs.Inner.States.{misses_all};
 
-use council_base::limits;
+use council_base::{Memory, limits};
 use std::array;
 
 /// A number under each rule; 0 under the rules that a game does not have.
@@ -76,4 +78,22 @@ pub(crate) fn is_row(row: &Row)
     ensures { (r : ℕ) → slice_index row.now r ≤ MOST }
 {
     let _numbers = (row[0], row[1], row[2], row[3]);
+}
+
+/// Returns whether a row meets one of these: who misses them then misses it too.
+pub(crate) fn is_implied(rows: &[Row], miss: &Row) -> bool
+    ensures { result ≡ list_any (λ row. meets (slice_index miss.now) row) rows.now }
+{
+    rows.iter().any(|row| meets(miss, row))
+}
+
+/// Adds a row to the misses of a state, which are in order, and drops those that it implies.
+pub(crate) fn add_miss(rows: &mut Vec<Row>, miss: &Row) -> Result<(), Memory>
+    ensures { OnOk result ((weights : ℕ → ℕ) → misses_all weights rows.new.items
+        ≡ (misses_all weights rows.old.items && not (meets weights miss.now))) }
+{
+    rows.retain(|row| !meets(row, miss));
+    let at = rows.partition_point(|row| row < miss);
+    rows.insert(at, *miss)?;
+    Ok(())
 }

@@ -6,7 +6,7 @@ ghost use Rattle.mwc_states.specs.Inner.Links.{AreSizesOf, IsGraph, link_at, lis
 ghost use Rattle.mwc_states.specs.Inner.Sets.{has};
 
 use crate::choices::{Choices, decide_all};
-use crate::level::{Links, link_at};
+use crate::graph::{Links, link_at};
 use council_base::{Memory, SizeCounts, limits};
 use std::alloc::Global;
 
@@ -38,6 +38,7 @@ fn counts_of(sizes: &[Vec<u64>], size: usize, more: usize) -> &[u64]
 }
 
 /// Returns the counts of row 0 by size.
+#[tactic(auto, using(crate::proofs::Worth::counting))]
 fn sizes_of_root(sizes: &[Vec<u64>]) -> SizeCounts
     ensures { (s : ℕ) → s < SIZES → slice_index result s ≡ count_at (lists sizes.now) 0 s }
 {
@@ -49,6 +50,7 @@ fn sizes_of_root(sizes: &[Vec<u64>]) -> SizeCounts
 }
 
 /// Counts the accepted sets of one size that have the member of a level.
+#[tactic(auto, using(crate::proofs::Worth::counting))]
 fn count_size_with(links: &Links, choices: &[Choices], completing: &[Vec<u64>], size: usize) -> u64
     requires within { All (λ some. some.row < length links.now.items / 2) choices.now }
     requires fits { worth choices.now (with_member links.now.items (lists completing.now) size) < 2 ^ 64 }
@@ -80,19 +82,6 @@ fn count_with(
         sizes[size] = count_size_with(&levels[level], choices, completing, size);
     }
     sizes
-}
-
-/// Counts the sets that complete the rows after the last level, by size.
-fn complete_last(alloc: Global, levels: &[Links]) -> Result<Vec<Vec<u64>>, Memory>
-    ensures { IfOk result (λ sizes.
-        AreCompleting (lists levels.now) (length levels.now) (lists sizes.items)) }
-{
-    let mut empty = Vec::new(alloc);
-    empty.push(0)?;
-    empty.push(1)?;
-    let mut sizes = Vec::new(alloc);
-    sizes.push(empty)?;
-    Ok(sizes)
 }
 
 /// Counts the sets of one size that complete each row of a level; lists none if all counts are 0.
@@ -148,6 +137,7 @@ fn complete(
 }
 
 /// Counts the sets that complete the rows of a level, and the accepted ones with each later member.
+#[tactic(auto, using(crate::proofs::Worth::counting))]
 fn count_from(
     alloc: Global,
     levels: &[Links],
@@ -164,7 +154,9 @@ fn count_from(
         → AreSizesOf (lists levels.now) (has i) (slice_index_or each.new i [])) }
 {
     if level == levels.len() {
-        return complete_last(alloc, levels);
+        // The empty set completes row 1 after the last level, and no set completes row 0.
+        let empty = vec![in alloc; 0, 1]?;
+        return Ok(vec![in alloc; empty]?);
     }
     let next = decide_all(alloc, levels, level, choices)?;
     let completing = count_from(alloc, levels, level + 1, &next, each)?;
@@ -182,12 +174,11 @@ pub(crate) fn count(alloc: Global, levels: &[Links]) -> Result<Box<SetCounts>, M
     ensures each { IfOk result (λ counts. (i : ℕ) → i < length levels.now
         → AreSizesOf (lists levels.now) (has i) (slice_index_or counts.value.each i [])) }
 {
-    let mut root = Vec::new(alloc);
-    root.push(Choices {
+    let root = [Choices {
         size: 0,
         row: 0,
         count: 1,
-    })?;
+    }];
     let mut each = [[0; limits::SIZES]; limits::MEMBERS];
     let completing = count_from(alloc, levels, 0, &root, &mut each)?;
     let all = sizes_of_root(&completing);

@@ -1,40 +1,44 @@
 //! States.
-ghost use Rattle.std.specs.Prelude.{◌≡◌, ◌<◌, List, Bool, true, [], ◌∷◌, length, drop, OnOk};
-ghost use Rattle.mwc_states.specs.Inner.Sums.{row_at};
+ghost use Rattle.std.specs.Prelude.{◌≡◌, List, Bool, true, [], ◌∷◌, OnOk};
 ghost use Rattle.mwc_states.specs.Inner.Sets.{meets, weigh};
 ghost use Rattle.mwc_states.specs.Inner.Later.{misses_left};
 ghost use Rattle.mwc_states.specs.Inner.States.{fits, misses_all};
 ghost use Rattle.mwc_states.specs.Inner.Tables.{Leads};
-ghost use Rattle.mwc_states.specs.declared.what.What.TheVariants.{Minimal};
+ghost use Rattle.mwc_states.specs.declared.state.What.TheVariants.{Minimal};
 
 use crate::later::Later;
-use crate::misses;
 use crate::row::{self, Row};
-use crate::what::What;
 use council_base::Memory;
+
+/// The coalitions that are counted.
+#[derive(Clone, Copy)]
+pub(crate) enum What {
+    Minimal,
+    Winning,
+}
 
 /// Lists what the later members must miss once a member is decided: what was to be missed before,
 /// and the need, if the member is taken, since a minimal set cannot spare it.
+#[tactic(auto, using(crate::proofs::Leaving::missing))]
 fn list_misses(
-    state: &[Row],
+    old_need: &Row,
+    old_misses: &[Row],
     member: &Row,
     taken: bool,
     later: &Later,
     need: &Row,
     misses: &mut Vec<Row>,
 ) -> Result<(), Memory>
-    requires some { 0 < length state.now }
-    requires none { misses.old.items ≡ [] }
+    requires { misses.old.items ≡ [] }
     ensures { OnOk result ((set : List Bool) → fits later.now.members.now need.now set ≡ true
         → misses_all (weigh later.now.members.now set) misses.new.items
-        ≡ misses_left later.now.members.now member.now taken (row_at state.now 0) (drop 1 state.now) set) }
+        ≡ misses_left later.now.members.now member.now taken old_need.now old_misses.now set) }
 {
-    for miss in &state[1..] {
+    for miss in old_misses {
         later.add_miss(need, &row::reduce(miss, member, taken), misses)?;
     }
     if taken {
-        later.add_miss(need, &state[0], misses)?;
-        return Ok(());
+        later.add_miss(need, old_need, misses)?;
     }
     Ok(())
 }
@@ -42,21 +46,22 @@ fn list_misses(
 /// Puts the need and the misses that a state leaves into `left`, or no row if no minimal set
 /// completes it.
 fn leave(
-    state: &[Row],
+    old_need: &Row,
+    old_misses: &[Row],
     member: &Row,
     taken: bool,
     later: &Later,
     need: &Row,
     left: &mut Vec<Row>,
 ) -> Result<(), Memory>
-    requires some { 0 < length state.now }
     requires none { left.old.items ≡ [] }
     requires alike { (set : List Bool) → meets (weigh later.now.members.now set) need.now
-        ≡ meets (weigh (member.now ∷ later.now.members.now) (taken ∷ set)) (row_at state.now 0) }
-    ensures { OnOk result (Leads Minimal later.now.members.now member.now taken state.now left.new.items) }
+        ≡ meets (weigh (member.now ∷ later.now.members.now) (taken ∷ set)) old_need.now }
+    ensures { OnOk result (Leads Minimal later.now.members.now member.now taken
+        (old_need.now ∷ old_misses.now) left.new.items) }
 {
-    list_misses(state, member, taken, later, need, left)?;
-    if misses::is_implied(left, need) {
+    list_misses(old_need, old_misses, member, taken, later, need, left)?;
+    if row::is_implied(left, need) {
         left.clear();
         return Ok(());
     }
@@ -76,15 +81,15 @@ pub(crate) fn decide(
     ensures { OnOk result (Leads what later.now.members.now member.now taken state.now left.new.items) }
 {
     left.clear();
-    if state.is_empty() {
+    let Some((old_need, misses)) = state.split_first() else {
         return Ok(());
-    }
-    let need = later.raise(&row::reduce(&state[0], member, taken));
+    };
+    let need = later.raise(&row::reduce(old_need, member, taken));
     if !later.is_reachable(&need) {
         return Ok(());
     }
     match what {
-        What::Minimal => leave(state, member, taken, later, &need, left)?,
+        What::Minimal => leave(old_need, misses, member, taken, later, &need, left)?,
         What::Winning => left.push(need)?,
     }
     Ok(())

@@ -2,7 +2,7 @@
 ghost use Rattle.std.specs.Prelude.{◌≡◌, ◌<◌, ◌≤◌, ℕ, true, Bool, List, length, slice_index, IfOk, OnOk};
 ghost use Rattle.council_base.specs.declared.limits.TheConstants.{RULES};
 ghost use Rattle.mwc_states.specs.Inner.Sets.{weigh, meets};
-ghost use Rattle.mwc_states.specs.Inner.Sums.{row_at, IsAscending, AddsSum, AddsMember, AreListed, AreSums};
+ghost use Rattle.mwc_states.specs.Inner.Sums.{IsAscending, AddsSum, AddsMember, AreListed, AreLowered, AreSums};
 
 use crate::row::{self, Row, ZERO};
 use council_base::Memory;
@@ -29,7 +29,8 @@ fn push(sums: &mut Vec<Row>, sum: &Row, rule: usize) -> Result<(), Memory>
 fn add_member(alloc: Global, sums: &[Row], member: &Row, rule: usize) -> Result<Vec<Row>, Memory>
     requires rule { rule < RULES }
     requires ascending { IsAscending rule sums.now }
-    ensures { IfOk result (λ all. AddsMember rule member.now sums.now all.items) }
+    ensures { IfOk result (λ all. AddsMember rule member.now sums.now all.items
+        (length sums.now) (length sums.now)) }
 {
     let mut all = Vec::new(alloc);
     let mut i = 0;
@@ -55,25 +56,19 @@ fn list(alloc: Global, members: &[Row], rule: usize, limit: usize) -> Result<Vec
     ensures { IfOk result (λ sums. length sums.items ≤ limit
         → AreListed rule members.now sums.items) }
 {
-    let mut sums = vec![in alloc; ZERO]?;
-    for i in (0..members.len()).rev() {
-        if sums.len() > limit {
-            break;
-        }
-        sums = add_member(alloc, &sums, &members[i], rule)?;
+    let Some((member, others)) = members.split_first() else {
+        return Ok(vec![in alloc; ZERO]?);
+    };
+    let sums = list(alloc, others, rule, limit)?;
+    if sums.len() > limit {
+        return Ok(sums);
     }
-    Ok(sums)
+    Ok(add_member(alloc, &sums, member, rule)?)
 }
 
 /// Lowers each row to the least of itself and all later ones under each rule.
 fn keep_least(rows: &mut Vec<Row>)
-    ensures same { length rows.new.items ≡ length rows.old.items }
-    ensures least { (i j r : ℕ) → i ≤ j → j < length rows.new.items
-        → slice_index (row_at rows.new.items i) r ≤ slice_index (row_at rows.new.items j) r }
-    ensures below { (k r : ℕ)
-        → slice_index (row_at rows.new.items k) r ≤ slice_index (row_at rows.old.items k) r }
-    ensures ascending { (rule k : ℕ) → IsAscending rule rows.old.items
-        → slice_index (row_at rows.new.items k) rule ≡ slice_index (row_at rows.old.items k) rule }
+    ensures { AreLowered 1 rows.old.items rows.new.items }
 {
     for k in (1..rows.len()).rev() {
         rows[k - 1] = row::min(&rows[k - 1], &rows[k]);

@@ -6,8 +6,8 @@ use Rattle.council_game.specs.Votes.{RuleView, Votes, down, has, minimal, rule_a
 use Rattle.council_game.specs.Game.{AreNonemptyCoalitions, GameView}
 use Rattle.mwc_states.specs.declared.set_counts.SetCounts.{SetCounts}
 use Rattle.power_index.specs.Tables.{AreSizeCounts}
-use Rattle.mwc_states.specs.declared.what.What.{What}
-use Rattle.mwc_states.specs.declared.what.What.TheVariants.{Minimal, Winning}
+use Rattle.mwc_states.specs.declared.state.What.{What}
+use Rattle.mwc_states.specs.declared.state.What.TheVariants.{Minimal, Winning}
 
 -- a coalition is counted
 abbrev pub is_counted : What → Votes → ℕ → Bool
@@ -18,12 +18,10 @@ is_counted Winning v c = wins v.rules c
 abbrev pub counted_coalitions : What → Votes → List ℕ
 counted_coalitions what v = filter (is_counted what v) (down (2 ^ v.members))
 
--- the weights of each place under each rule, and the quotas; no weight and no quota past the rules
-pub record AreRowsOf (v : Votes) (members : List (List ℕ)) (need : List ℕ) : Type 0 where
-  pub long : length members ≡ v.members
-  pub weights : (p r : ℕ) → p < v.members
-      → slice_index (slice_index_or members p []) r ≡ slice_index (rule_at v.rules r).weights p
-  pub quotas : (r : ℕ) → slice_index need r ≡ (rule_at v.rules r).quota
+-- the weights of the first i places under each rule; no weight past the rules
+pub record AreRowsOf (rules : List RuleView) (rows : List (List ℕ)) (i : ℕ) : Type 0 where
+  pub long : length rows ≡ i
+  pub weights : (p r : ℕ) → p < i → slice_index (slice_index_or rows p []) r ≡ slice_index (rule_at rules r).weights p
 
 -- counts of a list of coalitions of a game, none of them empty: of all, and by rank place
 pub record AreCountsOf (g : GameView) (list : List ℕ) (counts : SetCounts) : Type 0 where
@@ -31,8 +29,3 @@ pub record AreCountsOf (g : GameView) (list : List ℕ) (counts : SetCounts) : T
   pub coalitions : AreNonemptyCoalitions g list
   pub all : AreSizeCounts (length g.names) (λ _. true) list counts.all
   pub each : (p : ℕ) → p < length g.names → AreSizeCounts (length g.names) (has (length g.names) p) list (slice_index_or counts.each p [])
-
--- the rows of the first i places
-pub record AreFirstRows (rules : List RuleView) (rows : List (List ℕ)) (i : ℕ) : Type 0 where
-  pub long : length rows ≡ i
-  pub weights : (p r : ℕ) → p < i → slice_index (slice_index_or rows p []) r ≡ slice_index (rule_at rules r).weights p

@@ -1,6 +1,6 @@
 -- The graph of some members and a need, while it is built and once it is whole.
 use Rattle.std.specs.Prelude.{ℕ, ◌+◌, ◌^◌, ◌<◌, ◌≤◌, ◌≡◌, Bool, List, [], ◌∷◌, ◌++◌, length, drop, slice_index, slice_index_or}
-use Rattle.mwc_states.specs.declared.what.What.{What}
+use Rattle.mwc_states.specs.declared.state.What.{What}
 use Rattle.mwc_states.specs.Inner.States.{completes}
 use Rattle.mwc_states.specs.Inner.Links.{IsGraph, accepts, rows_at}
 

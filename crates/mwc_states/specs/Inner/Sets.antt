@@ -1,6 +1,6 @@
 -- Sets of members, and what they weigh. A set is a list that says of each member whether it has it;
 -- members past its end are not in it. A row has a number for each rule.
-use Rattle.std.specs.Prelude.{ℕ, zero, suc, ◌+◌, ◌-◌, ◌^◌, Bool, true, false, not, nat_le, List, [], ◌∷◌, map, slice_index, slice_index_or}
+use Rattle.std.specs.Prelude.{ℕ, zero, suc, ◌+◌, ◌-◌, ◌^◌, Bool, true, false, nat_le, List, [], ◌∷◌, map, slice_index, slice_index_or}
 use Rattle.std.specs.Prelude.{if◌then◌else◌}
 use Rattle.std.specs.List.{list_all, range_with_len}
 use Rattle.council_base.specs.declared.limits.TheConstants.{RULES}
@@ -25,10 +25,6 @@ unfoldable pub without_one : List Bool → List (List Bool)
 without_one [] = []
 without_one (true ∷ set) = (false ∷ set) ∷ map (λ less. true ∷ less) (without_one set)
 without_one (false ∷ set) = map (λ less. false ∷ less) (without_one set)
-
--- the set has no member
-unfoldable pub is_empty : List Bool → Bool
-is_empty set = list_all not set
 
 -- the set has member i
 abbrev pub has : ℕ → List Bool → Bool

@@ -2,8 +2,8 @@
 -- that the later ones must miss.
 use Rattle.std.specs.Prelude.{ℕ, Bool, false, not, ◌&&◌, List, [], ◌∷◌}
 use Rattle.std.specs.List.{list_all}
-use Rattle.mwc_states.specs.declared.what.What.{What}
-use Rattle.mwc_states.specs.declared.what.What.TheVariants.{Minimal, Winning}
+use Rattle.mwc_states.specs.declared.state.What.{What}
+use Rattle.mwc_states.specs.declared.state.What.TheVariants.{Minimal, Winning}
 use Rattle.mwc_states.specs.Inner.Sets.{weigh, meets, without_one}
 
 -- a set misses a need if any one of its members leaves

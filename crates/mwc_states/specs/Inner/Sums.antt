@@ -27,16 +27,28 @@ pub record AddsSum (rule : ℕ) (row : List ℕ) (old new : List (List ℕ)) : T
   pub kept : (weights : ℕ → ℕ) → HasSum rule old weights → HasSum rule new weights
   pub added : (weights : ℕ → ℕ) → IsSum rule row weights → HasSum rule new weights
 
--- the sums with and without one more member
-pub record AddsMember (rule : ℕ) (member : List ℕ) (old new : List (List ℕ)) : Type 0 where
-  pub ascending : IsAscending rule new
-  pub without : (weights : ℕ → ℕ) → HasSum rule old weights → HasSum rule new weights
-  pub within : (weights : ℕ → ℕ) → HasSum rule old weights → HasSum rule new (λ r. slice_index member r + weights r)
+-- the first i sums without one more member, and the first j with it; the next ones are no less
+pub record AddsMember (rule : ℕ) (member : List ℕ) (sums all : List (List ℕ)) (i j : ℕ) : Type 0 where
+  pub i_in : i ≤ length sums
+  pub j_in : j ≤ i
+  pub ascending : IsAscending rule all
+  pub last_without : (k l : ℕ) → k < length all → i ≤ l → l < length sums → slice_index (row_at all k) rule ≤ slice_index (row_at sums l) rule
+  pub last_within : (k l : ℕ) → k < length all → j ≤ l → l < length sums
+      → slice_index (row_at all k) rule ≤ min (slice_index (row_at sums l) rule + slice_index member rule) MOST
+  pub without : (weights : ℕ → ℕ) (k : ℕ) → k < i → IsSum rule (row_at sums k) weights → HasSum rule all weights
+  pub within : (weights : ℕ → ℕ) (k : ℕ) → k < j → IsSum rule (row_at sums k) weights → HasSum rule all (λ r. slice_index member r + weights r)
 
 -- the sum of each set of some members
 pub record AreListed (rule : ℕ) (members rows : List (List ℕ)) : Type 0 where
   pub ascending : IsAscending rule rows
   pub all : (set : List Bool) → HasSum rule rows (weigh members set)
+
+-- rows that are lowered, from place k - 1 on, to the least of themselves and all later ones
+pub record AreLowered (k : ℕ) (old new : List (List ℕ)) : Type 0 where
+  pub long : length new ≡ length old
+  pub least : (i j r : ℕ) → k ≤ i + 1 → i ≤ j → j < length new → slice_index (row_at new i) r ≤ slice_index (row_at new j) r
+  pub below : (i r : ℕ) → slice_index (row_at new i) r ≤ slice_index (row_at old i) r
+  pub same : (rule i : ℕ) → IsAscending rule old → slice_index (row_at new i) rule ≡ slice_index (row_at old i) rule
 
 -- the rows ascend under the rule; and a set that has a number under it that all rows before one do
 -- not have weighs at least as much as that one under each rule

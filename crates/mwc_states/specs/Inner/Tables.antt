@@ -1,7 +1,7 @@
 -- Tables of states, and where the states of one level lead in the next.
 use Rattle.std.specs.Prelude.{ℕ, ◌+◌, ◌*◌, ◌<◌, ◌≤◌, ◌≡◌, slice_index, Bool, List, [], ◌∷◌, length, map, take, drop, slice_index_or, if◌then◌else◌}
 use Rattle.std.specs.List.{All}
-use Rattle.mwc_states.specs.declared.what.What.{What}
+use Rattle.mwc_states.specs.declared.state.What.{What}
 use Rattle.mwc_states.specs.Inner.States.{completes}
 use Rattle.mwc_states.specs.Inner.Links.{link_at}
 

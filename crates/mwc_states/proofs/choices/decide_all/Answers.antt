@@ -1,18 +1,12 @@
-use Rattle.mwc_states.proofs.Imports.{nat_tests, ◌*◌, ◌+◌, ℕ, IsWithin, ap, arith, lists, rows_at, worth, Choices}
+use Rattle.mwc_states.proofs.Imports.{◌*◌, ◌+◌, ℕ, IsWithin, ap, arith, lists, rows_at, worth, Choices}
 use Rattle.std.proofs.lemmas.List.Sorted.{All-permutation, sum_by-IsPermutation}
-use Rattle.mwc_states.proofs.Worth.{lead-few, lead-next, lead-within, level-at, level-small}
+use Rattle.mwc_states.proofs.Worth.{lead-few, lead-next, level-at, level-small}
 use Rattle.mwc_states.proofs.choices.decide_all.Goals as goal
-
-pub follow-requires-clause-within : goal.follow-requires-clause-within
-follow-requires-clause-within c = grind (arith, nat_tests, lead-within, level-at)
 
 pub follow-requires-clause-fits : goal.follow-requires-clause-fits
 follow-requires-clause-fits c =
     let links = level-at c.args.levels.now c.args.level c.index-levels-level.result c.requires.level c.index-levels-level.is in
     omega (arith, ap (λ all. worth all (λ _ _. 1)) c.new-all.ensures.items, lead-few c.requires.graph links c.requires.choices)
-
-pub follow-requires-2-clause-within : goal.follow-requires-2-clause-within
-follow-requires-2-clause-within c = grind (arith, nat_tests, lead-within, level-at)
 
 pub follow-requires-2-clause-fits : goal.follow-requires-2-clause-fits
 follow-requires-2-clause-fits c =

@@ -1,5 +1,5 @@
 use Rattle.mwc_states.proofs.Imports.{◌∙◌, ◌≡◌, Bool, true, List, [], length, map, get_or, refl, sym, ap, arith, length-map, votes_of}
-use Rattle.mwc_states.proofs.Imports.{AreRowsOf, IsGraphOf}
+use Rattle.mwc_states.proofs.Imports.{IsGraphOf}
 use Rattle.council_game.specs.Votes.{has}
 use Rattle.mwc_states.proofs.Coalitions.{counted-few, counted-nonempty, sizes-are, set-at}
 use Rattle.mwc_states.specs.Inner.Sets.{has as set_has}
@@ -12,8 +12,7 @@ returns g c =
     let members = c.in_ok-members.members.items in
     let need = c.quotas-need.result in
     let levels = map (λ l. l.items) c.in-Some.levels.items in
-    let rows : AreRowsOf v members need =
-    record { long = c.in_ok-members.ensures.long; weights = c.in_ok-members.ensures.weights; quotas = c.quotas-need.ensures } in
+    let rows = c.in_ok-members.ensures in
     let graph : IsGraphOf c.args.what members need levels = rw c.deref.ensures.value at (rw c.in-Some.is at c.in_ok-levels.ensures) in
     let long : length levels ≡ v.members = graph.long ∙ rows.long in
     let same = λ (xs : List Bool) (full : length xs ≡ v.members). graph.accepts_all xs (full ∙ sym rows.long) in
@@ -21,9 +20,9 @@ returns g c =
     record {
       few = counted-few c.args.what c.args.game.now c.was_checked.ensures.game;
       coalitions = counted-nonempty c.args.what c.args.game.now c.was_checked.ensures.game;
-      all = sizes-are v members need votes rows c.args.what levels (λ _. true) (λ _. true) c.in_ok-count.field-0.value.all long same (λ _. refl)
+      all = sizes-are v members need votes rows c.quotas-need.ensures c.args.what levels (λ _. true) (λ _. true) c.in_ok-count.field-0.value.all long same (λ _. refl)
           (rw c.deref-2.ensures.value at c.in_ok-count.ensures.all);
-      each = λ p lt. sizes-are v members need votes rows c.args.what levels (set_has p) (has v.members p) (get_or c.in_ok-count.field-0.value.each p []) long
+      each = λ p lt. sizes-are v members need votes rows c.quotas-need.ensures c.args.what levels (set_has p) (has v.members p) (get_or c.in_ok-count.field-0.value.each p []) long
           same (λ m. set-at v.members m p lt)
           (rw c.deref-2.ensures.value at (c.in_ok-count.ensures.each p (omega (arith, lt, few, ap length c.deref-2.ensures.value))));
     }

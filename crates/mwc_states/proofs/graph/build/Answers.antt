@@ -1,4 +1,5 @@
-use Rattle.mwc_states.proofs.Imports.{nat_tests, ◌∙◌, ◌+◌, [], drop, get_or, arith, map-append, take_rest, IsLevel}
+use Rattle.mwc_states.proofs.Imports.{nat_tests, ◌∙◌, ◌+◌, [], drop, get_or, arith, map-append, IsLevel}
+use Rattle.std.proofs.lemmas.List.{take_rest}
 use Rattle.mwc_states.proofs.Building.{built-none, built-more, built-all}
 use Rattle.mwc_states.proofs.graph.build.Goals as goal
 
@@ -11,7 +12,7 @@ loop-level-preserved g c =
     let later = c.in_ok-later.ensures ∙ take_rest members (c.loop-level.level + 1) in
     let level : IsLevel c.args.what (get_or members c.loop-level.level []) (drop (c.loop-level.level + 1) members) c.loop-level.table
     c.in-Some.links.items c.in-Some.next = rw later at (rw c.in-Some.is at c.in_ok-links.ensures) in
-    rw (c.in_ok-push.ensures.items, map-append) (built-more c.args.what members c.args.need.now _ c.loop-level.table c.in-Some.next c.in-Some.links.items
+    rw (c.in_ok-push-2.ensures.items, map-append) (built-more c.args.what members c.args.need.now _ c.loop-level.table c.in-Some.next c.in-Some.links.items
     c.loop-level.level c.loop-level.left _ c.loop-level-test.true c.loop-level.invariant level (omega (arith, c.if-len-left.false, c.len.ensures)) (omega arith))
 
 pub returns-then-is_last : goal.returns-then-is_last

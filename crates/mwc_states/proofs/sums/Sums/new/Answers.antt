@@ -2,4 +2,4 @@ use Rattle.mwc_states.proofs.{Imports.arith, Merging.sums-lowered}
 use Rattle.mwc_states.proofs.sums.Sums.new.Goals as goal
 
 pub returns : goal.returns
-returns c = sums-lowered (c.in_ok-rows.ensures (omega arith)) c.keep_least.ensures.same c.keep_least.ensures.least c.keep_least.ensures.below c.keep_least.ensures.ascending
+returns c = sums-lowered (c.in_ok-rows.ensures (omega arith)) c.keep_least.ensures

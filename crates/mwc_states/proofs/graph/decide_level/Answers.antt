@@ -1,10 +1,7 @@
-use Rattle.mwc_states.proofs.{Building.decided-more, Building.level-found, Imports.nat_tests, Imports.arith, Imports.length}
-use Rattle.mwc_states.proofs.level.decide_level.Goals as goal
+use Rattle.mwc_states.proofs.Building.{decided-more}
+use Rattle.mwc_states.proofs.graph.decide_level.Goals as goal
 
 pub loop-place-preserved : goal.loop-place-preserved
 loop-place-preserved c = rw (c.in_ok-push-2.ensures, c.in_ok-push.ensures) (decided-more c.args.what c.args.member.now c.args.later.now.members.now c.args.table.now
     c.loop-place.next _ _ c.loop-place.place c.loop-place.invariant (rw c.deref.ensures.value (rw c.state.ensures at c.in_ok-decide.ensures))
     (rw c.deref-in-loop-place.ensures.value (rw c.state-in-loop-place.ensures at c.in_ok-decide-2.ensures)))
-
-pub returns : goal.returns
-returns c = grind (arith, nat_tests, level-found, length)
