@@ -32,7 +32,7 @@ fn add_member(alloc: Global, sums: &[Row], member: &Row, rule: usize) -> Result<
     ensures { IfOk result (λ all. AddsMember rule member.now sums.now all.items
         (length sums.now) (length sums.now)) }
 {
-    let mut all = Vec::new(alloc);
+    let mut all = Vec::with_capacity(alloc, sums.len().saturating_mul(2))?;
     let mut i = 0;
     let mut j = 0;
     while j < sums.len() {
