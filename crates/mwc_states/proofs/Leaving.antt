@@ -92,4 +92,4 @@ unfolding completes
 no-state what members [] set none = cc
 no-state what members (row ∷ rows) set none = absurd (omega arith)
 
-pub ruleset missing = (nat_tests, misses_all-implied, misses-more, and_parts)
+pub ruleset missing = (nat_tests, misses_all-implied, and_parts)

@@ -19,7 +19,6 @@ pub(crate) enum What {
 
 /// Lists what the later members must miss once a member is decided: what was to be missed before,
 /// and the need, if the member is taken, since a minimal set cannot spare it.
-#[tactic(auto, using(crate::proofs::Leaving::missing))]
 fn list_misses(
     old_need: &Row,
     old_misses: &[Row],
