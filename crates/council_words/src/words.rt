@@ -161,6 +161,11 @@ const FLAGS: &[(&str, &str, &[&str])] = &[
     ("explain", "If a game is refused, says where and why", &[]),
 ];
 
+/// Makes a parser of the numbers in the range of an option.
+fn range_of<'a>(number: &Number) -> ValueParser<'a> {
+    ValueParser::Signed(i64::from(number.least), i64::from(number.greatest))
+}
+
 /// Makes an option that takes a number.
 fn number_option<'a>(alloc: Global, number: &Number) -> Arg<'a> {
     Arg::new(alloc, number.name)
@@ -168,7 +173,7 @@ fn number_option<'a>(alloc: Global, number: &Number) -> Arg<'a> {
         .value_name(number.value)
         .help(number.help)
         .default_value(number.default)
-        .value_parser(ValueParser::Signed(i64::from(number.least), i64::from(number.greatest)))
+        .value_parser(range_of(number))
 }
 
 /// Makes an option that takes nothing.
