@@ -68,8 +68,7 @@ impl<'a> Explanation<'a> {
     /// It is one of the member if there is one, or the member itself if there is no key.
     fn has(&self, front: &str, member: Option<usize>, key: Option<&str>) -> Result<bool, Memory> {
         for end in ENDS {
-            let text = format!(in self.alloc; "{front}{end}")?;
-            if let Ok(table) = tree_of(self.alloc, text.as_str())? {
+            if let Some(table) = self.tree_with(front, end)? {
                 return Ok(match key {
                     Some(key) => value_of(&table, member, key).is_some(),
                     None => member <= Some(elements(&table, "member").len()),
@@ -77,6 +76,12 @@ impl<'a> Explanation<'a> {
             }
         }
         Ok(false)
+    }
+
+    /// Parses a front of the file with an end, or returns none if that is no TOML.
+    fn tree_with(&self, front: &str, end: &str) -> Result<Option<Table>, Memory> {
+        let text = format!(in self.alloc; "{front}{end}")?;
+        Ok(tree_of(self.alloc, text.as_str())?.ok())
     }
 
     /// Says which line first has a key, or the member if there is no key.
@@ -123,6 +128,13 @@ impl<'a> Explanation<'a> {
         let column = front.chars().count().saturating_add(1);
         self.line(format_args!("line {line}, column {column}: {}", short(row)));
         self.line(message);
+        self.explain_sign(place, front);
+        (row, front)
+    }
+
+    /// Says what helps against a sign that is not of a game file, after the front of its line.
+    fn explain_sign(&mut self, place: usize, front: &str) {
+        let text = self.text;
         match text.as_bytes().get(place) {
             Some(b'%' | b'/') => self.line(GUIDE),
             Some(b'.') if front.trim_start() == "[0" && text.matches('.').count() == 1 => {
@@ -131,6 +143,5 @@ impl<'a> Explanation<'a> {
             Some(b'.') => self.explain_factor('.'),
             _ => {}
         }
-        (row, front)
     }
 }

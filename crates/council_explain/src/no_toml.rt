@@ -42,22 +42,13 @@ const UNITS: &[char] = &['%', '/', ';', '_'];
 
 /// Returns what separates the columns of a line, if it has several.
 fn columns_of(line: &str) -> Option<&'static str> {
-    for (sign, name) in COLUMNS {
-        if line.contains(*sign) {
-            return Some(name);
-        }
-    }
-    None
+    let (_, name) = COLUMNS.iter().find(|column| line.contains(column.0))?;
+    Some(name)
 }
 
 /// Returns whether each part between two separators has three digits.
 fn are_thousands(parts: &str) -> bool {
-    for part in parts.split(SEPARATORS) {
-        if part.len() != 3 {
-            return false;
-        }
-    }
-    true
+    parts.split(SEPARATORS).all(|part| part.len() == 3)
 }
 
 impl Explanation<'_> {

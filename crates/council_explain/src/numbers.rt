@@ -28,6 +28,22 @@ pub fn kind(value: &Value) -> &'static str {
     }
 }
 
+/// Returns the most digits after a sign in a line, without zeros at their end and with them.
+fn decimals_of(line: &str, sign: char) -> (usize, usize) {
+    let mut most = (0usize, 0usize);
+    let mut is_number = false;
+    for part in line.split(sign) {
+        let rest = part.trim_start_matches(DIGITS);
+        let digits = part.strip_suffix(rest).unwrap_or("");
+        if is_number && !rest.starts_with(EXPONENT) {
+            let decimals = digits.trim_end_matches('0');
+            most = (most.0.max(decimals.len()), most.1.max(digits.len()));
+        }
+        is_number = part.ends_with(DIGITS);
+    }
+    most
+}
+
 /// Returns the most decimals of a number in a text.
 ///
 /// First without zeros at their end, and then with them.
@@ -38,16 +54,9 @@ fn most_decimals(text: &str, sign: char) -> (usize, usize) {
     for line in text.lines() {
         let (line, _) = line.split_once('#').unwrap_or((line, ""));
         let (_, line) = line.rsplit_once('"').unwrap_or(("", line));
-        let mut is_number = false;
-        for part in line.split(sign) {
-            let rest = part.trim_start_matches(DIGITS);
-            let digits = part.strip_suffix(rest).unwrap_or("");
-            let is_array = sign == ',' && line.contains('[');
-            if is_number && !is_array && !rest.starts_with(EXPONENT) {
-                let decimals = digits.trim_end_matches('0');
-                most = (most.0.max(decimals.len()), most.1.max(digits.len()));
-            }
-            is_number = part.ends_with(DIGITS);
+        if sign != ',' || !line.contains('[') {
+            let (decimals, digits) = decimals_of(line, sign);
+            most = (most.0.max(decimals), most.1.max(digits));
         }
     }
     most

@@ -22,12 +22,19 @@ const MEMBER_KEYS: &[&str] = &["name", "weight", "weights"];
 
 /// Returns whether a key is one of these.
 fn is_among(key: &str, keys: &[&str]) -> bool {
-    for known in keys {
-        if *known == key {
-            return true;
-        }
+    keys.contains(&key)
+}
+
+/// Returns the weight of a member under a rule, if it is a whole number; 0 for one below 0.
+fn weight_of(member: &Value, rule: usize) -> Option<u64> {
+    let weight = match member.get("weights") {
+        Some(weights) => weights.get(rule),
+        None => member.get("weight"),
+    };
+    match weight {
+        Some(Value::Integer(weight)) => Some(u64::try_from(*weight).unwrap_or(0)),
+        _ => None,
     }
-    false
 }
 
 impl Explanation<'_> {
@@ -206,14 +213,7 @@ impl Explanation<'_> {
     fn total_of(&self, rule: usize) -> Option<u64> {
         let mut total = 0u64;
         for member in elements(self.table, "member") {
-            let weight = match member.get("weights") {
-                Some(weights) => weights.get(rule),
-                None => member.get("weight"),
-            };
-            let Some(Value::Integer(weight)) = weight else {
-                return None;
-            };
-            total = total.saturating_add(u64::try_from(*weight).unwrap_or(0));
+            total = total.saturating_add(weight_of(member, rule)?);
         }
         Some(total)
     }
