@@ -31,9 +31,12 @@ fn print_answer<R: Abort + Print>(rt: &R, answer: Result<u64, RunFault>, writer:
 }
 
 /// Runs on the file, and prints the answer.
+///
+/// With this limit states are tried, however short the walk is.
 fn runs<R: Abort + Print + Threads + Wait + Sync>(rt: &R, alloc: Global, file: &[u8]) {
     let mut reader = file;
-    let options = options(3, 2);
+    let mut options = options(3, 2);
+    options.most = 1_000;
     let mut writer = Stream::failing(b"", 0);
     print_line(rt, "call");
     let answer = run(rt, alloc, &mut reader, &options, &NoGate, &mut writer);
