@@ -38,8 +38,8 @@ sys.path.insert(0, str(TOP / "tests"))
 import lines  # noqa: E402 (it is beside the clone's other tests, as is oracle)
 import oracle  # noqa: E402
 
-from council import engine, game, library, reports  # noqa: E402
-from council.engine import find_library, find_program  # noqa: E402
+from council import decimals, engine, finding, game, library, members  # noqa: E402
+from council.finding import find_library, find_program  # noqa: E402
 from council.game import Unit  # noqa: E402
 from council.reports import Fault, Report  # noqa: E402
 
@@ -330,11 +330,11 @@ class Reports(unittest.TestCase):
         it = Report.read(LISTED.split("\n")[:-1], taken.append)
         self.assertEqual((taken, it.coalitions, it.listed), (wanted, None, 2))
         report = Report.from_text(LISTED)
-        for its in report.coalitions, reports.list_coalitions(report.members, [3, 5]), pickle.loads(pickle.dumps(report)).coalitions:
+        for its in report.coalitions, members.list_coalitions(report.members, [3, 5]), pickle.loads(pickle.dumps(report)).coalitions:
             self.assertEqual((its, len(its), its[-1], its[1:], list(its), repr(its)), (wanted, 2, wanted[1], wanted[1:], wanted, repr(list(its))))
             self.assertNotEqual(its, wanted[:1])
         # one that nobody asks for is never made
-        self.assertEqual(len(reports.Coalitions(range(10**9), None)), 10**9)
+        self.assertEqual(len(members.Coalitions(range(10**9), None)), 10**9)
 
     def test_threads_at_once(self):
         wanted = [council.report(12, [4, 4, 4, 2, 2, 1], title=str(at)) for at in range(8)]
@@ -433,12 +433,35 @@ class Engines(unittest.TestCase):
                     self.compute(made, b"[1; 1]", program="no-such-program")
         # of a list only its masks, if there is room for them
         made, asked = make_library(0, LISTED.encode())
-        for status, wanted in (0, [(("1", "2"), (99,)), (("1", "3"), (51,))]), (5, None):
-            made.list_masks = mock.Mock(return_value=(status, None, [3, 5]))
+        for answer, wanted in ([3, 5], [(("1", "2"), (99,)), (("1", "3"), (51,))]), (library.NoAnswer(), None):
+            made.list_masks = mock.Mock(side_effect=[answer])
             with contextlib.nullcontext() if wanted else self.assertRaises(MemoryError):
                 self.assertEqual(self.compute(made, b"[1; 1]", listed=True, most=7).coalitions, wanted)
             made.list_masks.assert_called_once_with((51,), [(50, 49, 1)], 2)
         self.assertEqual(asked[0][1], [7, False, False, False, False])
+
+    def test_numbers_and_masks_of_the_library(self):
+        made, rooms = make_library(0, b"")[0], []
+
+        def call(*words):
+            summary = words[-1]._obj
+            rooms.append([it.value for it in words[:-1] if not isinstance(it, ctypes.Array)])
+            summary.rule, summary.coalitions = rule, 1
+            return status
+
+        made._calls.council_list = made._calls.council_indices = call
+        status, rule = 0, 0
+        # no more room than there can be coalitions
+        for most, room in (9, 6), (6, 6), (5, 5):
+            self.assertEqual(list(made.list_masks([2], [[1] * 4], most)), [0])
+            self.assertEqual(rooms.pop(), [1, 4, 4, room])
+        summary, numbers = made.count([2, 3], [[1] * 4, [2] * 4], True)
+        self.assertEqual((summary.coalitions, len(numbers), rooms.pop()), (1, 4, [2, 8, True, 0, 4]))
+        for status, rule, wanted in (3, 2, 2), (4, 0, None), (5, 0, None):
+            for ask in lambda: made.count([2], [[1]], False), lambda: made.list_masks([2], [[1]], 1):
+                with self.assertRaises(library.NoAnswer) as caught:
+                    ask()
+                self.assertEqual(caught.exception.rule, wanted)
 
     def test_what_the_library_answers(self):
         real, folder = find_program(), tempfile.TemporaryDirectory()
@@ -505,7 +528,7 @@ class Engines(unittest.TestCase):
             found = {it: value.replace("TOP", top) for it, value in variables.items()}
             kept = {it: value for it, value in os.environ.items() if it not in ("COUNCIL_PROGRAM", "COUNCIL_LIBRARY")}
             with mock.patch.dict(os.environ, {**kept, "PATH": f"{top}/bin", **found}, clear=True):
-                with mock.patch.multiple(engine, HOME=f"{top}/home/bin", CLONE=f"{top}/clone" if clone else None):
+                with mock.patch.multiple(finding, HOME=f"{top}/home/bin", CLONE=f"{top}/clone" if clone else None):
                     yield top
 
     def test_where_the_program_is(self):
@@ -528,7 +551,7 @@ class Engines(unittest.TestCase):
         ]:
             with self.subTest(files=files, named=named, more=more), self.laid_out(files, **more) as top:
                 try:
-                    found = engine.find_program(named and named.replace("TOP", top))
+                    found = find_program(named and named.replace("TOP", top))
                 except council.NotFound as it:
                     found = str(it)
                 self.assertEqual(found, wanted.replace("TOP", top))
@@ -542,14 +565,14 @@ class Engines(unittest.TestCase):
                 # (it is no library, which is as if it were for another system)
                 if "COUNCIL_LIBRARY" not in more:
                     self.assertIsNone(find_library())
-                with mock.patch.object(engine, "load_library", lambda path: path):
+                with mock.patch.object(finding, "load_library", lambda path: path):
                     self.assertEqual(find_library(), wanted and f"{top}/{wanted}")
         # as council.h has it
         self.assertEqual([ctypes.sizeof(it) for it in (library.Options, library.Ratio, library.Numbers, library.Summary)], [8, 32, 176, 416])
-        if Path(engine.__file__).resolve().parent == TOP / "python/src/council" and (TOP / "tools/built.sh").is_file():
-            self.assertEqual((engine.HOME, engine.CLONE), (str(TOP / "python/src/council"), str(TOP)))
-        with tempfile.TemporaryDirectory() as folder, mock.patch.object(engine, "__file__", f"{folder}/a.pyz/council/engine.py"):
-            self.assertEqual(engine.find_home(), os.path.realpath(folder))
+        if Path(finding.__file__).resolve().parent == TOP / "python/src/council" and (TOP / "tools/built.sh").is_file():
+            self.assertEqual((finding.HOME, finding.CLONE), (str(TOP / "python/src/council"), str(TOP)))
+        with tempfile.TemporaryDirectory() as folder, mock.patch.object(finding, "__file__", f"{folder}/a.pyz/council/finding.py"):
+            self.assertEqual(finding.find_home(), os.path.realpath(folder))
 
 
 class Parts(unittest.TestCase):
@@ -561,13 +584,13 @@ class Parts(unittest.TestCase):
 
     def test_numbers(self):
         half = Fraction(1, 2)
-        self.check_rows(reports.cut_off, (Fraction(2, 3), "0.666666"), (Fraction(0), "0.000000"), (half, 0, "0"), (25 * half, 1, "12.5"), (Fraction(1, 8), 2, "0.12"))
-        self.check_rows(reports.round_half_up, (Fraction(1, 8), 2, "0.13"), (Fraction(31, 250), 2, "0.12"), (half, 0, "1"), (Fraction(2, 5), 0, "0"), (199 * half, 0, "100"))
-        self.check_rows(reports.write_fraction, (Fraction(0), "0/1"), (half, "1/2"))
-        self.check_rows(reports.read_numbers, ("0", (0,)), ("12/7", (12, 7)))
+        self.check_rows(decimals.cut_off, (Fraction(2, 3), "0.666666"), (Fraction(0), "0.000000"), (half, 0, "0"), (25 * half, 1, "12.5"), (Fraction(1, 8), 2, "0.12"))
+        self.check_rows(decimals.round_half_up, (Fraction(1, 8), 2, "0.13"), (Fraction(31, 250), 2, "0.12"), (half, 0, "1"), (Fraction(2, 5), 0, "0"), (199 * half, 0, "100"))
+        self.check_rows(decimals.write_fraction, (Fraction(0), "0/1"), (half, "1/2"))
+        self.check_rows(decimals.read_numbers, ("0", (0,)), ("12/7", (12, 7)))
         for it in ("", "\xb2", "1/"):
             with self.assertRaises(ValueError, msg=it):
-                reports.read_numbers(it)
+                decimals.read_numbers(it)
         self.check_rows(Unit("", True, 2).write, (1650, "16.50%"), (5, "0.05%"))
         self.check_rows(Unit(places=1).write, (12345678, "1,234,567.8"))
         self.check_rows(Unit().write, (1234567, "1,234,567"), (0, "0"))
@@ -599,7 +622,7 @@ class Parts(unittest.TestCase):
         self.assertEqual(game.write_game(["A"] * 40, [1], [(1,)] * 40, "x" * 200).count("[[member]]"), 40)
         for words, text in [
             (([], [1], []), "there are 0 members, and a game has 1 to 40"), ((["A"] * 41, [1], [(1,)] * 41), "there are 41 members, and a game has 1 to 40"),
-            ((["A"], [1], [(1,)], "x" * 201), "the title has more than 200 bytes, or a letter that is none to read"),
+            ((["A"], [1], [(1,)], "x" * 201), "the title has more than 200 bytes, or a character that cannot be read"),
         ]:
             with self.assertRaises(Fault) as caught:
                 game.write_game(*words)
@@ -663,7 +686,7 @@ class Parts(unittest.TestCase):
 
     def test_what_is_hardly_meant_is_warned_of(self):
         for words, more, told in [
-            ((50, [50, 49, 1]), {}, ["the quota 50 is at most half of the total, 100: two coalitions"]), ((51, [50, 49, 1]), {}, []), (([51, 50], [[50, 50], [50, 50]]), {}, []),
+            ((50, [50, 49, 1]), {}, ["the quota 50 is at most half of the total, 100, so two coalitions"]), ((51, [50, 49, 1]), {}, []), (([51, 50], [[50, 50], [50, 50]]), {}, []),
             (([1, 1], [[1, 1], [2, 2]]), {"by": "rule"}, ["the quota 1 of rule 1 is", "the quota 1 of rule 2 is"]), ((), {"game": "[51; 1,000, 49, 51]"}, ["a comma ends a weight, also between thousands"]),
             ((), {"game": "[300; 1,500, 49]"}, ["a comma ends"]), ((), {"game": "[600; 100,500,49]"}, []), ((), {"game": "[51; 50, 49, 1]"}, []),
         ]:

@@ -6,8 +6,9 @@ from fractions import Fraction
 from xml.etree import ElementTree
 
 from cases import FORMS, HOSTILE, LOW, Run, Tests, hostile_game, main, put, report, stored
+from council.decimals import round_half_up
 from council.game import write_game
-from council.reports import Report, round_half_up
+from council.reports import Report
 from council.tools.drawing import escape_xml, find_round_step, find_ticks, measure, wrap, write_percent
 
 PLAIN = re.compile("[\x00-\x08\x0b\x0c\x0e-\x1f\x7f-\x9f\xad\u061c\u180e\u200b-\u200f\u2028-\u202e\u2060-\u206f\ufff9-\ufffb\U000e0000-\U000e007f\ufdd0-\ufdef\ufeff\ufffe\uffff]")
@@ -82,7 +83,7 @@ class Pictures(Tests):
             self.check_refused(Run("bars", "--decimals", places, input=stored("eec-1958")), "--decimals", status=2)
         for data in "", "quota = 1\n", b"title\t\xff\n":
             self.check_refused(Run("bars", input=data), status=1)
-        self.assertIn(f"the quota 5 is {LOW}, 10: two coalitions", Run("bars", input=report("[5; 4, 4, 2]")).err)
+        self.assertIn(f"the quota 5 is {LOW}, 10, so two coalitions", Run("bars", input=report("[5; 4, 4, 2]")).err)
 
 
 class Drawing(Tests):

@@ -6,8 +6,9 @@ import unicodedata
 from fractions import Fraction
 
 from cases import FORMS, HOSTILE, TEMP, TOP, Run, Tests, hostile_game, main, put, report, stored
+from council.decimals import cut_off
 from council.game import write_game
-from council.reports import Report, cut_off
+from council.reports import Report
 from council.tools.compare import is_near
 
 

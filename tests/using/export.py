@@ -12,8 +12,9 @@ import unicodedata
 from fractions import Fraction
 
 from cases import FORMS, HOSTILE, TEMP, Run, Tests, hostile_game, main, put, report, stored
+from council.decimals import cut_off, round_half_up, write_fraction
 from council.game import write_game
-from council.reports import Report, cut_off, round_half_up, write_fraction
+from council.reports import Report
 from council.tools.export import FORMATS, make_pair
 
 HARD, SEVERAL = report(hostile_game()), report(hostile_game(3))

@@ -10,9 +10,11 @@ from fractions import Fraction
 from unittest import mock
 
 from cases import FORMS, LOW, PROGRAM, TEMP, TOOLS, TOP, Run, Tests, hostile_game, main, put, report, stored
-from council.engine import NotFound, Refused
+from council.decimals import cut_off, round_half_up, write_fraction
+from council.engine import Refused
+from council.finding import NotFound
 from council.game import write_game
-from council.reports import Fault, Report, cut_off, round_half_up, write_fraction
+from council.reports import Fault, Report
 from council.tools import table
 
 WHOLE, LINE = "the report is not whole, or its numbers are not those of council", "is no line of a report"
@@ -30,7 +32,7 @@ class Large(Tests):
                     it.seek(0)
                 text, told = out.read(), err.read()
             self.assertTrue(status == 0 and used.ru_maxrss < 40000, (words, used.ru_maxrss))
-            self.assertEqual(told, f"council-tools {words[0]}: the quota 4 is {LOW}, 40: two coalitions without a common member could both win\n")
+            self.assertEqual(told, f"council-tools {words[0]}: the quota 4 is {LOW}, 40, so two coalitions without a common member could win\n")
             if words[-1] == "json":
                 self.assertEqual((len(json.loads(text)["coalitions"]), json.loads(text)["coalitions"][-1]), (most, {"members": ["37", "38", "39", "40"], "weights": [4]}))
             if words[0] == "page":

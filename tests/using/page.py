@@ -10,9 +10,10 @@ from html.parser import HTMLParser
 from unittest import mock
 
 from cases import FORMS, HOSTILE, LOW, PROGRAM, TEMP, TOP, Run, Tests, hostile_game, main, put, report, stored
-from council.game import write_game
 from council.columns import INDICES
-from council.reports import Report, cut_off, round_half_up, write_fraction
+from council.decimals import cut_off, round_half_up, write_fraction
+from council.game import write_game
+from council.reports import Report
 
 # a page shows U+FFFD instead of letters that it must not have
 REFUSED = re.compile("[\ufffe\uffff\u2028\u202e\x80-\x9f]")
@@ -91,7 +92,7 @@ class Pages(Tests):
         run = make(input=stored("eu-27-lisbon"))
         self.assertFalse(re.search("coalitions<|About the data|Source of the data|At most half|<p></p>|<ul></ul>", run.out))
         run_of_low = make(input=report("[5; 4, 4, 2]"))
-        self.assertTrue("At most half of the total wins" in run_of_low.out and f"the quota 5 is {LOW}, 10: two" in run_of_low.err)
+        self.assertTrue("At most half of the total wins" in run_of_low.out and f"the quota 5 is {LOW}, 10, so two" in run_of_low.err)
         readme = " ".join(open(f"{TOP}/README.md", encoding="utf-8").read().split())
         sources = re.findall("<li>(.*?)</li>", run.out[run.out.index("<footer>"):])
         sources += re.findall("<li>(.*?)</li>", make(input=report("[5; 4, 4, 2]", "--only-swings")).out.split("<footer>")[1])

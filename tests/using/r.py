@@ -10,8 +10,9 @@ from fractions import Fraction
 
 from cases import HOSTILE, PROGRAM, TEMP, TOP, Tests, main, put
 import oracle
+from council.decimals import write_fraction
 from council.game import write_game
-from council.reports import Report, write_fraction
+from council.reports import Report
 
 # reads each FILE, and the game of names.txt, and writes a line for each member
 SCRIPT = """

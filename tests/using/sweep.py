@@ -14,8 +14,9 @@ from xml.etree import ElementTree
 
 from cases import HOSTILE, LOW, PROGRAM, TEMP, TOOLS, TOP, Run, Tests, hostile_game, main, put, report
 from council.columns import INDICES, MINIMAL, SWINGS
+from council.decimals import cut_off, write_fraction
 from council.game import write_game
-from council.reports import Report, cut_off, write_fraction
+from council.reports import Report
 from council.tools.command import find_index
 from council.tools.drawing import measure
 from council.tools.sweep import Progress, spread
@@ -115,7 +116,7 @@ class Sweeps(Tests):
 
     def test_what_is_hardly_meant_is_warned_of(self):
         self.assertEqual(sweep(COUNCIL, "--from", "9").err, "")
-        self.assertIn(f"quotas up to 8 are {LOW}, 17: two coalitions", sweep(COUNCIL).err)
+        self.assertIn(f"quotas up to 8 are {LOW}, 17, so two coalitions", sweep(COUNCIL).err)
         self.assertIn(f"quotas up to 2,000 of rule 2 are {LOW}, 4,000", sweep("--rule", "2", "--from", "1000", "--step", "1000", "-", input=write_game("AB", [1, 1, 1], [[1, 2000, 1]] * 2)).err)
         for run in (sweep("-", "--from", "51", input=(slip := "[51; 1,000, 49, 1]")), Run("bars", "--game", put("slip.txt", slip), input=report(slip))):
             self.assertIn("a comma ends a weight", run.err)

@@ -21,9 +21,12 @@ from decimal import Decimal
 from fractions import Fraction
 from typing import Any, Iterable, Optional, Sequence, Union
 
-from .engine import NotFound, Refused, TooMany, compute, compute_numbers
+from .engine import Refused, TooMany, compute, compute_numbers
+from .finding import NotFound, find_library
 from .game import GAME_FILE, NAME, TITLE, describe_low_quotas, find_slips, format_game, is_text
-from .reports import MOST, Coalition, Member, Report
+from .library import NoAnswer
+from .members import Coalition, Member
+from .reports import MOST, Report
 
 __all__ = ["Coalition", "Member", "NotFound", "Refused", "Report", "TooMany", "format_game_file", "report"]
 __version__ = "1.2.0"
@@ -81,34 +84,38 @@ def report(
         raise ValueError(f"most is from 1 to {MOST:,}")
     if only_swings and (swings or coalitions):
         raise ValueError("only_swings=True goes without swings=True and coalitions=True")
-    made, rule = None, 0
+    only = bool(only_swings) if swings or only_swings else None
     if given[0]:
-        called, quotas, columns = read_parts(quota, weights, names, by)
-        if not only_swings and is_plain(called, [quotas, *columns], title):
-            made, rule = compute_numbers(title, called, list(map(int, quotas)), [list(map(int, its)) for its in columns], swings, most if coalitions else 0)
-        data = b"" if made else format_game(called, quotas, zip(*columns), title).encode()
+        made, text = compute_parts(title, *read_parts(quota, weights, names, by), coalitions, most, only), ""
     else:
         if names is not None or title or by is not None:
             raise TypeError("names, a title and by= belong to a quota and weights")
-        data = read(file) if file is not None else game if isinstance(game, bytes) else str(game).encode("utf-8", "surrogatepass")
-    try:
-        made = made or compute(data, listed=coalitions, most=most, only=only_swings if swings or only_swings else None)
-    except Refused as fault:
-        if not given[0]:
-            raise
-        # values that were never a file have no lines
-        told = re.sub(r"(?m)^line \d+(, column \d+)?: |: each member begins .*", "", fault.explanation).replace("the file has", "the game has")
-        raise type(fault)(fault.status, fault.fault, told, fault.game, rule or None) from None
+        if file is not None:
+            with open(file, "rb") as source:
+                # (no more of it than shows that it is too long)
+                game = source.read(GAME_FILE + 1)
+        data = game if isinstance(game, bytes) else str(game).encode("utf-8", "surrogatepass")
+        made, text = compute(data, listed=coalitions, most=most, only=only), data.decode()
     low = describe_low_quotas(made.quotas, made.totals)
-    for it in find_slips(data.decode()) + (low if len(low) == len(made.quotas) else []):
+    for it in find_slips(text) + (low if len(low) == len(made.quotas) else []):
         warnings.warn(it, stacklevel=2)
     return made
 
 
-def read(path: Union[str, "os.PathLike[str]"]) -> bytes:
-    """Reads a game file, and no more of it than shows that it is too long."""
-    with open(path, "rb") as it:
-        return it.read(GAME_FILE + 1)
+def compute_parts(title: str, names: list[str], quotas: list[str], columns: list[list[str]], listed: bool, most: int, only: Optional[bool]) -> Report:
+    """Returns the report of a game from its parts: by the library, if it takes them as numbers."""
+    library, rule = find_library(), None
+    if library and not only and is_plain(names, [quotas, *columns], title):
+        try:
+            return compute_numbers(library, title, names, list(map(int, quotas)), [list(map(int, its)) for its in columns], only is not None, most if listed else 0)
+        except NoAnswer as it:
+            rule = it.rule
+    try:
+        return compute(format_game(names, quotas, zip(*columns), title).encode(), listed=listed, most=most, only=only)
+    except Refused as fault:
+        # values that were never a file have no lines
+        told = re.sub(r"(?m)^line \d+(, column \d+)?: |: each member begins .*", "", fault.explanation).replace("the file has", "the game has")
+        raise type(fault)(fault.status, fault.fault, told, fault.game, rule) from None
 
 
 def format_game_file(quota: Any, weights: Any, *, names: Optional[Iterable[object]] = None, title: str = "", by: Optional[str] = None) -> str:
@@ -174,11 +181,12 @@ def is_number(value: Any) -> bool:
 
 
 def write_number(value: Any) -> str:
-    """Writes a quota or a weight. A whole number stays exact, of whatever type it is, and what is one
-    but for 10^-9, as 0.29 * 100, is that. Any other is written with its decimals, and council says
-    what is wrong with it."""
+    """Writes a quota or a weight. A whole number stays exact, of whatever type it is, and what is
+    one but for 10^-9, as 0.29 * 100, is that. Any other is written with its decimals, and council
+    says what is wrong with it."""
+    # (`str` refuses more than 4,300 digits of an int, but not of a Decimal)
     try:
-        return write_whole(operator.index(value))
+        return str(Decimal(operator.index(value)))
     except TypeError:
         if not is_number(value):
             raise TypeError(f"{value!r} is no number") from None
@@ -189,19 +197,12 @@ def write_number(value: Any) -> str:
     except ValueError:
         return "nan"
     exact = Fraction(value if isinstance(value, (numbers.Rational, Decimal)) else float(value))
-    return write_whole(whole) if abs(exact - whole) <= Fraction(1, 10**9) else repr(float(value))
-
-
-def write_whole(number: int) -> str:
-    """Writes a whole number of any length; Python's `str` refuses more than 4,300 digits."""
-    return str(Decimal(number))
+    return str(Decimal(whole)) if abs(exact - whole) <= Fraction(1, 10**9) else repr(float(value))
 
 
 def write_name(value: Any) -> str:
     """Writes a name, which is a text or a whole number."""
-    if isinstance(value, str):
-        return str(value)
     try:
-        return str(int(operator.index(value)))
+        return str(value if isinstance(value, str) else int(operator.index(value)))
     except TypeError:
         raise TypeError(f"{value!r} is no name") from None

@@ -5,7 +5,7 @@ from fractions import Fraction
 from typing import TYPE_CHECKING, NamedTuple, Optional, Sequence
 
 if TYPE_CHECKING:
-    from .reports import Member
+    from .members import Member
 
 
 class Index(NamedTuple):

@@ -1,6 +1,7 @@
 """Writes a game file of council, and reads the comments of one."""
 from __future__ import annotations
 
+import itertools
 import re
 import sys
 from typing import Any, Callable, Iterable, Sequence
@@ -11,34 +12,23 @@ MEMBERS, RULES, WEIGHT, NAME, TITLE, GAME_FILE = 40, 4, 10**12, 64, 200, 65536
 
 
 def is_text(text: str, most: int) -> bool:
-    """Returns whether a game file may have this text as a name or a title of at most `most`
-    bytes."""
+    """Returns whether a name or a title of at most `most` bytes may be this text."""
     return len(text.encode("utf-8", "surrogatepass")) <= most and all(it >= " " and it != "\x7f" and not "\ud800" <= it <= "\udfff" for it in text)
 
 
 def quote(text: str) -> str:
-    """Puts a text in quotes, as TOML reads it. Letters that end a line or move a terminal are
+    """Puts a text in quotes, as TOML reads it. Characters that end a line or move a terminal are
     written by number."""
-    letters = []
-    for it in text:
-        if it in '"\\':
-            letters.append("\\" + it)
-        elif it.isprintable():
-            letters.append(it)
-        else:
-            letters.append(f"\\u{ord(it):04X}" if ord(it) <= 0xFFFF else f"\\U{ord(it):08X}")
-    return '"' + "".join(letters) + '"'
+    codes = {ord(it): f"\\u{ord(it):04X}" if ord(it) <= 0xFFFF else f"\\U{ord(it):08X}" for it in text if not it.isprintable()}
+    return '"' + text.translate({ord('"'): '\\"', ord("\\"): "\\\\", **codes}) + '"'
 
 
 def quote_for_shell(text: str) -> str:
     """Writes a text as one word for bash or zsh."""
     if text.isprintable():
         return "'" + text.replace("'", "'\\''") + "'"
-    parts = []
-    for it in text:
-        plain = it.isprintable() and it not in "'!\\"
-        parts.append(it if plain else "".join(f"\\{byte:03o}" for byte in it.encode("utf-8", "surrogateescape")))
-    return "$'" + "".join(parts) + "'"
+    codes = {ord(it): "".join(f"\\{byte:03o}" for byte in it.encode("utf-8", "surrogateescape")) for it in text if not it.isprintable() or it in "'!\\"}
+    return "$'" + text.translate(codes) + "'"
 
 
 def write_game(names: Sequence[str], quotas: Sequence[int], weights: Iterable[Sequence[int]], title: str = "", comments: Iterable[str] = ()) -> str:
@@ -47,12 +37,8 @@ def write_game(names: Sequence[str], quotas: Sequence[int], weights: Iterable[Se
     if not 1 <= len(names) <= MEMBERS:
         raise Fault(f"there are {len(names)} members, and a game has 1 to {MEMBERS}")
     if not is_text(title, TITLE):
-        raise Fault(f"the title has more than {TITLE} bytes, or a letter that is none to read")
+        raise Fault(f"the title has more than {TITLE} bytes, or a character that cannot be read")
     return format_game(names, quotas, weights, title, comments)
-
-
-def write_list(numbers: Iterable[object]) -> str:
-    return "[" + ", ".join(map(str, numbers)) + "]"
 
 
 def format_game(names: Sequence[str], quotas: Sequence[object], weights: Iterable[Sequence[object]], title: str = "", comments: Iterable[str] = ()) -> str:
@@ -62,10 +48,10 @@ def format_game(names: Sequence[str], quotas: Sequence[object], weights: Iterabl
     if title:
         parts.append(f"title = {quote(title)}\n")
     one = len(quotas) == 1
-    parts.append(f"quota = {quotas[0]}\n" if one else f"quotas = {write_list(quotas)}\n")
+    parts.append(f"quota = {quotas[0]}\n" if one else f"quotas = [{', '.join(map(str, quotas))}]\n")
     for name, its in zip(names, weights):
         parts.append(f"\n[[member]]\nname = {quote(name)}\n")
-        parts.append(f"weight = {its[0]}\n" if one else f"weights = {write_list(its)}\n")
+        parts.append(f"weight = {its[0]}\n" if one else f"weights = [{', '.join(map(str, its))}]\n")
     return "".join(parts)
 
 
@@ -97,18 +83,17 @@ class Unit:
 
 def write_rule_comment(number: int, name: str, percent: bool, places: int, more: str) -> str:
     """Returns the comment that says what the weights of a rule are, and how they were found."""
-    parts = [quote(name)] if name else []
-    parts += ["percent"] if percent else []
-    parts += [f"{places} decimal{'' if places == 1 else 's'}"] if places else []
-    return f"Rule {number}: " + "; ".join([*([", ".join(parts)] if parts else []), more])
+    decimals = f"{places} decimal{'' if places == 1 else 's'}" if places else ""
+    unit = ", ".join(filter(None, [name and quote(name), "percent" if percent else "", decimals]))
+    return f"Rule {number}: {unit}{'; ' if unit else ''}{more}"
 
 
 def unquote(text: str) -> str:
     """Reads a text that `quote` has written, without the quotes round it."""
-    return re.sub(r"\\(?:u([0-9A-Fa-f]{4})|U([0-9A-Fa-f]{8})|(.))", decode_letter, text)
+    return re.sub(r"\\(?:u([0-9A-Fa-f]{4})|U([0-9A-Fa-f]{8})|(.))", decode_character, text)
 
 
-def decode_letter(match: re.Match[str]) -> str:
+def decode_character(match: re.Match[str]) -> str:
     if match[3]:
         return match[3]
     number = int(match[1] or match[2], 16)
@@ -128,10 +113,9 @@ def read_units(comments: Iterable[str], rules: int) -> list[Unit]:
 def describe_low_quotas(quotas: Sequence[int], totals: Sequence[int]) -> list[str]:
     """Says which quotas are at most half of their totals: 0.85 that was read as one vote, or a
     game in which two coalitions without a common member both win."""
-    low = [rule for rule, (quota, total) in enumerate(zip(quotas, totals)) if 2 * quota <= total]
-    both = ": two coalitions without a common member could both win" if len(low) == len(quotas) else ""
-    of = [f" of rule {rule + 1}" if len(quotas) > 1 else "" for rule in low]
-    return [f"the quota {quotas[rule]:,}{it} is at most half of the total, {totals[rule]:,}{both}" for rule, it in zip(low, of)]
+    low = [(f" of rule {rule}" if len(quotas) > 1 else "", quota, total) for rule, (quota, total) in enumerate(zip(quotas, totals), 1) if 2 * quota <= total]
+    both = ", so two coalitions without a common member could win" if len(low) == len(quotas) else ""
+    return [f"the quota {quota:,}{of} is at most half of the total, {total:,}{both}" for of, quota, total in low]
 
 
 def find_slips(text: str) -> list[str]:
@@ -143,18 +127,12 @@ def find_slips(text: str) -> list[str]:
 
 def find_comments(text: str) -> list[str]:
     """Returns the comments at the beginning of a game file, each without its sign."""
-    comments: list[str] = []
-    for line in text.split("\n"):
-        line = line.strip()
-        if line and not line.startswith("#"):
-            break
-        if line:
-            comments.append(line[1:].strip())
-    return comments
+    lines = filter(None, map(str.strip, text.split("\n")))
+    return [it[1:].strip() for it in itertools.takewhile(lambda it: it.startswith("#"), lines)]
 
 
 # what a game file is made of: texts, numbers, names and signs, between blanks and comments
-TOKEN = re.compile(r"""(?:\s|\#[^\n]*)*("(?:[^"\\\n]|\\.)*"|'[^'\n]*'|[+-]?\d\w*|[\w-]+|[][{},=]|\Z)""", re.A)
+TOKEN = re.compile(r"""(?:\s|\#[^\n]*\n)*("(?:[^"\\\n]|\\.)*"|'[^'\n]*'|[+-]?\d\w*|[\w-]+|[][{},=]|\Z)""", re.A)
 
 
 class Toml:

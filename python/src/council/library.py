@@ -5,6 +5,7 @@ Each call runs in a thread of its own, so an interrupt ends the wait for a long 
 from __future__ import annotations
 
 import ctypes
+import math
 import threading
 from array import array
 from ctypes import byref, c_bool, sizeof
@@ -46,39 +47,49 @@ class Summary(ctypes.Structure):
     _fields_ = [*[(it, U64) for it in ("size", "member_size", "fault", "member", "rule", "coalitions", "winning")], ("of_size", U64 * 41), ("totals", U64 * 4)]
 
 
+class NoAnswer(Exception):
+    """The library has no numbers of a game. `rule` is the rule of a fault, from 1, or None."""
+
+    def __init__(self, rule: Optional[int] = None):
+        self.rule = rule
+
+
 class Library:
-    """The library as a shared object. Each call returns its status first."""
+    """The library as a shared object. Instead of its numbers or masks there may be a NoAnswer."""
 
     def __init__(self, path: str):
         self.path = path
         self._calls: Any = ctypes.CDLL(path)
 
     def report(self, game: bytes, options: Options, only: Optional[bool]) -> tuple[int, str]:
-        """Returns the report of a game file without a list, or the fault of one. `only` says whether
-        nothing but swings is wanted, and is None if there are to be none."""
+        """Returns the status, and the report of a game file without a list or its fault. `only`
+        says whether nothing but swings is wanted, and is None if there are to be none."""
         text, length = ctypes.create_string_buffer(ROOM), U64()
         call, more = (self._calls.council_report, []) if only is None else (self._calls.council_swings_report, [c_bool(only)])
         status = run_aside(call, game, Size(len(game)), byref(options), *more, text, Size(ROOM), byref(length))
         return status, text.raw[: length.value].decode("utf-8")
 
-    def count(self, quotas: Sequence[int], columns: Sequence[Sequence[int]], swings: bool) -> tuple[int, Summary, Sequence[Numbers]]:
-        """Returns the numbers of a game or its fault, and those of each member."""
+    def count(self, quotas: Sequence[int], columns: Sequence[Sequence[int]], swings: bool) -> tuple[Summary, Sequence[Numbers]]:
+        """Returns the numbers of a game, and those of each member."""
         numbers = (Numbers * len(columns[0]))()
-        status, summary = self._ask(self._calls.council_indices, quotas, columns, c_bool(swings), U64(0), numbers, Size(len(numbers)))
-        return status, summary, list(numbers)
+        return self._ask(self._calls.council_indices, quotas, columns, c_bool(swings), U64(0), numbers, Size(len(numbers))), list(numbers)
 
-    def list_masks(self, quotas: Sequence[int], columns: Sequence[Sequence[int]], room: int) -> tuple[int, Summary, Sequence[int]]:
-        """Returns the number of coalitions or the fault of a game, and the coalitions, at most `room`."""
-        masks = (U64 * room)()
-        status, summary = self._ask(self._calls.council_list, quotas, columns, Size(len(columns[0])), masks, Size(room))
-        return status, summary, array("Q", b"" if status else bytes(memoryview(masks)[: summary.coalitions]))
+    def list_masks(self, quotas: Sequence[int], columns: Sequence[Sequence[int]], most: int) -> Sequence[int]:
+        """Returns the coalitions of a game, which has at most `most`."""
+        members = len(columns[0])
+        # (none is a part of another, so there are at most as many as sets of half of the members)
+        masks = (U64 * min(most, math.comb(members, members // 2)))()
+        summary = self._ask(self._calls.council_list, quotas, columns, Size(members), masks, Size(len(masks)))
+        return array("Q", bytes(memoryview(masks)[: summary.coalitions]))
 
-    def _ask(self, call: Any, quotas: Sequence[int], columns: Sequence[Sequence[int]], *words: Any) -> tuple[int, Summary]:
+    def _ask(self, call: Any, quotas: Sequence[int], columns: Sequence[Sequence[int]], *words: Any) -> Summary:
         """Calls with a game as arrays, `columns` being the weights of each rule."""
         weights = [it for its in columns for it in its]
         arrays = [word for its in (quotas, weights) for word in ((U64 * len(its))(*its), Size(len(its)))]
         summary = Summary(size=sizeof(Summary), member_size=sizeof(Numbers))
-        return run_aside(call, *arrays, *words, byref(summary)), summary
+        if run_aside(call, *arrays, *words, byref(summary)):
+            raise NoAnswer(summary.rule or None)
+        return summary
 
 
 def run_aside(call: Any, *words: Any) -> int:

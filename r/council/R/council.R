@@ -48,7 +48,8 @@ warn_of_slips <- function(bytes, quota, total) {
     warning("a comma ends a weight, also between thousands: 1,000 is read as 1 and 0", call. = FALSE)
   }
   if (all(2 * quota <= total)) {
-    warning("a quota is at most half of its total: two coalitions without a common member could both win", call. = FALSE)
+    low <- if (length(quota) == 1) "the quota is at most half of the total" else "each quota is at most half of its total"
+    warning(low, ", so two coalitions without a common member could win", call. = FALSE)
   }
 }
 

@@ -11,8 +11,9 @@ from __future__ import annotations
 from typing import Iterator, Sequence
 
 from ..columns import Index
+from ..decimals import round_half_up
 from ..game import Unit
-from ..reports import Report, round_half_up
+from ..reports import Report
 from .command import MANY, Words, add_index, add_report, choose_indices, read_comments, read_report
 from .drawing import SHARES, measure, name_share, wrap, write_picture, write_quota, write_text
 

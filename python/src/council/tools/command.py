@@ -8,7 +8,8 @@ import sys
 from typing import Any, Callable, NoReturn, Optional, Sequence, TextIO, TypeVar, cast
 
 from ..columns import INDICES, SWINGS, Index
-from ..engine import NotFound, Refused
+from ..engine import Refused
+from ..finding import NotFound
 from ..game import GAME_FILE, Unit, check_same, describe_low_quotas, find_comments, find_slips, read_units
 from ..reports import Fault, Report
 
@@ -18,7 +19,7 @@ T = TypeVar("T")
 
 
 def make_printable(text: object) -> str:
-    """Puts a text of the user on one line: each letter that moves a terminal, ends a line or shows
+    """Puts a text of the user on one line: each character that moves a terminal, ends a line or shows
     nothing is a blank."""
     return "".join(it if it.isprintable() else " " for it in str(text))
 
@@ -77,7 +78,7 @@ def run(main: Callable[[list[str]], None], words: list[str]) -> int:
         sys.stderr = sys.stderr or open(os.devnull, "r+", encoding="utf-8")
         cast(io.TextIOWrapper, sys.stdin).reconfigure(encoding="utf-8-sig")
         cast(io.TextIOWrapper, sys.stdout).reconfigure(encoding="utf-8", newline="\n")
-        if any("\ud800" <= letter <= "\udfff" for it in words for letter in it):
+        if any("\ud800" <= character <= "\udfff" for it in words for character in it):
             raise Fault("the command line is not UTF-8", 2)
         main(words)
         sys.stdout.flush()

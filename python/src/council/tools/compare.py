@@ -18,8 +18,10 @@ from fractions import Fraction
 from typing import Dict, Iterable, Iterator, List, Sequence
 
 from ..columns import Index
+from ..decimals import cut_off
 from ..game import Unit, quote, quote_for_shell
-from ..reports import Fault, Member, Report, cut_off
+from ..members import Member
+from ..reports import Fault, Report
 from .command import MANY, Words, add_index, choose_indices, make_printable, note, read_comments, read_report
 
 # the members of each game, by name

@@ -9,8 +9,9 @@ from fractions import Fraction
 from typing import Iterable, Iterator, Sequence
 from xml.sax.saxutils import escape
 
+from ..decimals import round_half_up
 from ..game import Unit, quote
-from ..reports import Report, round_half_up
+from ..reports import Report
 
 # what XML has no place for, what would turn the direction of a line, and what has no width
 REFUSED = re.compile("[^\t\n\r -\ud7ff\ue000-\ufffd\U00010000-\U0010ffff]|[\x7f-\x9f\xad\u061c\u180e\u200b-\u200f\u2028-\u202e\u2060-\u206f\ufeff\ufff9-\ufffb\U000e0000-\U000e007f]|[\ufdd0-\ufdef]")

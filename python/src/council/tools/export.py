@@ -6,8 +6,8 @@
               a spreadsheet would take for a formula has an apostrophe in front.
     json      The whole report: numbers as numbers, fractions as two integers, which are texts from
               2^53 on, and the coalitions if they are listed.
-    latex     A table for the package booktabs. Letters that pdflatex does not have are numbers.
-    markdown  A table, in which no letter of a name has a meaning of its own.
+    latex     A table for the package booktabs. Characters that pdflatex does not have are numbers.
+    markdown  A table, in which no character of a name has a meaning of its own.
 
 The columns of a table are name, weight, share (of the votes), coalitions, deegan_packel and
 public_good (decimals), deegan_packel_exact and public_good_exact (fractions), and of a report with
@@ -31,8 +31,10 @@ from fractions import Fraction
 from typing import Iterable, Iterator, Optional, Sequence
 
 from ..columns import INDICES, MINIMAL, SWINGS, Index
+from ..decimals import cut_off, round_half_up, write_fraction
 from ..game import Unit, quote
-from ..reports import Coalition, Fault, Member, Report, cut_off, round_half_up, write_fraction
+from ..members import Coalition, Member
+from ..reports import Fault, Report
 from .command import MANY, Words, add_index, add_report, choose_indices, make_printable, read_comments, read_lines, read_report, warn_of_low_quotas
 
 FORMATS = ["csv", "json", "latex", "markdown"]
@@ -108,8 +110,8 @@ def write_csv(report: Report, columns: Sequence[Column], places: Optional[int], 
         cells = []
         for it in columns:
             text = it.write(report, member, places)
-            # (a spreadsheet may skip blanks and letters without a width)
-            if next((letter for letter in text if letter.isprintable() and letter != " "), "") in tuple("=+-@＝＋－＠"):
+            # (a spreadsheet may skip blanks and characters without a width)
+            if next((character for character in text if character.isprintable() and character != " "), "") in tuple("=+-@＝＋－＠"):
                 text = "'" + text
             if it.kind in ("weight", *DECIMALS):
                 text = text.replace(".", decimal)
@@ -118,26 +120,26 @@ def write_csv(report: Report, columns: Sequence[Column], places: Optional[int], 
 
 
 def escape_latex(text: str) -> str:
-    """Writes a text so that LaTeX prints it letter by letter."""
+    """Writes a text so that LaTeX prints it character by character."""
     names = {"\\": "textbackslash", "~": "textasciitilde", "^": "textasciicircum", "<": "textless", ">": "textgreater", "|": "textbar"}
     text = unicodedata.normalize("NFC", text)
-    letters = []
+    characters = []
     for at, it in enumerate(text):
         if it in names:
-            letters.append(f"\\{names[it]}{{}}")
+            characters.append(f"\\{names[it]}{{}}")
         elif it in "&%$#_{}":
-            letters.append("\\" + it)
+            characters.append("\\" + it)
         elif it == '"':
-            letters.append("{\\char34}")
+            characters.append("{\\char34}")
         elif it in "[]*":
-            letters.append("{" + it + "}")
+            characters.append("{" + it + "}")
         elif it == " " and (at == 0 or at + 1 == len(text) or text[at - 1] == " "):
-            letters.append("\\ ")
+            characters.append("\\ ")
         elif it in "-'`,?!" and text[at + 1 : at + 2] in tuple("-'`,?!"):
-            letters.append(it + "{}")
+            characters.append(it + "{}")
         else:
-            letters.append(it)
-    return "".join(letters)
+            characters.append(it)
+    return "".join(characters)
 
 
 def write_caption(columns: Sequence[Column], places: int) -> list[str]:
@@ -148,11 +150,11 @@ def write_caption(columns: Sequence[Column], places: int) -> list[str]:
 def write_latex(report: Report, columns: Sequence[Column], places: int) -> Iterator[str]:
     yield from (f"% {it}" for it in [report.title, *write_caption(columns, places)] if it)
     yield "% \\usepackage{booktabs}, and \\usepackage[T1]{fontenc} for letters with accents"
-    for letter in sorted(set("".join(unicodedata.normalize("NFC", it.name) for it in report.members))):
-        if letter > "\u017f" or "\x7f" < letter < "\xa0":
-            # where this TeX has no such letter, its number
-            name = f"u8:\\detokenize{{{letter}}}\\endcsname"
-            yield f"\\ifcsname {name}\\else\\expandafter\\def\\csname {name}{{[U+{ord(letter):04X}]}}\\fi"
+    for character in sorted(set("".join(unicodedata.normalize("NFC", it.name) for it in report.members))):
+        if character > "\u017f" or "\x7f" < character < "\xa0":
+            # where this TeX has no such character, its number
+            name = f"u8:\\detokenize{{{character}}}\\endcsname"
+            yield f"\\ifcsname {name}\\else\\expandafter\\def\\csname {name}{{[U+{ord(character):04X}]}}\\fi"
     # many columns fit a page in a smaller font, with headings of several lines
     is_wide = len(columns) > 4
     size = "\\scriptsize\\tabcolsep=2pt" if len(columns) < 8 else "\\tiny\\tabcolsep=1pt"

@@ -245,7 +245,7 @@ class Table:
         names = [" ".join(it.split()) for it in self.cells[self.name]]
         for at, ((line, _), name) in enumerate(zip(self.rows, names)):
             if not fold(name) or not is_text(name, NAME):
-                raise Fault(f"{show(line, name, self.name)} is no name, with letters to read in at most {NAME} bytes: say --drop {line} if the row is no member")
+                raise Fault(f"{show(line, name, self.name)} is no name that can be read, in at most {NAME} bytes: say --drop {line} if the row is no member")
             first = found.setdefault(fold(name), [at])[0]
             if names[first] != name or not (first == at or self.words.sum):
                 # of panel data one year is read, a value that other rows have too

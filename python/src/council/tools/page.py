@@ -19,9 +19,11 @@ from fractions import Fraction
 from typing import Any, Iterable, Iterator, Optional, Sequence
 
 from ..columns import INDICES, Group, Index
-from ..engine import NotFound, find_program
+from ..decimals import cut_off, round_half_up
+from ..finding import NotFound, find_program
 from ..game import Unit, write_game
-from ..reports import Coalition, Fault, Report, cut_off, round_half_up
+from ..members import Coalition
+from ..reports import Fault, Report
 from .command import MANY, Words, add_index, choose_indices, read_comments, read_lines, warn_of_low_quotas
 from .drawing import SHARES, escape_xml, name_share, write_quota
 
@@ -202,7 +204,7 @@ def write_quotas(report: Report, units: Sequence[Unit]) -> Iterator[str]:
         its.append(write_quota(report, units, rule) + of)
     yield f"<p>A coalition wins with a weight of at least {' and '.join(its)}. Members: {len(report.members)}. {numbers}</p>"
     if all(2 * quota <= total for quota, total in zip(report.quotas, report.totals)):
-        yield "<p><b>At most half of the total wins, so two coalitions without a common member could both win.</b></p>"
+        yield "<p><b>At most half of the total wins, so two coalitions without a common member could win.</b></p>"
 
 
 def write_source(report: Section) -> Iterator[str]:

@@ -21,9 +21,11 @@ from fractions import Fraction
 from typing import Any, Callable, Iterable, Iterator, Optional, Sequence
 
 from ..columns import MINIMAL, SWINGS, Group, Index
-from ..engine import Refused, compute, find_program
+from ..decimals import cut_off, round_half_up, write_fraction
+from ..engine import Refused, compute
+from ..finding import find_program
 from ..game import GAME_FILE, Unit, find_comments, find_slips, quote, read_units, write_game
-from ..reports import Fault, Report, cut_off, round_half_up, write_fraction
+from ..reports import Fault, Report
 from .command import Words, add_index, find_index, make_printable, note
 from .drawing import COLORS, DASHES, find_round_step, find_ticks, measure, wrap, write_picture, write_text
 from .quotas import Quota, count_decimals
@@ -110,7 +112,7 @@ def warn_of_half(start: Report, rule: int, quotas: range, unit: Unit) -> None:
     others = [2 * quota <= total for quota, total in zip(start.quotas, start.totals)]
     if low and all(others[:rule] + others[rule + 1 :]):
         of = f" of rule {rule + 1}" if len(others) > 1 else ""
-        note(f"quotas up to {unit.write(low[-1])}{of} are at most half of the total, {unit.write(start.totals[rule])}: two coalitions without a common member could both win")
+        note(f"quotas up to {unit.write(low[-1])}{of} are at most half of the total, {unit.write(start.totals[rule])}, so two coalitions without a common member could win")
 
 
 def spread(wanted: Sequence[float], heights: Sequence[float], first: float, last: float) -> list[float]:

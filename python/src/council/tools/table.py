@@ -4,7 +4,7 @@
 """
 from __future__ import annotations
 
-from ..reports import write_fraction
+from ..decimals import write_fraction
 from .command import MANY, Words, add_index, add_report, choose_indices, make_printable, read_report
 
 
