@@ -14,6 +14,7 @@
 #include <stdbool.h>
 #include <stddef.h>
 #include <stdint.h>
+#include <stdlib.h>
 
 #ifdef __cplusplus
 extern "C" {
@@ -125,6 +126,33 @@ uint32_t council_indices(const uint64_t *quotas, size_t rules, const uint64_t *w
  */
 uint32_t council_list(const uint64_t *quotas, size_t rules, const uint64_t *weights, size_t count, size_t members,
 		      uint64_t *masks, size_t room, struct council_summary *summary);
+
+/*
+ * Hands the coalitions that council_list finds, at most `most` of them, to a function of yours: in their order, `block`
+ * of them at a time (1 or more) and what is left at the end. It goes on until the function returns false. The memory for
+ * all masks is taken before the first call, and freed after the last one.
+ *
+ * The status and the summary are those of council_list. If it is not 0, the function was not called.
+ */
+static inline uint32_t council_each(const uint64_t *quotas, size_t rules, const uint64_t *weights, size_t count,
+				    size_t members, size_t most, size_t block,
+				    bool (*function)(void *context, const uint64_t *masks, size_t number), void *context,
+				    struct council_summary *summary)
+{
+	size_t room = most < 4000000 ? most : 4000000, at = 0, number;
+	uint64_t *masks = (uint64_t *)malloc((room + 1) * sizeof *masks);
+	uint32_t status = COUNCIL_MEMORY;
+	if (masks)
+		status = council_list(quotas, rules, weights, count, members, masks, room, summary);
+	if (!status)
+		for (; at < summary->coalitions; at += number) {
+			number = block && block < summary->coalitions - at ? block : (size_t)summary->coalitions - at;
+			if (!function(context, masks + at, number))
+				break;
+		}
+	free(masks);
+	return status;
+}
 
 /*
  * Puts the words of a status into text, as much as fits into room bytes, with no byte 0 after them: "bad weight of member

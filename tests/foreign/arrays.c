@@ -259,6 +259,42 @@ static void compare_list(const struct game *game, const uint64_t *masks, size_t 
 		fail("another number of coalitions listed", number);
 }
 
+/* What council_each handed out. */
+struct handed {
+	uint64_t masks[1 << 10];
+	size_t number, block, calls, most_calls;
+};
+
+static bool take_block(void *context, const uint64_t *masks, size_t number)
+{
+	struct handed *handed = context;
+	if (number > handed->block || handed->number + number > sizeof handed->masks / sizeof *masks)
+		fail("a block is too long", (long)number);
+	memcpy(handed->masks + handed->number, masks, number * sizeof *masks);
+	handed->number += number;
+	return ++handed->calls < handed->most_calls;
+}
+
+/* Each block but the last is whole, and the function stops the calls. */
+static void compare_blocks(const struct game *game, size_t count, const uint64_t *masks, size_t all, long number)
+{
+	struct council_summary summary = no_summary();
+	for (size_t block = 1; block <= all + 1; block++)
+		for (size_t calls = 1; calls <= all + 1; calls += all) {
+			struct handed handed = {.block = block, .most_calls = calls};
+			size_t wanted = calls == 1 && block < all ? block : all;
+			if (council_each(game->quotas, game->rules, game->weights, count, game->members, all, block, take_block, &handed, &summary))
+				fail("no blocks", number);
+			if (handed.number != wanted || memcmp(handed.masks, masks, wanted * sizeof *masks))
+				fail("other blocks", number);
+			if (handed.calls != (wanted + block - 1) / block)
+				fail("blocks that are not whole", number);
+		}
+	struct handed none = {.block = 1, .most_calls = 1};
+	if (council_each(game->quotas, game->rules, game->weights, count, game->members, all - 1, 1, take_block, &none, &summary) != COUNCIL_TOO_MANY || none.calls)
+		fail("blocks of too many", number);
+}
+
 static void run_lists(long games, uint64_t state)
 {
 	for (long number = 0; number < games; number++) {
@@ -282,6 +318,8 @@ static void run_lists(long games, uint64_t state)
 					fail("a mask that is none was changed", number);
 			if (!status)
 				compare_list(&game, masks, found, number);
+			if (room == all && number % 8 == 0)
+				compare_blocks(&game, count, masks, all, number);
 			let_go(masks, room * sizeof *masks);
 		}
 	}
