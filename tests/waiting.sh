@@ -50,20 +50,20 @@ pub(crate) fn is_asleep(waker: &Waker) -> bool {
 
 /// Waits until the thread is about to sleep, and returns how often it looked again before.
 pub(crate) fn looks_before_sleep<R: Wait>(rt: &R, backoff: &mut Backoff, waker: &Waker) -> u32 {
-    for looks in 0..1_000 {
+    for looks in 0..4_000 {
         backoff.wait(rt, waker);
         if is_asleep(waker) {
             return looks;
         }
     }
-    1_000
+    4_000
 }
 
 #[test]
-fn a_thread_sleeps_after_512_looks(rt: HostRuntime) {
+fn a_thread_sleeps_after_2048_looks(rt: HostRuntime) {
     let waker = Waker::new();
     let mut backoff = Backoff::new();
-    assert!(rt; looks_before_sleep(&rt, &mut backoff, &waker) == 512);
+    assert!(rt; looks_before_sleep(&rt, &mut backoff, &waker) == 2_048);
     // it sleeps until the time is up, and then looks once before it sleeps again
     backoff.wait(&rt, &waker);
     assert!(rt; !is_asleep(&waker));
@@ -74,7 +74,7 @@ fn a_thread_sleeps_after_512_looks(rt: HostRuntime) {
 fn sleeps_make_the_looks_fewer_and_finds_make_them_more(rt: HostRuntime) {
     let waker = Waker::new();
     let mut backoff = Backoff::new();
-    for wanted in [512, 448, 392] {
+    for wanted in [2_048, 1_792, 1_568] {
         assert!(rt; looks_before_sleep(&rt, &mut backoff, &waker) == wanted);
         backoff.wait(&rt, &waker);
         backoff.renew(&waker);
@@ -87,7 +87,7 @@ fn sleeps_make_the_looks_fewer_and_finds_make_them_more(rt: HostRuntime) {
     backoff.renew(&waker);
     // nothing was looked for in between: it looks as often as before
     backoff.renew(&waker);
-    for wanted in [32, 64, 128, 256, 512, 512] {
+    for wanted in [32, 64, 128, 256, 512, 1_024, 2_048, 2_048] {
         assert!(rt; looks_before_sleep(&rt, &mut backoff, &waker) == wanted);
         backoff.renew(&waker);
         assert!(rt; !is_asleep(&waker));
@@ -135,7 +135,7 @@ fn wait_until_asleep(waker: &Waker) {
     }
 }
 
-/// Waits until the thread has slept some twenty times.
+/// Waits until the thread has slept some thirty times.
 pub(crate) fn wait_for_sleeps(waker: &Waker) {
     while waker.looks.load(Ordering::Relaxed) > 64 {
         hint::spin_loop();

@@ -16,7 +16,7 @@ use std::time::Duration;
 use std::{array, hint};
 
 /// How often a thread looks again before it sleeps, at most.
-const MOST_LOOKS: u32 = 512;
+const MOST_LOOKS: u32 = 2_048;
 
 /// How often a thread looks again before it sleeps, at least.
 const FEWEST_LOOKS: u32 = 32;
