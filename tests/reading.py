@@ -23,7 +23,7 @@ import sys
 import textwrap
 
 # lower them with each definition that goes; never raise them without a reason
-LIMIT = 445
+LIMIT = 439
 RINGS_LIMIT = 57
 # crate, source module, type or None, function or None for all
 HEADLINE = [

@@ -18,17 +18,19 @@ one_of_each() {
     done
 }
 
-# A game file of two rules that speak of different members: of each a quota, and twice how many
-# members of which weight. Each coalition that the first rule needs goes with each that the second
-# needs.
-two_parts() {
-    echo "quotas = [$1, $6]"
-    {
-        for ((at = 0; at < $2; at++)); do echo "$3, 0"; done
-        for ((at = 0; at < $4; at++)); do echo "$5, 0"; done
-        for ((at = 0; at < $7; at++)); do echo "0, $8"; done
-        for ((at = 0; at < $9; at++)); do echo "0, ${10}"; done
-    } | awk '{ printf "[[member]]\nname = \"%d\"\nweights = [%s]\n", NR, $0 }'
+# groups QUOTAS [COUNT WEIGHTS]..: a game file of several rules with this many members of these
+# weights.
+groups() {
+    local left names=0
+    echo "quotas = [$1]"
+    shift
+    while [ "$#" -gt 0 ]; do
+        for ((left = $1; left > 0; left--)); do
+            names=$((names + 1))
+            printf '[[member]]\nname = "%d"\nweights = [%s]\n' "$names" "$2"
+        done
+        shift 2
+    done
 }
 
 # listed NAME COUNT: the last run succeeded, and its report has COUNT coalitions, and as many lines
@@ -69,11 +71,12 @@ if needs python3 "games of 39 and 40 members and up to 4 rules"; then
     printed "the notation of 40 members of the greatest weight" "$temp/oracle"
 fi
 
-# ---- lists: 100 x 10,000 and 101 x 9,901 coalitions, and each six of 40 members
-two_parts 25 6 4 4 3 63 10 7 9 2 >"$temp/million.toml"
+# ---- lists: 100 x 10,000 and 101 x 9,901 coalitions (each that the first rule needs with each that
+# the second needs), and each six of 40 members
+groups "25, 63" 6 "4, 0" 4 "3, 0" 10 "0, 7" 9 "0, 2" >"$temp/million.toml"
 run "$temp/million.toml" --list
 listed "1000000 coalitions, as many as a run keeps by itself" 1000000
-two_parts 22 4 7 5 4 34 5 7 11 4 >"$temp/more.toml"
+groups "22, 34" 4 "7, 0" 5 "4, 0" 5 "0, 7" 11 "0, 4" >"$temp/more.toml"
 run "$temp/more.toml" --list
 refused "1000001 coalitions, one more than a run keeps by itself" 4 "$many"
 run "$temp/more.toml" --list --most 1000001 --workers 2
@@ -85,6 +88,14 @@ run --tally "$temp/six.txt"
 cp "$temp/out" "$temp/wanted"
 run "$temp/six.txt"
 printed "3838380 coalitions, counted by states" "$temp/wanted"
+
+# ---- billions of coalitions, which few states show: a walk to the first four million takes minutes
+groups "61, 51" 10 "9, 1" 30 "1, 3" >"$temp/billions.toml"
+run "$temp/billions.toml" --list --most 4000000
+refused "70705346310 coalitions" 4 "$many"
+groups "57, 244" 3 "16, 1" 9 "4, 4" 28 "1, 16" >"$temp/three.toml"
+run "$temp/three.toml" --list --most 4000000
+refused "three groups of 40 members" 4 "$many"
 
 # ---- fewer than there are
 equal_members 40 20 >"$temp/twenty.txt"

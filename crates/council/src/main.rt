@@ -71,7 +71,7 @@ fn hint(rt: &impl Eprint, cause: Cause) {
 /// What is said of a name that `is_misshown`.
 const MISSHOWN: &str = "has characters that move a terminal or show nothing";
 
-/// Returns whether a terminal may not show a text letter by letter: some move it or show nothing.
+/// Returns whether a text has characters that move a terminal or show nothing.
 fn is_misshown(alloc: Global, text: &str) -> bool {
     format!(in alloc; "{}", sanitize(text, text.len())).is_ok_and(|shown| shown.as_str() != text)
 }

@@ -1,4 +1,3 @@
 pub mod Coalitions
 pub mod Lists
 pub mod Options
-pub mod SizeCounts

@@ -1,7 +1,7 @@
 //! The observer of the workers of a run or a tally, and of a count by states.
 
 /// How many prefixes, or coalitions, of a slice there are between two calls of `Gate::inform`.
-pub const REPORT_EVERY: u64 = 1 << 20;
+pub const INFORM_EVERY: u64 = 1 << 20;
 
 /// An observer of the workers, which each of them passes before it walks a slice.
 ///
@@ -13,7 +13,7 @@ pub trait Gate {
     /// Notes progress inside a slice.
     ///
     /// Since the last call `prefixes` more prefixes were examined, and `found` more coalitions were
-    /// found. A worker calls this after each `REPORT_EVERY` prefixes or coalitions of a slice, and
+    /// found. A worker calls this after each `INFORM_EVERY` prefixes or coalitions of a slice, and
     /// at the end of the slice for the rest, so all calls of a finished run add up to all that it
     /// found.
     fn inform(&self, _prefixes: u64, _found: u64) {}

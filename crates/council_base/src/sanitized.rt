@@ -1,10 +1,10 @@
 //! Text from outside, made safe to show in a line on a terminal.
 use std::fmt::{self, Display, Formatter, Write};
 
-/// The letters that show nothing, as ranges, first and last.
+/// The characters that show nothing, as ranges, first and last.
 ///
 /// They are those that Unicode lists as default ignorable code points, and then separators of
-/// lines, the marks of annotations, a blank of Braille, and codes that are no letters.
+/// lines, the marks of annotations, a blank of Braille, and codes that are no characters.
 const INVISIBLE: &[(u32, u32)] = &[
     (0xAD, 0xAD),
     (0x34F, 0x34F),
@@ -29,21 +29,21 @@ const INVISIBLE: &[(u32, u32)] = &[
     (0xFDD0, 0xFDEF),
 ];
 
-/// Returns whether a letter can do harm in a line on a terminal.
+/// Returns whether a character can do harm in a line on a terminal.
 ///
 /// It moves the terminal, ends a line, turns the direction of writing, shows nothing, or is a blank
 /// of another width.
-fn is_harmful(letter: char) -> bool {
-    let code = u32::from(letter);
-    letter.is_control()
-        || letter.is_whitespace()
+fn is_harmful(character: char) -> bool {
+    let code = u32::from(character);
+    character.is_control()
+        || character.is_whitespace()
         || code & 0xFFFE == 0xFFFE
         || INVISIBLE
             .iter()
             .any(|(first, last)| *first <= code && code <= *last)
 }
 
-/// A writer that passes on `left` letters, dots instead of the next one, and no more.
+/// A writer that passes on `left` characters, dots instead of the next one, and no more.
 #[derive(Drop)]
 struct Cut<'a, W> {
     writer: &'a mut W,
@@ -52,7 +52,7 @@ struct Cut<'a, W> {
 
 impl<W: Write> Write for Cut<'_, W> {
     fn write_str(&mut self, text: &str) -> fmt::Result {
-        for letter in text.chars() {
+        for character in text.chars() {
             let Some(left) = self.left else {
                 break;
             };
@@ -60,7 +60,11 @@ impl<W: Write> Write for Cut<'_, W> {
             if left == 0 {
                 return self.writer.write_str("...");
             }
-            let shown = if is_harmful(letter) { ' ' } else { letter };
+            let shown = if is_harmful(character) {
+                ' '
+            } else {
+                character
+            };
             self.writer.write_char(shown)?;
         }
         Ok(())
@@ -76,8 +80,8 @@ pub struct Sanitized<T> {
 
 /// Makes text from outside safe to show, at most `most` characters of it.
 ///
-/// It shows a blank instead of each letter that moves a terminal, ends a line, turns the direction
-/// of writing, or shows nothing.
+/// It shows a blank instead of each character that moves a terminal, ends a line, turns the
+/// direction of writing, or shows nothing.
 pub fn sanitize<T: Display>(what: T, most: usize) -> Sanitized<T> {
     Sanitized { what, most }
 }

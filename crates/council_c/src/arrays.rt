@@ -1,5 +1,5 @@
 //! The game that arrays hold.
-ghost use Rattle.std.specs.Prelude.{◌≡◌, ◌+◌, ◌-◌, ◌*◌, ◌<◌, ◌^◌, All, IfOk, IfSome, length, map, min, nat_lt, position, slice_index, string_bytes, sum};
+ghost use Rattle.std.specs.Prelude.{◌≡◌, ◌+◌, ◌-◌, ◌*◌, ◌<◌, All, IfOk, IfSome, length, map, nat_lt, position, slice_index, string_bytes};
 ghost use Rattle.std.specs.Option.{option_map_or};
 ghost use Rattle.council_base.specs.declared.limits.TheConstants.{WEIGHT};
 ghost use Rattle.council_c.specs.Arrays.{game_of_arrays, rule_of_fault, rules_of};
@@ -77,24 +77,6 @@ pub(crate) fn game_of_arrays(
     Game::with_rules(alloc, None, names, rules)
 }
 
-/// Returns the sum of weights, or the greatest number if it is greater.
-fn capped_total(weights: &[u64]) -> u64
-    ensures { result ≡ min (sum weights.now) (2 ^ 64 - 1) }
-{
-    let mut total: u64 = 0;
-    for weight in weights {
-        total = total.saturating_add(*weight);
-    }
-    total
-}
-
-/// Returns whether the quota of a rule is 0, or above its total.
-fn has_bad_quota(rule: &Rule) -> bool
-    ensures { result ≡ has_bad_quota (rule_view rule.now) }
-{
-    rule.quota < 1 || capped_total(&rule.weights) < rule.quota
-}
-
 /// Returns whether a rule gives a member, counted from 1, a weight above the limit.
 fn is_heavy(rule: &Rule, member: u8) -> bool
     ensures { result ≡ nat_lt WEIGHT (slice_index (rule_view rule.now).weights (member - 1)) }
@@ -129,7 +111,7 @@ fn place_of_bad_quota(rules: &[Rule]) -> Option<usize>
     ensures place { result ≡ position (λ rule. has_bad_quota (rule_view rule)) rules.now }
     ensures bound { IfSome result (λ r. r < length rules.now) }
 {
-    rules.iter().position(|rule| has_bad_quota(rule))
+    rules.iter().position(|rule| rule.has_bad_quota())
 }
 
 /// Returns the rule that a fault is of, from 1; 0 if it is of none.

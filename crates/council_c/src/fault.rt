@@ -4,7 +4,7 @@ ghost use Rattle.council_c.specs.Answer.{Tells, status_of_call, text_of_call};
 ghost use Rattle.council_c.specs.declared.fault.Fault.TheVariants as fault;
 ghost use Rattle.council_run.specs.declared.fault.Cause.TheVariants as cause;
 
-use crate::put::put;
+use crate::page::put;
 use council_base::Memory;
 use council_run::{Cause, RunFault, status};
 use std::fmt;

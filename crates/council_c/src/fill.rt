@@ -10,8 +10,7 @@ ghost use Rattle.council_c.specs.Answer.{FillsBy, Reports, Shows, StopsCall, Sto
 
 use crate::fault::Fault;
 use crate::options::CouncilOptions;
-use crate::page::Page;
-use crate::put::put;
+use crate::page::{Page, put};
 use council_base::{Memory, Options, Plan, ReportLines};
 use council_file::parse_game;
 use council_game::Game;

@@ -18,7 +18,6 @@ mod masks;
 mod numbers;
 mod options;
 mod page;
-mod put;
 mod results;
 
 pub use call::{

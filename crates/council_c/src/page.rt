@@ -2,6 +2,7 @@
 ghost use Rattle.std.specs.Prelude.{◌≡◌, Some, []};
 ghost use Rattle.std.specs.Io.{WritesAtMost};
 ghost use Rattle.std.specs.Io.KnownBytes.{Keeps, WriteAppends};
+ghost use Rattle.council_c.specs.Answer.{Shows};
 
 use std::alloc::Global;
 use std::io;
@@ -53,4 +54,12 @@ impl Write for Page {
     {
         Ok(())
     }
+}
+
+/// Copies a text to the front of a buffer, as much of it as fits.
+pub(crate) fn put(text: &[u8], room: &mut [u8])
+    ensures { Shows text.now room.old room.new }
+{
+    let count = text.len().min(room.len());
+    room[..count].copy_from_slice(&text[..count]);
 }

@@ -117,10 +117,10 @@ impl<'a> Explanation<'a> {
 
     /// Says where a text can't be read on, what the line has, why, and what helps.
     ///
-    /// It returns the line, and the text before that place. The column is in characters.
-    pub fn explain_place(&mut self, place: usize, message: &str) -> (&'a str, &'a str) {
+    /// It returns the line, and the text before that byte. The column is in characters.
+    pub fn explain_place(&mut self, offset: usize, message: &str) -> (&'a str, &'a str) {
         let text = self.text;
-        let before = text.get(..place).unwrap_or(text);
+        let before = text.get(..offset).unwrap_or(text);
         let (_, front) = before.rsplit_once('\n').unwrap_or(("", before));
         let ends = before.matches('\n').count();
         let row = text.lines().nth(ends).unwrap_or("");
@@ -128,14 +128,14 @@ impl<'a> Explanation<'a> {
         let column = front.chars().count().saturating_add(1);
         self.line(format_args!("line {line}, column {column}: {}", short(row)));
         self.line(message);
-        self.explain_sign(place, front);
+        self.explain_sign(offset, front);
         (row, front)
     }
 
     /// Says what helps against a sign that is not of a game file, after the front of its line.
-    fn explain_sign(&mut self, place: usize, front: &str) {
+    fn explain_sign(&mut self, offset: usize, front: &str) {
         let text = self.text;
-        match text.as_bytes().get(place) {
+        match text.as_bytes().get(offset) {
             Some(b'%' | b'/') => self.line(GUIDE),
             Some(b'.') if front.trim_start() == "[0" && text.matches('.').count() == 1 => {
                 self.line("a share of the total: write how many votes that is");

@@ -86,11 +86,11 @@ impl Explanation<'_> {
                 "that looks like JSON: write lines such as quota = 51, and for each member [[member]], name = \"A\", weight = 50",
             );
         } else if !self.explain_table() {
-            let place = match error.span() {
+            let offset = match error.span() {
                 Some(span) => span.start,
                 None => self.text.len(),
             };
-            let (row, front) = self.explain_place(place, error.message());
+            let (row, front) = self.explain_place(offset, error.message());
             self.explain_slip(row, front, error.message());
         }
     }

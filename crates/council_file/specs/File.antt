@@ -92,40 +92,33 @@ are_members ds = (nat_le 1 (length ds) && nat_le (length ds) MEMBERS) && list_al
 unfoldable pub name_from : Data → List ℕ
 name_from d = unwrap_or (option_and_then as_str (get (codes "name") d)) []
 
--- A quota below 0 is out of range as 0 is.
-abbrev pub whole_quota : ℤ → ℕ
-whole_quota (pos n) = n
-whole_quota (negsuc n) = 0
+-- an integer of at least 0, or the number
+abbrev pub whole_or : ℕ → ℤ → ℕ
+whole_or other (pos n) = n
+whole_or other (negsuc n) = other
 
--- A weight below 0 is out of range as one above the limit is.
-abbrev pub whole_weight : ℤ → ℕ
-whole_weight (pos n) = n
-whole_weight (negsuc n) = 2 ^ 64 - 1
-
--- the integer, or else the number, which is out of range
-abbrev pub weight_from : Option Data → ℕ
-weight_from d = option_map_or whole_weight (option_and_then as_integer d) (2 ^ 64 - 1)
+-- An integer of at least 0, or the number, which is out of range: a quota of 0, or a weight above
+-- the limit.
+abbrev pub number_or : ℕ → Option Data → ℕ
+number_or other d = option_map_or (whole_or other) (option_and_then as_integer d) other
 
 -- the weight of a member in a game of one rule
 unfoldable pub only_weight : Data → ℕ
-only_weight d = weight_from (get (codes "weight") d)
+only_weight d = number_or (2 ^ 64 - 1) (get (codes "weight") d)
 
 -- the weight of a member under rule r of n
 unfoldable pub weight_under : ℕ → ℕ → Data → ℕ
 weight_under n r d =
     let ws = option_map_or elements_of (get (codes "weights") d) [] in
-    if length ws == n then weight_from (slice_get ws r) else 2 ^ 64 - 1
-
-abbrev pub quota_from : Option Data → ℕ
-quota_from d = option_map_or whole_quota (option_and_then as_integer d) 0
+    if length ws == n then number_or (2 ^ 64 - 1) (slice_get ws r) else 2 ^ 64 - 1
 
 unfoldable pub only_rule : Members → RuleView
-only_rule t = record { quota = quota_from (get_member (codes "quota") t); weights = map only_weight (member_list t) }
+only_rule t = record { quota = number_or 0 (get_member (codes "quota") t); weights = map only_weight (member_list t) }
 
 -- rule r of n
 unfoldable pub rule_from : Members → ℕ → ℕ → RuleView
 rule_from t n r =
-    record { quota = quota_from (slice_get (elements_at (codes "quotas") t) r); weights = map (weight_under n r) (member_list t) }
+    record { quota = number_or 0 (slice_get (elements_at (codes "quotas") t) r); weights = map (weight_under n r) (member_list t) }
 
 abbrev pub rules_of : Members → List RuleView
 rules_of t = if has_key (codes "quota") t then only_rule t ∷ []

@@ -1,5 +1,5 @@
 //! The members of a game in a tree, and their names.
-ghost use Rattle.council_file.specs.File.{member_list, are_members, name_from, weight_from, only_weight, weight_under};
+ghost use Rattle.council_file.specs.File.{member_list, are_members, name_from, number_or, only_weight, weight_under};
 ghost use Rattle.std.specs.Prelude.{◌≡◌, map, is_some, IfOk, string_bytes, option_map};
 ghost use Rattle.toml.specs.Data.{as_table};
 ghost use Rattle.toml.specs.View.{view, table_view};
@@ -62,13 +62,13 @@ pub(crate) fn names_of(alloc: Global, members: &[Value]) -> Result<Vec<String>, 
     Ok(names)
 }
 
-/// Returns a weight, or one above the limit if the value is none.
-fn weight_from(value: Option<&Value>) -> u64
-    ensures { result ≡ weight_from (option_map (λ v. view v.now) value.entry) }
+/// Returns an integer of at least 0, or another number, which is out of range.
+pub(crate) fn number_or(other: u64, value: Option<&Value>) -> u64
+    ensures { result ≡ number_or other (option_map (λ v. view v.now) value.entry) }
 {
     match value {
         Some(Value::Integer(n)) if 0 <= *n => *n as u64,
-        _ => u64::MAX,
+        _ => other,
     }
 }
 
@@ -77,7 +77,7 @@ fn weight_from(value: Option<&Value>) -> u64
 pub(crate) fn only_weight(member: &Value) -> u64
     ensures { result ≡ only_weight (view member.now) }
 {
-    weight_from(member.get("weight"))
+    number_or(u64::MAX, member.get("weight"))
 }
 
 /// Returns the weight of a member under rule r of n.
@@ -90,7 +90,7 @@ pub(crate) fn weight_under(member: &Value, n: usize, r: usize) -> u64
         None => &[],
     };
     if weights.len() == n {
-        weight_from(weights.get(r))
+        number_or(u64::MAX, weights.get(r))
     } else {
         u64::MAX
     }

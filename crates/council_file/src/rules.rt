@@ -1,12 +1,12 @@
 //! The rules of a game in a tree.
-ghost use Rattle.council_file.specs.File.{member_list, breaks_rules, only_rule, rule_from, rules_of, elements_at, are_quotas, has_key, lacks_quota, quota_from};
+ghost use Rattle.council_file.specs.File.{member_list, breaks_rules, only_rule, rule_from, rules_of, elements_at, are_quotas, has_key, lacks_quota, number_or};
 ghost use Rattle.council_game.specs.Rules.{rule_view, rule_views};
 ghost use Rattle.std.specs.List.{list_any, range_with_len};
 ghost use Rattle.std.specs.Prelude.{◌≡◌, map, is_some, [], IfOk, ◌∷◌, option_map, not, ◌&&◌, slice_get, codes};
 ghost use Rattle.toml.specs.Data.{get, as_integer};
 ghost use Rattle.toml.specs.View.{table_view, view};
 
-use crate::members::{member_list, only_weight, weight_under};
+use crate::members::{member_list, number_or, only_weight, weight_under};
 use crate::tree::{elements_at, has_key, value_at};
 use council_base::list_from_fn;
 use council_game::{Memory, Rule, limits};
@@ -53,21 +53,11 @@ pub(crate) fn lacks_quota(table: &Table) -> bool
     }
 }
 
-/// Returns a quota, or 0, which no rule may have, if the value is none.
-pub(crate) fn quota_from(value: Option<&Value>) -> u64
-    ensures { result ≡ quota_from (option_map (λ v. view v.now) value.entry) }
+/// Returns the quota of a rule, or 0, which no rule may have.
+fn quota_at(quotas: &[Value], r: usize) -> u64
+    ensures { result ≡ number_or 0 (slice_get (map view quotas.now) r) }
 {
-    match value {
-        Some(Value::Integer(n)) if 0 <= *n => *n as u64,
-        _ => 0,
-    }
-}
-
-/// Returns the quota of a rule.
-pub(crate) fn quota_at(quotas: &[Value], r: usize) -> u64
-    ensures { result ≡ quota_from (slice_get (map view quotas.now) r) }
-{
-    quota_from(quotas.get(r))
+    number_or(0, quotas.get(r))
 }
 
 /// Returns whether some member has the key.
@@ -124,7 +114,7 @@ fn rules_at(alloc: Global, table: &Table, n: usize) -> Result<Vec<Rule>, AllocEr
 fn lone_rule(alloc: Global, table: &Table) -> Result<Vec<Rule>, AllocError>
     ensures { IfOk result (λ v. rule_views v.items ≡ only_rule (table_view table.now) ∷ []) }
 {
-    let quota = quota_from(value_at(table, "quota"));
+    let quota = number_or(0, value_at(table, "quota"));
     let members = member_list(table);
     let weights = list_from_fn(alloc, members.len(), |k| only_weight(&members[k]))?;
     let mut rules = Vec::new(alloc);

@@ -1,5 +1,5 @@
 //! The checks of a game, in their order.
-ghost use Rattle.std.specs.Prelude.{◌≡◌, ◌≤◌, ◌<◌, ◌^◌, length, map, not, string_bytes, sum, min, ◌-◌, position, nat_eq, IfSome};
+ghost use Rattle.std.specs.Prelude.{◌≡◌, ◌≤◌, ◌<◌, length, map, not, string_bytes, position, nat_eq, IfSome};
 ghost use Rattle.std.specs.List.{list_any};
 ghost use Rattle.std.specs.Cmp.Lexicographic.{pointwise};
 ghost use Rattle.council_base.specs.declared.limits.TheConstants.{MEMBERS, WEIGHT};
@@ -124,31 +124,13 @@ pub(crate) fn check_weights(rules: &[Rule], members: usize) -> Result<(), GameFa
     Ok(())
 }
 
-/// Returns the total of the weights, or the greatest number if it is greater.
-pub(crate) fn capped_total(weights: &[u64]) -> u64
-    ensures { result ≡ min (sum weights.now) (2 ^ 64 - 1) }
-{
-    let mut total: u64 = 0;
-    for weight in weights {
-        total = total.saturating_add(*weight);
-    }
-    total
-}
-
-/// Returns whether a quota is 0, or above the total of its rule.
-fn has_bad_quota(rule: &Rule) -> bool
-    ensures { result ≡ has_bad_quota (rule_view rule.now) }
-{
-    rule.quota < 1 || capped_total(&rule.weights) < rule.quota
-}
-
 /// Returns whether some rule has a quota that is out of range.
 #[tactic(auto, using(crate::proofs::Shared::Lists::found_any))]
 pub(crate) fn has_quota_fault(rules: &[Rule]) -> bool
     ensures { result ≡ list_any has_bad_quota (rule_views rules.now) }
 {
     for rule in rules {
-        if has_bad_quota(rule) {
+        if rule.has_bad_quota() {
             return true;
         }
     }

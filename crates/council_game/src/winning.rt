@@ -1,11 +1,13 @@
 //! Whether a coalition wins, and whether it is minimal.
-ghost use Rattle.std.specs.Prelude.{◌≡◌, ◌≤◌, length, sum};
-ghost use Rattle.council_base.specs.declared.limits.TheConstants.{MEMBERS, TOTAL};
-ghost use Rattle.council_game.specs.Votes.{IsVotes, weight, wins, minimal};
+ghost use Rattle.std.specs.Prelude.{◌≡◌, ◌≤◌, length, sum, ◌^◌, IfOk};
+ghost use Rattle.council_base.specs.declared.limits.TheConstants.{MEMBERS, TOTAL, PLAIN_MEMBERS};
+ghost use Rattle.council_game.specs.Votes.{IsVotes, weight, wins, minimal, minimal_coalitions};
 ghost use Rattle.council_game.specs.Rules.{rule_views};
 ghost use Rattle.council_game.specs.Inner.Held.{votes};
+ghost use Rattle.council_game.specs.Game.{votes_of};
 
-use crate::{Coalition, Rule};
+use crate::{Coalition, Game, Memory, Rule};
+use std::alloc::Global;
 
 /// Returns the weight of a coalition: the last place is the lowest digit.
 #[tactic(auto, unfolding(crate::specs::Votes::has))]
@@ -54,4 +56,28 @@ pub(crate) fn is_minimal(rules: &[Rule], members: usize, coalition: Coalition) -
         }
     }
     true
+}
+
+/// Lists the minimal winning coalitions by trying each coalition.
+///
+/// The game has at most 20 members. The list is in listing order.
+///
+/// # Errors
+///
+/// Memory if an allocation was refused.
+pub fn plain_list(alloc: Global, game: &Game) -> Result<Vec<Coalition>, Memory>
+    requires { length game.now.names ≤ PLAIN_MEMBERS }
+    ensures all { IfOk result (λ v. v.items ≡ minimal_coalitions (votes_of game.now)) }
+    ensures some { IfOk result (λ v. 1 ≤ length v.items) }
+    ensures few { IfOk result (λ v. length v.items ≤ 2 ^ PLAIN_MEMBERS) }
+{
+    let members = game.members();
+    let mut list = Vec::new(alloc);
+    for mask in (0..1 << members).rev() {
+        let coalition = Coalition::of_mask(mask);
+        if game.is_minimal(coalition) {
+            list.push(coalition)?;
+        }
+    }
+    Ok(list)
 }

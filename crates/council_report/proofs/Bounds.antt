@@ -21,7 +21,7 @@ use Rattle.council_report.specs.SwingLines.{added_fields, swing_fields}
 use Rattle.council_report.specs.Inner.{Lines.fields_of, Lines.fields_of_counts, Lines.lines_of_members, Lines.lines_of_sizes, Lines.sizes_of_counts}
 use Rattle.council_report.specs.Inner.Numbers.{AreSomeCounts}
 
--- fields of at most so many letters
+-- fields of at most so many characters
 abbrev pub AreFields : ℕ → List (List ℕ) → Type 0
 AreFields most fields = AllByRecursion (λ field. length field ≤ most) fields
 

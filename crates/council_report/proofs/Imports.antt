@@ -5,7 +5,7 @@ pub use Rattle.council_game.specs.{Game.GameView, Game.IsGame, Game.votes_of, Vo
 pub use Rattle.council_report.specs.{Inner.Lines.line_of_member, Inner.Lines.line_of_size, declared.game_numbers.GameNumbers.GameNumbers}
 pub use Rattle.council_report.specs.{Inner.Ready.AppendsInRoom, Lines.names_of, Lines.with_tab, Report.coalition_lines, declared.output.Block.Block}
 pub use Rattle.council_report.specs.Inner.Writing.{KeepsReady}
-pub use Rattle.council_report.specs.Inner.SharedLine.{AreSeats, HasNoneFrom, IsLine, IsReadyLine, IsSeat, SameBefore}
+pub use Rattle.council_report.specs.Inner.SharedLine.{AreLabels, HasNoneFrom, IsLine, IsReadyLine, IsLabel, SameBefore}
 pub use Rattle.council_report.specs.Inner.Written.{Calls, Ends, Progress, Advances, count_of, progress_of}
 pub use Rattle.power_index.proofs.Shared.Members.{few-members}
 pub use Rattle.power_index.specs.Tables.{table_of_member_size}

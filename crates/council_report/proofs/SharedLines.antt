@@ -1,12 +1,12 @@
 -- A line at its end, one place more, and cut at a place.
 use Rattle.council_report.proofs.Imports.{GameView, IsGame, votes_of, few-members, with_tab, names_of, places_before, ◌≡◌, ℕ, ◌+◌, ◌^◌, ◌<◌}
-use Rattle.council_report.proofs.Imports.{◌≤◌, ◌++◌, true, List, [], ◌∷◌, length, take, get_or, arith, IsSeat, AreSeats, IsLine, SameBefore}
+use Rattle.council_report.proofs.Imports.{◌≤◌, ◌++◌, true, List, [], ◌∷◌, length, take, get_or, arith, IsLabel, AreLabels, IsLine, SameBefore}
 use Rattle.council_report.proofs.Imports.{length-append, flat_map, cases_lt, length-set, nat_tests, common_steps, has, weight, rule_at}
 use Rattle.council_report.proofs.Imports.{fields_of}
 use Rattle.std.proofs.Common.{Global, vec_capacity, Vec, set, get_or-set_other, get_or-set_same}
 use Rattle.std.proofs.Math.Seq.{take-append_seam}
 use Rattle.council_report.specs.{Inner.SharedLine.IsSubtotal, Inner.SharedLine.IsWholeLine, declared.shared_line.SharedLine.SharedLine}
-use Rattle.council_report.specs.declared.{seat.Seat.Seat, subtotal.Subtotal.Subtotal}
+use Rattle.council_report.specs.declared.{label.Label.Label, subtotal.Subtotal.Subtotal}
 use Rattle.council_report.proofs.Beginnings.{before-none, before-in, before-same, before-front, before-all, fields-none, fields-append}
 use Rattle.council_report.proofs.Beginnings.{fields-more, fields-fit, weights-none, weights-more, weights-all, weights-light}
 
@@ -31,34 +31,34 @@ pub subtotals-more : (g : GameView) (c : ℕ) (sums : List Subtotal) (k : ℕ) (
     (j : ℕ) (d : Subtotal) → j ≤ k + 1 → IsSubtotal g (places_before (length g.names) c j) (get_or (set sums (k + 1) next) j d)
 subtotals-more g c sums k next long few each last j d le = grind (arith, nat_tests, cases_lt, get_or-set_other, get_or-set_same)
 
--- a subtotal with the seat of place p more
-pub subtotal-more : (g : GameView) (ps : List ℕ) (p : ℕ) (now next : Subtotal) (seat : Seat) → IsSubtotal g ps now → IsSeat g p seat →
-    next.length ≡ now.length + length seat.field.items → length next.weights ≡ 4 →
-    ((r : ℕ) → r < 4 → get_or next.weights r 0 ≡ get_or now.weights r 0 + get_or seat.weights r 0) → IsSubtotal g (ps ++ p ∷ []) next
-subtotal-more g ps p now next seat is seat-is long four sums = grind (arith, nat_tests, fields-more, length-append, weights-more)
+-- a subtotal with the label of place p more
+pub subtotal-more : (g : GameView) (ps : List ℕ) (p : ℕ) (now next : Subtotal) (label : Label) → IsSubtotal g ps now → IsLabel g p label →
+    next.length ≡ now.length + length label.field.items → length next.weights ≡ 4 →
+    ((r : ℕ) → r < 4 → get_or next.weights r 0 ≡ get_or now.weights r 0 + get_or label.weights r 0) → IsSubtotal g (ps ++ p ∷ []) next
+subtotal-more g ps p now next label is label-is long four sums = grind (arith, nat_tests, fields-more, length-append, weights-more)
 
 -- the next place, which is in
-pub line-added : (g : GameView) (line : SharedLine) (names : Vec ℕ Global) (subtotal : Subtotal) (seat : Seat) → IsLine g line
+pub line-added : (g : GameView) (line : SharedLine) (names : Vec ℕ Global) (subtotal : Subtotal) (label : Label) → IsLine g line
     → line.end < length g.names → has (length g.names) line.end line.coalition ≡ true →
-    IsSeat g line.end seat → IsSubtotal g (places_before (length g.names) line.coalition line.end ++ line.end ∷ []) subtotal →
-    names.items ≡ line.names.items ++ seat.field.items → vec_capacity line.names ≤ vec_capacity names →
+    IsLabel g line.end label → IsSubtotal g (places_before (length g.names) line.coalition line.end ++ line.end ∷ []) subtotal →
+    names.items ≡ line.names.items ++ label.field.items → vec_capacity line.names ≤ vec_capacity names →
     IsLine g (record line { names = names; end = line.end + 1; subtotals = set line.subtotals (line.end + 1) subtotal })
-line-added g line names subtotal seat is more in' seat-is subtotal-is put room =
+line-added g line names subtotal label is more in' label-is subtotal-is put room =
     grind (arith, nat_tests, before-in, fields-more, length-set, subtotals-more)
 
 -- with the next place, which is in, no sum wraps
-pub added-light : (g : GameView) (line : SharedLine) (d : Subtotal) (seat : Seat) → IsLine g line → line.end < length g.names
-    → has (length g.names) line.end line.coalition ≡ true → IsSeat g line.end seat →
-    (r : ℕ) → r < 4 → get_or (get_or line.subtotals line.end d).weights r 0 + get_or seat.weights r 0 < 2 ^ 64
-added-light g line d seat is more in' seat-is r lt =
+pub added-light : (g : GameView) (line : SharedLine) (d : Subtotal) (label : Label) → IsLine g line → line.end < length g.names
+    → has (length g.names) line.end line.coalition ≡ true → IsLabel g line.end label →
+    (r : ℕ) → r < 4 → get_or (get_or line.subtotals line.end d).weights r 0 + get_or label.weights r 0 < 2 ^ 64
+added-light g line d label is more in' label-is r lt =
     let light = weights-light g is.game r line.coalition (line.end + 1) (omega (arith, more)) in
     grind (arith, common_steps, weights-more, before-in)
 
 -- and the names still fit
-pub added-short : (g : GameView) (line : SharedLine) (seat : Seat) → IsLine g line → line.end < length g.names
-    → has (length g.names) line.end line.coalition ≡ true → IsSeat g line.end seat →
-    length line.names.items + length seat.field.items ≤ 3400
-added-short g line seat is more in' seat-is =
+pub added-short : (g : GameView) (line : SharedLine) (label : Label) → IsLine g line → line.end < length g.names
+    → has (length g.names) line.end line.coalition ≡ true → IsLabel g line.end label →
+    length line.names.items + length label.field.items ≤ 3400
+added-short g line label is more in' label-is =
     let fit = fields-fit g is.game line.coalition (line.end + 1) (omega (arith, more, is.few)) in
     grind (arith, common_steps, nat_tests, length-append, before-in, fields-more)
 
@@ -76,10 +76,10 @@ pub none-subtotal : (g : GameView) (sum : Subtotal) → sum.length ≡ 0 → len
     → IsSubtotal g [] sum
 none-subtotal g sum none four light = grind (arith, nat_tests, fields-none, weights-none)
 
-pub line-first : (g : GameView) (line : SharedLine) → IsGame g → AreSeats g (length g.names) line.seats.items → line.end ≡ 0
+pub line-first : (g : GameView) (line : SharedLine) → IsGame g → AreLabels g (length g.names) line.labels.items → line.end ≡ 0
     → line.names.items ≡ [] → 4096 ≤ vec_capacity line.names → length line.subtotals ≡ 41 →
     ((d : Subtotal) → IsSubtotal g [] (get_or line.subtotals 0 d)) → IsLine g line
-line-first g line game seats start none room long subtotal = grind (arith, nat_tests, before-none, few-members, fields-none)
+line-first g line game labels start none room long subtotal = grind (arith, nat_tests, before-none, few-members, fields-none)
 
 -- what the names of a whole line rest on
 pub ruleset whole = (whole-names)

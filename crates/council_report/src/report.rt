@@ -55,9 +55,9 @@ fn write_numbers<W: Sink>(
 
 /// Writes the report of a game over a list of its coalitions, and flushes once.
 ///
-/// The counts are those of the list. The list itself need be there, in pieces, only if it is shown,
-/// in its order; it has at least one coalition and at most 2^40, none of them empty. If there are
-/// swings, they are shown too. The answer is the number of bytes.
+/// The list has at least one coalition, and the counts are its own. The pieces have at most 2^40
+/// coalitions, none of them empty; if the list is shown, they are the list, one after the other. If
+/// there are swings, they are shown too. The answer is the number of bytes.
 ///
 /// No byte goes out before all memory is there.
 ///

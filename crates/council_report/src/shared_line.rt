@@ -8,9 +8,9 @@ ghost use Rattle.council_report.specs.Lines.{coalition_line, with_tab, with_slas
 ghost use Rattle.council_report.specs.Inner.Ready.{AppendsInRoom};
 ghost use Rattle.council_report.specs.Inner.SharedLine.{HasNoneFrom, IsLine, IsReadyLine, IsWholeLine, SameBefore};
 
+use crate::label::{Label, labels_of};
 use crate::lines::{push_number, push_values};
 use crate::output::{Block, LINE};
-use crate::seat::{Seat, seats_of};
 use crate::subtotal::Subtotal;
 use council_game::{Coalition, Game, limits};
 use std::alloc::{AllocError, Global};
@@ -47,7 +47,7 @@ fn past_last(members: usize, coalition: Coalition) -> usize
 #[derive(Drop)]
 pub(crate) struct SharedLine {
     /// What each member adds, by rank.
-    pub(crate) seats: Vec<Seat>,
+    pub(crate) labels: Vec<Label>,
     /// The coalition whose line this is.
     pub(crate) coalition: Coalition,
     /// The names of its members, each after a TAB.
@@ -64,7 +64,7 @@ impl SharedLine {
         ensures { IfOk result (IsReadyLine game.now) }
     {
         Ok(SharedLine {
-            seats: seats_of(alloc, game)?,
+            labels: labels_of(alloc, game)?,
             coalition: Coalition::of_mask(0),
             // memory: a line, whose room a clause says
             names: Vec::with_capacity(alloc, LINE)?,
@@ -110,10 +110,10 @@ impl SharedLine {
         ensures coalition { self.new.coalition ≡ self.old.coalition }
         ensures end { self.new.end ≡ self.old.end + 1 }
     {
-        let seat = &self.seats[self.end];
+        let label = &self.labels[self.end];
         let subtotal = self.subtotals[self.end];
-        let subtotal = subtotal.with(seat);
-        match self.names.extend_from_slice(&seat.field) {
+        let subtotal = subtotal.with(label);
+        match self.names.extend_from_slice(&label.field) {
             Ok(()) => {}
             Err(_) => unreachable!(),
         }

@@ -2,7 +2,7 @@
 ghost use Rattle.std.specs.Prelude.{◌≡◌, ◌+◌, ◌^◌, ◌<◌, ℕ, length, slice_index};
 ghost use Rattle.council_base.specs.declared.limits.TheConstants.{RULES};
 
-use crate::seat::Seat;
+use crate::label::Label;
 use council_game::limits;
 
 /// How long the names of the members before a place are, and what these weigh under each rule.
@@ -26,24 +26,24 @@ impl Subtotal {
     }
 
     /// Returns the subtotal with one member more.
-    pub(crate) fn with(self, seat: &Seat) -> Subtotal
-        requires length { self.length + length seat.now.field.items < 2 ^ 64 }
+    pub(crate) fn with(self, label: &Label) -> Subtotal
+        requires length { self.length + length label.now.field.items < 2 ^ 64 }
         requires long { length self.weights ≡ RULES }
-        requires seat_long { length seat.now.weights ≡ RULES }
+        requires label_long { length label.now.weights ≡ RULES }
         requires weights { (r : ℕ) → r < RULES →
-            slice_index self.weights r + slice_index seat.now.weights r < 2 ^ 64 }
-        ensures length { result.length ≡ self.length + length seat.now.field.items }
+            slice_index self.weights r + slice_index label.now.weights r < 2 ^ 64 }
+        ensures length { result.length ≡ self.length + length label.now.field.items }
         ensures long { length result.weights ≡ RULES }
         ensures weights { (r : ℕ) → r < RULES →
             slice_index result.weights r ≡
-            slice_index self.weights r + slice_index seat.now.weights r }
+            slice_index self.weights r + slice_index label.now.weights r }
     {
         let mut weights = self.weights;
         for rule in 0..limits::RULES {
-            weights[rule] += seat.weights[rule];
+            weights[rule] += label.weights[rule];
         }
         Subtotal {
-            length: self.length + seat.field.len(),
+            length: self.length + label.field.len(),
             weights,
         }
     }

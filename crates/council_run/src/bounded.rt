@@ -5,9 +5,8 @@ ghost use Rattle.council_run.specs.Bounded.{IsTooLong};
 ghost use Rattle.mwc_walk.specs.WalkView.{given};
 ghost use Rattle.power_index.specs.Tables.{AreCountsOfGame};
 
-use crate::counting::{MOST_STATES, count_states};
+use crate::counting::{MOST_STATES, choose_game, count_states};
 use crate::found::on_heap;
-use crate::order::choose_game;
 use council_base::{Memory, NoGate};
 use council_game::Game;
 use mwc_walk::laws::one_slice_is_the_whole;

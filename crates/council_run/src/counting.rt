@@ -1,34 +1,37 @@
 //! Counting the coalitions of a game, and keeping none: by states, and if these are too many, by
 //! worker threads or by one walk.
-ghost use Rattle.std.specs.Prelude.{◌≡◌, ◌⊎◌, IfErr, IfOk, IfSome, None, false};
+ghost use Rattle.std.specs.Prelude.{◌≡◌, ◌⊎◌, IfErr, IfOk, IfSome, None, false, unwrap_or};
 ghost use Rattle.council_base.specs.declared.report_lines.ReportLines.{ReportLines};
 ghost use Rattle.council_run.specs.Run.{count_of};
 ghost use Rattle.council_run.specs.Found.{Finds, GatherFaultIs, IsWorkersFault};
 ghost use Rattle.council_run.specs.declared.fault.Cause.TheVariants as cause;
 ghost use Rattle.mwc_gather.specs.declared.fault.GatherFault.TheVariants as gather;
-ghost use Rattle.power_index.specs.Tables.{AreCountsOfGame};
+ghost use Rattle.power_index.specs.Tables.{AreCountsOfGame, Tables};
 ghost use Rattle.swings.specs.Swings.{AreWinningCounts};
+ghost use Rattle.council_game.specs.Contribution.{by_contribution};
+ghost use Rattle.council_game.specs.Game.{IsGame};
 
 use crate::fault::{Cause, RunFault};
 use crate::found::{Coalitions, Found, on_heap};
-use crate::order::choose_game;
 use council_base::{Gate, Memory, NoGate, Options};
 use council_game::Game;
+use council_game::laws::places_do_not_matter;
 use mwc_states::{count_by_states, count_swings};
 use mwc_tally::{TallyFault, tally, tally_slice};
 use mwc_walk::laws::one_slice_is_the_whole;
 use power_index::Counts;
-use power_index::laws::tallies_are_counts;
+use power_index::laws::{places_change_no_count, tallies_are_counts};
 use std::alloc::Global;
 use std::sync::Wait;
 use std::thread::Threads;
 use swings::Swings;
+use swings::laws::places_change_no_swing;
 
 /// The most states by which a game is counted. With four times as many hardly another game is.
 pub const MOST_STATES: usize = 1 << 22;
 
-/// The most states by which a game is counted before its coalitions are listed. It takes about a
-/// millisecond to see that a game of 26 members has more.
+/// The most states by which a game is counted before its coalitions are listed. It takes some half
+/// a millisecond to see that a game of 26 members has more.
 pub const FEW_STATES: usize = 1 << 9;
 
 /// The most states by which a game is counted to tell how many coalitions it has: some tenths of a
@@ -198,4 +201,26 @@ pub fn count_by_walk(alloc: Global, game: &Game) -> Result<Found, RunFault>
         counts,
         coalitions: Coalitions::Counted,
     })
+}
+
+/// Returns the game to walk over: the one in the order of contribution, if there is one. It has as
+/// many minimal winning coalitions as the game itself, and its counts are those of the game.
+pub(crate) fn choose_game<'a>(game: &'a Game, ordered: &'a Option<Game>) -> &'a Game
+    requires { IfSome ordered.now (λ h. h ≡ by_contribution game.now) }
+    ensures game { result.now ≡ unwrap_or ordered.now game.now }
+    ensures as_many { count_of result.now ≡ count_of game.now }
+    ensures counts { (t : Tables) → AreCountsOfGame result.now t → AreCountsOfGame game.now t }
+    ensures winning { (t : Tables) → AreWinningCounts result.now t → AreWinningCounts game.now t }
+{
+    places_do_not_matter();
+    places_change_no_count();
+    places_change_no_swing();
+    game.was_checked();
+    match ordered {
+        Some(ordered) => {
+            ordered.was_checked();
+            ordered
+        }
+        None => game,
+    }
 }

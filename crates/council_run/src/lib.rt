@@ -15,7 +15,6 @@ mod findings;
 mod found;
 pub mod laws;
 mod listing;
-mod order;
 mod runs;
 
 pub use bounded::count_or_stop;

@@ -8,10 +8,9 @@ ghost use Rattle.council_run.specs.Found.{AreListed, Finds, GatherFaultIs, HoldA
 ghost use Rattle.council_run.specs.Run.{IsWithin};
 ghost use Rattle.power_index.specs.Tables.{AreCountsOfGame, Tables, table_total};
 
-use crate::counting::{FEW_STATES, count_states};
+use crate::counting::{FEW_STATES, choose_game, count_states};
 use crate::fault::RunFault;
 use crate::found::{Coalitions, Found, on_heap};
-use crate::order::choose_game;
 use council_base::{Gate, Memory, NoGate, Options};
 use council_game::Game;
 use mwc_gather::{GatherFault, Gathered, Guarded, gather};

@@ -6,7 +6,7 @@ ghost use Rattle.std.specs.List.{All};
 ghost use Rattle.std.specs.Prelude.{◌≡◌, ◌≤◌, IfOk, length, map};
 
 use council_game::{Game, Memory};
-use game_calls::{at_quota, count_by_walk};
+use game_calls::{at_quota, count_minimal};
 use std::alloc::Global;
 
 /// Counts the minimal winning coalitions of a game at some quotas.
@@ -23,7 +23,7 @@ pub fn counts_at_quotas(alloc: Global, game: &Game, quotas: &[u64]) -> Result<Ve
 {
     let mut counts = Vec::new(alloc);
     for quota in quotas {
-        counts.push(count_by_walk(&at_quota(alloc, game, *quota)?))?;
+        counts.push(count_minimal(&at_quota(alloc, game, *quota)?))?;
     }
     Ok(counts)
 }

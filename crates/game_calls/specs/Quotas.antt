@@ -4,13 +4,13 @@ use Rattle.council_game.specs.Votes.{RuleView, rule_at}
 use Rattle.council_game.specs.Game.{GameView, ranked_by_first}
 
 -- the members of a game under these rules, with the rank places by the first of them
-abbrev pub with_rules : GameView → List RuleView → GameView
-with_rules g rules = ranked_by_first (record g { rules = rules })
+abbrev pub under_rules : GameView → List RuleView → GameView
+under_rules g rules = ranked_by_first (record g { rules = rules })
 
 -- under one rule, of the first rule's quota and these weights
 abbrev pub with_weights : GameView → List ℕ → GameView
-with_weights g weights = with_rules g (record { quota = (rule_at g.rules 0).quota; weights = weights } ∷ [])
+with_weights g weights = under_rules g (record { quota = (rule_at g.rules 0).quota; weights = weights } ∷ [])
 
 -- the members and the first rule of a game, at this quota, with the rank places by that rule
 abbrev pub at_quota : GameView → ℕ → GameView
-at_quota g q = with_rules g (record { quota = q; weights = (rule_at g.rules 0).weights } ∷ [])
+at_quota g q = under_rules g (record { quota = q; weights = (rule_at g.rules 0).weights } ∷ [])

@@ -6,7 +6,9 @@ ghost use Rattle.power_index.specs.MemberIndices.{indices_of_member};
 ghost use Rattle.std.specs.Prelude.{◌≡◌, ◌<◌, IfNone, IfOk, IfSome, length};
 
 use council_game::{Game, Memory, limits};
-use mwc_walk::list_all;
+use mwc_walk::laws::one_slice_is_the_whole;
+use mwc_walk::{Walk, list_all};
+use power_index::laws::minimal_coalitions_can_be_counted;
 use power_index::{Counts, Index, MemberIndices, deegan_packel, public_good};
 use std::alloc::Global;
 
@@ -36,4 +38,21 @@ pub fn member_indices(
         deegan_packel: Index::of(deegan_packel(&counts, member)),
         public_good: Index::of(public_good(&counts, member)),
     }))
+}
+
+/// Counts the minimal winning coalitions of a game.
+///
+/// It walks over the one slice at 0 bits, and takes no memory.
+pub fn count_minimal(game: &Game) -> u64
+    ensures { result ≡ length (minimal_coalitions (votes_of game.now)) }
+{
+    game.was_checked();
+    one_slice_is_the_whole();
+    minimal_coalitions_can_be_counted();
+    let mut walk = Walk::new(game, 0, 0);
+    let mut count = 0;
+    while let Some(_coalition) = walk.next() {
+        count += 1;
+    }
+    count
 }

@@ -16,12 +16,10 @@ mod membership;
 mod names;
 mod new_games;
 mod veto;
-mod walk_count;
 
 pub use critical::{critical_members, is_critical};
-pub use indices::member_indices;
+pub use indices::{count_minimal, member_indices};
 pub use membership::{everyone, has_member, outsiders, with_member, without_member};
 pub use names::{coalition_named, first_unnamed};
-pub use new_games::{at_quota, game_from_slices, with_rules, with_weights};
+pub use new_games::{at_quota, game_from_slices, under_rules, with_weights};
 pub use veto::{is_vetoer, vetoers};
-pub use walk_count::count_by_walk;

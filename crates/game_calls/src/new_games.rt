@@ -5,7 +5,7 @@ ghost use Rattle.council_game.specs.Fault.{Answers};
 ghost use Rattle.council_game.specs.Game.{made_game, total};
 ghost use Rattle.council_game.specs.Rules.{rule_views};
 ghost use Rattle.council_game.specs.Votes.{rule_at};
-ghost use Rattle.game_calls.specs.Quotas.{at_quota, with_rules, with_weights};
+ghost use Rattle.game_calls.specs.Quotas.{at_quota, under_rules, with_weights};
 ghost use Rattle.std.specs.Prelude.{◌≡◌, ◌∷◌, ◌<◌, ◌≤◌, [], All, IfOk, None, length, map, option_map, string_bytes};
 
 use crate::laws::{made_games_have_their_parts, quotas_can_be_changed};
@@ -64,13 +64,13 @@ fn weights_of(alloc: Global, game: &Game) -> Result<Vec<u64>, AllocError>
 /// # Errors
 ///
 /// The first of the faults Weight and QuotaRange, or Memory if an allocation was refused.
-pub fn with_rules(alloc: Global, game: &Game, rules: Vec<Rule>) -> Result<Game, GameFault>
+pub fn under_rules(alloc: Global, game: &Game, rules: Vec<Rule>) -> Result<Game, GameFault>
     requires some { 0 < length rules.items }
     requires few { length rules.items ≤ RULES }
     requires full { All (λ r. length r.weights.items ≡ length game.now.names) rules.items }
     ensures answer { Answers result
         (made_game game.now.title game.now.names (rule_views rules.items)) }
-    ensures game { IfOk result (λ made. made ≡ with_rules game.now (rule_views rules.items)) }
+    ensures game { IfOk result (λ made. made ≡ under_rules game.now (rule_views rules.items)) }
 {
     made_games_have_their_parts();
     let title = copy_title(alloc, game.title())?;
@@ -98,7 +98,7 @@ pub fn with_weights(alloc: Global, game: &Game, weights: Vec<u64>) -> Result<Gam
         quota: game.quota(),
         weights,
     })?;
-    with_rules(alloc, game, rules)
+    under_rules(alloc, game, rules)
 }
 
 /// Returns the game under only its first rule, at another quota.

@@ -4,6 +4,7 @@ ghost use Rattle.std.specs.Prelude.{◌≡◌};
 use crate::observer::SliceObserver;
 use council_base::Gate;
 use council_game::Game;
+use mwc_walk::Informed;
 use std::marker::Model;
 use std::snapshot::Snapshot;
 
@@ -49,10 +50,11 @@ impl<'a, G: SliceObserver> Guarded<'a, G> {
         self.gate.announce(worker, slice);
         self.game
     }
+}
 
-    /// Informs the gate of further progress inside a slice.
-    pub(crate) fn report(&self, prefixes: u64, found: u64) {
-        self.gate.report(prefixes, found);
+impl<'a, G: SliceObserver> Informed for Guarded<'a, G> {
+    fn note(&self, prefixes: u64, found: u64) {
+        self.gate.note(prefixes, found);
     }
 }
 

@@ -17,7 +17,6 @@ mod marks;
 mod observer;
 mod part;
 mod part_builder;
-mod progress;
 mod promise;
 mod putting;
 mod scheduler;

@@ -14,8 +14,8 @@ pub(crate) trait SliceObserver {
     fn announce(&self, worker: u8, slice: u16)
         requires { takes worker slice };
 
-    /// Reports further progress inside a slice.
-    fn report(&self, prefixes: u64, found: u64);
+    /// Notes further progress inside a slice.
+    fn note(&self, prefixes: u64, found: u64);
 }
 
 /// A gate may be informed of any worker and slice.
@@ -26,7 +26,7 @@ impl<G: Gate> SliceObserver for G {
         self.pass(worker, slice)
     }
 
-    fn report(&self, prefixes: u64, found: u64) {
+    fn note(&self, prefixes: u64, found: u64) {
         self.inform(prefixes, found)
     }
 }

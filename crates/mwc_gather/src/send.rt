@@ -7,14 +7,13 @@ ghost use Rattle.mwc_gather.specs.Inner.Sending.{SendsFirst, SendsSome};
 
 use crate::guarded::Guarded;
 use crate::observer::SliceObserver;
-use crate::progress::SliceReports;
 use crate::putting::{PutsRows, RowByRow, WordByWord};
 use crate::sent::Sent;
 use crate::waiting::{Backoff, Waker, WakerPair};
 use crate::word_buffer::{SHORT_ROW, WordBuffer};
 use council_base::Gate;
 use mwc_pipe::{PipeIn, RingIn, Word};
-use mwc_walk::Walk;
+use mwc_walk::{SliceProgress, Walk};
 use std::sync::Wait;
 
 /// Puts all words into a pipe, and waits while it is full.
@@ -177,11 +176,11 @@ pub(crate) fn send_slice_in_rows<W: PutsRows<P>, R: Wait, P: PipeIn<Word>, G: Sl
 {
     let mut walk = Walk::new(guarded.admit(worker, slice), bits, slice);
     buffer.restart(Word::Open(slice));
-    let mut reports = SliceReports::new();
-    while let Some(coalition) = reports.next(guarded, &mut walk) {
+    let mut progress = SliceProgress::new();
+    while let Some(coalition) = progress.next(guarded, &mut walk) {
         let word = Word::One(coalition);
         if left == 1 {
-            reports.report(guarded, &walk);
+            progress.inform(guarded, &walk);
             if !send_last::<W, _, _>(rt, buffer, word, out, pair) {
                 return Sent::Refused;
             }
@@ -192,7 +191,7 @@ pub(crate) fn send_slice_in_rows<W: PutsRows<P>, R: Wait, P: PipeIn<Word>, G: Sl
         }
         left -= 1;
     }
-    reports.report(guarded, &walk);
+    progress.inform(guarded, &walk);
     if !send_last::<W, _, _>(rt, buffer, Word::Done(slice), out, pair) {
         return Sent::Refused;
     }

@@ -5,12 +5,16 @@ ghost use Rattle.mwc_pipe.specs.History.{Event};
 ghost use Rattle.mwc_pipe.specs.RowSteps.{AreAnswered, IsSeenByIn, puts_of};
 ghost use Rattle.mwc_pipe.specs.Refusal.{PutsIn};
 ghost use Rattle.mwc_pipe.specs.RingName.{RingName};
+ghost use Rattle.council_base.specs.declared.limits.TheConstants.{CAPACITY};
 
 use crate::closed::{Closed, Unfinished};
 use crate::pipe_in::PipeIn;
+use crate::ring_out::RingOut;
 use crate::step::Refused;
 use crate::word::Word;
-use rtrb::{Producer, PushError};
+use council_base::Memory;
+use rtrb::{Producer, PushError, RingBuffer};
+use std::alloc::Global;
 use std::marker::Model;
 
 /// The end of a ring that words are put into.
@@ -130,4 +134,21 @@ impl PipeIn<Word> for RingIn {
             Err(word) => Err(Refused::Full(word)),
         }
     }
+}
+
+/// Makes a ring with room for 1 to 65,536 words, and returns its two ends.
+///
+/// Each end may move to a thread of its own.
+///
+/// # Errors
+///
+/// `Memory` if there was none for the words.
+pub fn ring(alloc: Global, capacity: usize) -> Result<(RingIn, RingOut), Memory>
+    requires { (1 ≤ capacity) × (capacity ≤ CAPACITY) }
+    ensures pair { IfOk result (λ r. r.1.ring ≡ r.0.ring) }
+    ensures empty { IfOk result (λ r. (r.0.accepted ≡ []) × (r.1.taken ≡ [])) }
+    ensures capacity { IfOk result (λ r. r.0.capacity ≡ capacity) }
+{
+    let (producer, consumer) = RingBuffer::new(alloc, capacity)?;
+    Ok((RingIn { producer }, RingOut { consumer }))
 }

@@ -64,7 +64,7 @@ pub(crate) fn decide_level(
 fn sums_for(states: usize, rules: usize, room: usize) -> usize {
     states
         .saturating_mul(4)
-        .saturating_add((room / 4).min(1 << 13))
+        .saturating_add((room / 8).min(1 << 13))
         .min((1 << 20) / rules.max(1))
 }
 

@@ -7,7 +7,8 @@ ghost use Rattle.mwc_states.specs.Inner.Sets.{has};
 
 use crate::choices::{Choices, decide_all};
 use crate::graph::{Links, link_at};
-use council_base::{Memory, SizeCounts, limits};
+use council_base::{Memory, limits};
+use power_index::SizeCounts;
 use std::alloc::Global;
 
 /// Accepted sets by size: of all, and of those that have each member.

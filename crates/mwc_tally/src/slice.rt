@@ -7,9 +7,9 @@ ghost use Rattle.power_index.specs.Tables.{AreTallies};
 ghost use Rattle.mwc_tally.specs.Inner.SliceCounts.{slice_of};
 
 use crate::sliced_game::SlicedGame;
-use council_base::{Gate, NoGate, REPORT_EVERY};
+use council_base::{Gate, NoGate};
 use council_game::Game;
-use mwc_walk::{Seek, Walk};
+use mwc_walk::{SliceProgress, Walk};
 use power_index::Counts;
 
 /// Counts slice `j` of a game at `bits` bits, by a walk over it.
@@ -24,29 +24,17 @@ pub fn tally_slice(game: &Game, bits: u8, j: u16) -> Counts
     count_slice(SlicedGame { game, bits }, j, &NoGate)
 }
 
-/// Counts a slice, and informs a gate after each `REPORT_EVERY` prefixes or coalitions.
+/// Counts a slice, and informs a gate of progress.
 pub(crate) fn count_slice<G: Gate>(slices: SlicedGame<'_>, j: u16, gate: &G) -> Counts
     requires { j < 2 ^ slices.bits }
     ensures { AreTallies slices.entry.game.now (slice_of slices.entry j) result }
 {
     let mut walk = Walk::new(slices.game, slices.bits, j);
     let mut counts = Counts::none(slices.game);
-    let (mut reported, mut found) = (walk.visits(), 0);
-    loop {
-        if walk.visits() - reported >= REPORT_EVERY || found == REPORT_EVERY {
-            gate.inform(walk.visits() - reported, found);
-            reported = walk.visits();
-            found = 0;
-        }
-        match walk.seek(REPORT_EVERY - (walk.visits() - reported)) {
-            Seek::Found(coalition) => {
-                counts.count(coalition);
-                found += 1;
-            }
-            Seek::End => break,
-            Seek::NotYet => {}
-        }
+    let mut progress = SliceProgress::new();
+    while let Some(coalition) = progress.next(gate, &mut walk) {
+        counts.count(coalition);
     }
-    gate.inform(walk.visits() - reported, found);
+    progress.inform(gate, &walk);
     counts
 }

@@ -1,12 +1,11 @@
 -- The words of other libraries and of the definitions that two or more files of these proofs take;
 -- `tools/imports.py` writes them.
 pub use Rattle.council_base.proofs.Shared.{Digits.lowest-place, Lists.sum-swap}
-pub use Rattle.council_base.specs.SizeCounts.{AreAdded}
 pub use Rattle.council_game.proofs.Shared.{Games.votes-are, Making.ranks-are}
 pub use Rattle.council_game.specs.{Game.AreNonemptyCoalitions, Game.GameView, Game.IsGame, Votes.size}
 pub use Rattle.power_index.specs.Counting.{contains, count_of_member, members, size_of}
 pub use Rattle.power_index.specs.Fractions.{AreCoprime, IsLowestOf, SameFraction, unit_sum}
-pub use Rattle.power_index.specs.{Indices.sizes_of_member, Inner.Tables.with_one}
+pub use Rattle.power_index.specs.{Indices.sizes_of_member, Inner.Tables.AreAdded, Inner.Tables.with_one}
 pub use Rattle.power_index.specs.Tables.{table_deegan_packel, table_memberships, table_of_member, table_of_member_size, table_public_good}
 pub use Rattle.power_index.specs.Tables.{AreCounts, AreOfOneGame, AreSizeCounts, AreSound, AreTallies, Tables, denominator}
 pub use Rattle.power_index.specs.Tables.{table_total, total_of_sizes, weighted_sum}

@@ -1,17 +1,18 @@
 //! Counts of coalitions, by member and by size.
-ghost use Rattle.council_base.specs.SizeCounts.{AreAdded};
 ghost use Rattle.council_base.specs.declared.limits.TheConstants.{MEMBERS};
 ghost use Rattle.council_game.specs.Game.{GameView, AreNonemptyCoalitions};
 ghost use Rattle.council_game.specs.Votes.{has};
 ghost use Rattle.power_index.specs.Tables.{AreCounts, AreOfOneGame, AreSizeCounts, AreSound, AreTallies};
 ghost use Rattle.power_index.specs.Tables.{table_memberships, table_of_member};
 ghost use Rattle.power_index.specs.Tables.{table_of_member_size, table_of_size, table_total, total_of_sizes};
-ghost use Rattle.power_index.specs.Inner.Tables.{with_one};
+ghost use Rattle.power_index.specs.Inner.Tables.{AreAdded, with_one};
 ghost use Rattle.std.specs.Prelude.{◌≡◌, ℕ, ◌+◌, ◌-◌, ◌*◌, ◌<◌, ◌≤◌, ◌^◌, if◌then◌else◌, List, [], ◌∷◌, ◌++◌, length, slice_index, slice_index_or, All, min, true};
 
-use council_base::{SizeCounts, add_counts};
 use council_game::{Coalition, Game, limits};
 use std::marker::Model;
+
+/// How many coalitions there are of each size, from 0 to 40 members.
+pub type SizeCounts = [u64; limits::SIZES];
 
 /// The counts of a list of nonempty coalitions of a game.
 ///
@@ -77,6 +78,16 @@ fn add_to_places(
         let place = members - 1 - rest.trailing_zeros() as usize;
         by_place[place][size] += 1;
         rest &= rest - 1;
+    }
+}
+
+/// Adds `more` to `sum`, size by size.
+fn add_counts(sum: &mut SizeCounts, more: &SizeCounts)
+    requires { (s : ℕ) → s ≤ MEMBERS → slice_index sum.old s + slice_index more.now s < 2 ^ 64 }
+    ensures { AreAdded sum.old more.now sum.new }
+{
+    for size in 0..limits::SIZES {
+        sum[size] += more[size];
     }
 }
 

@@ -5,7 +5,7 @@ ghost use Rattle.std.specs.Fmt.{WritesOnOk};
 ghost use Rattle.std.specs.List.{All};
 
 use crate::Fraction;
-use crate::order::order;
+use crate::fraction::order;
 use std::cmp::Ordering;
 use std::fmt;
 use std::marker::Model;

@@ -18,9 +18,8 @@ mod index;
 mod indices;
 pub mod laws;
 mod member_indices;
-mod order;
 
-pub use counts::Counts;
+pub use counts::{Counts, SizeCounts};
 pub use fraction::{Fraction, lowest};
 pub use index::Index;
 pub use indices::{deegan_packel, public_good};

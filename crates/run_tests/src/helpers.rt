@@ -1,5 +1,5 @@
 //! Helpers for the tests of this crate.
-use council_base::{Gate, REPORT_EVERY};
+use council_base::{Gate, INFORM_EVERY};
 use council_game::{Game, Rule};
 use std::alloc::Global;
 use std::fmt::Debug;
@@ -145,7 +145,7 @@ impl Watch {
     /// All are 0 if a call came before the first pass, or was of far more than usual.
     pub(crate) fn sums(&self) -> (u64, u64, u64) {
         let most = self.most.load(Ordering::SeqCst);
-        if self.early.load(Ordering::SeqCst) != 0 || most > REPORT_EVERY + 100 {
+        if self.early.load(Ordering::SeqCst) != 0 || most > INFORM_EVERY + 100 {
             return (0, 0, 0);
         }
         (
@@ -189,7 +189,7 @@ impl Gate for Watch {
         let most = prefixes.max(found);
         self.most.fetch_max(most, Ordering::SeqCst);
         self.short
-            .fetch_add(u64::from(most < REPORT_EVERY), Ordering::SeqCst);
+            .fetch_add(u64::from(most < INFORM_EVERY), Ordering::SeqCst);
         self.early
             .fetch_add(u64::from(self.passes() == 0), Ordering::SeqCst);
     }

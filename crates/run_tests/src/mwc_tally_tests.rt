@@ -52,19 +52,18 @@ fn a_held_worker_holds_no_slice(rt: HostRuntime) {
     }
 }
 
-/// Counts the prefixes that the walk over a slice of two examines after its fixed place.
+/// Counts the prefixes that the walk over a slice of two examines.
 fn prefixes_of(game: &Game, slice: u16) -> u64
     requires game { 1 ≤ length game.now.names }
     requires slice { slice < 2 }
 {
     let mut walk = Walk::new(game, 1, slice);
-    let fixed = walk.visits();
     for _ in 0..4_000_000u32 {
         if walk.next().is_none() {
             break;
         }
     }
-    walk.visits().saturating_sub(fixed)
+    walk.visits()
 }
 
 /// The gate is informed after each 1,048,576 prefixes, and once before, at the end of each of two

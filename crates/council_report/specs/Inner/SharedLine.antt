@@ -8,7 +8,7 @@ use Rattle.council_game.specs.Ranks.{member_at}
 use Rattle.council_game.specs.Game.{GameView, IsGame, votes_of}
 use Rattle.council_report.specs.Lines.{with_tab, name_of}
 use Rattle.council_report.specs.declared.output.TheConstants.{LINE}
-use Rattle.council_report.specs.declared.seat.Seat.{Seat}
+use Rattle.council_report.specs.declared.label.Label.{Label}
 use Rattle.council_report.specs.declared.subtotal.Subtotal.{Subtotal}
 use Rattle.council_report.specs.declared.shared_line.SharedLine.{SharedLine}
 
@@ -33,15 +33,15 @@ unfoldable pub weight_of_places : GameView → ℕ → List ℕ → ℕ
 weight_of_places g r places = sum (map (λ p. slice_index (weights_under g r) p) places)
 
 -- what the member of place p adds to a line: its name after a TAB, and its weight under each rule
-pub record IsSeat (g : GameView) (p : ℕ) (seat : Seat) : Type 0 where
-  pub field : seat.field.items ≡ with_tab (name_at g p)
-  pub long : length seat.weights ≡ RULES
-  pub weights : (r : ℕ) → r < RULES → slice_index seat.weights r ≡ slice_index (weights_under g r) p
+pub record IsLabel (g : GameView) (p : ℕ) (label : Label) : Type 0 where
+  pub field : label.field.items ≡ with_tab (name_at g p)
+  pub long : length label.weights ≡ RULES
+  pub weights : (r : ℕ) → r < RULES → slice_index label.weights r ≡ slice_index (weights_under g r) p
 
--- the seats of the first k places
-pub record AreSeats (g : GameView) (k : ℕ) (seats : List Seat) : Type 0 where
-  pub long : length seats ≡ k
-  pub each : (p : ℕ) (d : Seat) → p < k → IsSeat g p (slice_index_or seats p d)
+-- the labels of the first k places
+pub record AreLabels (g : GameView) (k : ℕ) (labels : List Label) : Type 0 where
+  pub long : length labels ≡ k
+  pub each : (p : ℕ) (d : Label) → p < k → IsLabel g p (slice_index_or labels p d)
 
 -- how long the names of these places are, and what they weigh under each rule
 pub record IsSubtotal (g : GameView) (places : List ℕ) (subtotal : Subtotal) : Type 0 where
@@ -54,7 +54,7 @@ pub record IsSubtotal (g : GameView) (places : List ℕ) (subtotal : Subtotal) :
 pub record IsLine (g : GameView) (line : SharedLine) : Type 0 where
   pub game : IsGame g
   pub few : length g.names ≤ MEMBERS
-  pub seats : AreSeats g (length g.names) line.seats.items
+  pub labels : AreLabels g (length g.names) line.labels.items
   pub room : LINE ≤ vec_capacity line.names
   pub within : line.end ≤ length g.names
   pub names : line.names.items ≡

@@ -3,7 +3,7 @@
 ghost use Rattle.std.specs.Prelude.{◌≡◌, ◌<◌, ◌≤◌, length};
 
 use super::*;
-use game_calls::{everyone, member_indices, with_rules, with_weights};
+use game_calls::{everyone, member_indices, under_rules, with_weights};
 use mwc_walk::{list_all, list_slice};
 use power_index::{Counts, all_indices};
 
@@ -92,7 +92,7 @@ fn of_rules(rt: &impl Abort, alloc: Global, game: &Game, count: usize) -> Game {
             .iter()
             .all(|rule| rule.weights.len() == game.members())
     );
-    with_rules(alloc, game, rules).expect(rt, "memory")
+    under_rules(alloc, game, rules).expect(rt, "memory")
 }
 
 #[test]
@@ -104,7 +104,7 @@ fn calls_work_at_every_size(rt: HostRuntime) {
         check_other_games(&rt, alloc, &game);
         for count in 1..=4usize {
             let several = of_rules(&rt, alloc, &game, count);
-            assert_same(&rt, several.rules(), count, "with_rules");
+            assert_same(&rt, several.rules(), count, "under_rules");
             check_lists(&rt, alloc, &several, members);
             check_members(&rt, alloc, &several);
         }

@@ -1,13 +1,18 @@
 -- Tables of counts, and when they hold the counts of a list of coalitions: what only proofs and
 -- private functions need.
-use Rattle.std.specs.Prelude.{ℕ, ◌+◌, ◌^◌, ◌≤◌, ◌<◌, List, [], length, slice_index, slice_index_or, slice_set}
-use Rattle.council_base.specs.declared.limits.TheConstants.{MEMBERS}
+use Rattle.std.specs.Prelude.{ℕ, ◌≡◌, ◌+◌, ◌^◌, ◌≤◌, ◌<◌, List, [], length, slice_index, slice_index_or, slice_set}
+use Rattle.council_base.specs.declared.limits.TheConstants.{MEMBERS, SIZES}
 use Rattle.council_game.specs.Game.{GameView, AreNonemptyCoalitions}
 use Rattle.power_index.specs.Tables.{Tables, AreTallies, AreSound}
 
 -- numbers by size with one coalition more, of size s
 abbrev pub with_one : List ℕ → ℕ → List ℕ
 with_one sizes s = slice_set sizes s (slice_index sizes s + 1)
+
+-- the numbers by size are those of two others, added
+pub record AreAdded (xs ys sum : List ℕ) : Type 0 where
+  pub long : length sum ≡ SIZES
+  pub each : (s : ℕ) → s ≤ MEMBERS → slice_index sum s ≡ slice_index xs s + slice_index ys s
 
 -- the tables are those of some list of coalitions of a game: no game has more than 2 ^ 40
 pub record AreOfSomeList (t : Tables) : Type 0 where

@@ -1,5 +1,0 @@
-use Rattle.std.proofs.Common.{◌≡◌, ◌-◌, ◌^◌, min, take, sum}
-use Rattle.council_c.proofs.arrays.capped_total.Given as goal
-
-abbrev pub invariant-loop-weight : goal.invariant-loop-weight
-invariant-loop-weight l = l.total ≡ min (sum (take l.weight-index l.weights)) (2 ^ 64 - 1)

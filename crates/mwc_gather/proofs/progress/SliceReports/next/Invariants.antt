@@ -1,9 +1,0 @@
-use Rattle.mwc_gather.proofs.Imports.{◌≡◌}
-use Rattle.mwc_walk.specs.Seeks.{seeks_left}
-use Rattle.mwc_gather.proofs.progress.SliceReports.next.Given as goal
-
-abbrev pub invariant-seeks : goal.invariant-seeks
-invariant-seeks g l = l.walk.to_come ≡ l.initial.walk.to_come
-
-abbrev pub decreases-seeks : goal.decreases-seeks
-decreases-seeks g l = seeks_left l.walk
