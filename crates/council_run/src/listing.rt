@@ -31,6 +31,9 @@ const STATES_OF_LONG: usize = 1 << 11;
 /// The most visits of a walk that ends sooner than states are found.
 const FEW_VISITS: u32 = 1 << 10;
 
+/// The most members of a game that is walked over within seconds, whatever its rules are.
+const FEW_MEMBERS: usize = 26;
+
 /// Gathers the minimal winning coalitions of a game.
 fn gather_all<T: Threads + Wait + Sync, G: Gate + Sync>(
     rt: &T,
@@ -94,8 +97,11 @@ fn has_more(counted: &Option<Box<Counts>>, most: u32) -> bool
     }
 }
 
-/// Returns whether a walk over a game ends within `FEW_VISITS` visits.
+/// Returns whether a walk over a game ends soon: if it has few members, or few visits end it.
 fn is_short(game: &Game) -> bool {
+    if game.members() <= FEW_MEMBERS {
+        return true;
+    }
     let mut walk = Walk::new(game, 0, 0);
     while walk.visits() < u64::from(FEW_VISITS) {
         if let Seek::End = walk.seek(u64::from(FEW_VISITS)) {
