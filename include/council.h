@@ -132,7 +132,8 @@ uint32_t council_list(const uint64_t *quotas, size_t rules, const uint64_t *weig
  * of them at a time (1 or more) and what is left at the end. It goes on until the function returns false. The memory for
  * all masks is taken before the first call, and freed after the last one.
  *
- * The status and the summary are those of council_list. If it is not 0, the function was not called.
+ * The status and the summary are those of council_list; if there is no memory for the masks, the status is COUNCIL_MEMORY
+ * and the summary unchanged. If the status is not 0, the function was not called.
  */
 static inline uint32_t council_each(const uint64_t *quotas, size_t rules, const uint64_t *weights, size_t count,
 				    size_t members, size_t most, size_t block,
@@ -156,8 +157,8 @@ static inline uint32_t council_each(const uint64_t *quotas, size_t rules, const 
 
 /*
  * Puts the words of a status into text, as much as fits into room bytes, with no byte 0 after them: "bad weight of member
- * 2". The status is that of council_indices or council_list, and *summary what it left. *length is then the length of all
- * the words; 0 for COUNCIL_REPORT, and for what no call gives.
+ * 2". The status is that of council_indices, council_list or council_each, and *summary what it left. *length is then the
+ * length of all the words; 0 for COUNCIL_REPORT, and for what no call gives.
  */
 void council_explain(uint32_t status, const struct council_summary *summary, char *text, size_t room, uint64_t *length);
 
