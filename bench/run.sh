@@ -21,6 +21,7 @@
 set -eu
 export LC_ALL=C
 cd "$(dirname "$0")/.."
+. tests/games.sh
 council=${1:-crates/council/out/council}
 runs=${RUNS:-11}
 if ! command -v rustc >/dev/null; then
@@ -90,41 +91,6 @@ notation() {
     echo "[$quota; $(echo "$@" | sed 's/ /, /g')]"
 }
 
-# game_file QUOTAS WEIGHTS..: a game file of several rules; the numbers of each have commas between
-# them.
-game_file() {
-    local quotas=$1 member=0 weights
-    shift
-    echo "quotas = [$quotas]"
-    for weights in "$@"; do
-        member=$((member + 1))
-        printf '[[member]]\nname = "%s"\nweights = [%s]\n' "$member" "$weights"
-    done
-}
-
-# repeat COUNT WORD: the word so many times.
-repeat() {
-    local left
-    for ((left = $1; left > 0; left--)); do echo "$2"; done
-}
-
-# random_file SEED RULES: a game file of 26 members with random weights up to 50 and zeros under
-# each rule, and as quotas more than a third of what they add up to.
-random_file() {
-    local x=$1 rules=$2 rule member sum weight quotas="" weights=()
-    for ((rule = 0; rule < rules; rule++)); do
-        sum=0
-        for ((member = 0; member < 26; member++)); do
-            x=$(((75 * x + 74) % 65537))
-            weight=$((x % 3 == 0 ? 0 : x % 50 + 1))
-            sum=$((sum + weight))
-            weights[member]+=${weights[member]:+, }$weight
-        done
-        quotas+=${quotas:+, }$((sum / 3 + 1))
-    done
-    game_file "$quotas" "${weights[@]}"
-}
-
 # Whether the proved program knows --tally.
 tallies() {
     "$council" --help | grep -q -- --tally
@@ -182,11 +148,11 @@ rows '40 equal, quota 6' "$temp/six.txt"
 rows '30 members, a fifth' "$temp/falling.txt"
 rows '27 members, three rules' examples/eu-27-nice.toml
 mapfile -t directors < <(repeat 39 '1, 0')
-game_file '2, 1' '0, 1' "${directors[@]}" >"$temp/chair.toml"
+rules_file '2, 1' '0, 1' "${directors[@]}" >"$temp/chair.toml"
 mapfile -t houses < <(repeat 20 '1, 0' && repeat 20 '0, 1')
-game_file '2, 2' "${houses[@]}" >"$temp/houses.toml"
+rules_file '2, 2' "${houses[@]}" >"$temp/houses.toml"
 mapfile -t seats < <(repeat 1 '1, 0, 0' && repeat 9 '0, 1, 0' && repeat 17 '0, 0, 1')
-game_file '1, 5, 9' "${seats[@]}" >"$temp/president.toml"
+rules_file '1, 5, 9' "${seats[@]}" >"$temp/president.toml"
 random_file 1 2 >"$temp/random-2.toml"
 random_file 5 3 >"$temp/random-3.toml"
 random_file 6 4 >"$temp/random-4.toml"

@@ -106,9 +106,9 @@ enum council_fault {
  * then those of the second, and so on. Puts the numbers of member i into results[i], and those of the game into
  * *summary.
  *
- * The coalitions are counted by states, and if these are too many, by a walk; visits is the most that it makes (0: 2^64 - 1).
- * Ten million visits take a second or two; under one rule a walk makes at most one for each member of each coalition. The
- * states come first, and take at most some seconds and some 300 MB.
+ * The coalitions are counted by states, and if these are too many, by a walk; visits is the most that it makes, and 0
+ * any number. Ten million take a second or two. A walk makes at most one for each member and each set of members; under
+ * one rule, for each member and each coalition. The states come first, and take at most some seconds and some 300 MB.
  *
  * If the status is not 0, the results are unchanged; if it is COUNCIL_OPTIONS, so is the summary. Else its fault, member
  * and rule say what is wrong.

@@ -12,6 +12,8 @@ program=$(cd "$(dirname "$1")" && pwd)/$(basename "$1")
 top=$(cd "$(dirname "${BASH_SOURCE[0]}")/.." && pwd)
 temp=$(mktemp -d)
 trap 'rm -rf "$temp"' EXIT
+# shellcheck source=tests/games.sh
+. "$top/tests/games.sh"
 
 # What all scripts use; where one is missing, nothing of a script can be run.
 for command in awk cmp cp cut date diff env grep head mktemp sed sort tail timeout tr uniq wc; do
@@ -147,26 +149,13 @@ END
 
 # write_rules QUOTAS WEIGHTS..: a game of these rules, the numbers of each with commas between them
 write_rules() {
-    local member=0 weights
-    {
-        echo "quotas = [$1]"
-        for weights in "${@:2}"; do
-            member=$((member + 1))
-            printf '[[member]]\nname = "%s"\nweights = [%s]\n' "$member" "$weights"
-        done
-    } >"$temp/rules.toml"
-}
-
-# repeat COUNT WORD: the word COUNT times
-repeat() {
-    local left
-    for ((left = $1; left > 0; left--)); do echo "$2"; done
+    rules_file "$@" >"$temp/rules.toml"
 }
 
 # each_hard_game WORD..: writes games of several rules to $temp/rules.toml, one after the other, and
 # calls these words with the name of each. By a plain walk, or in another order, some take minutes.
 each_hard_game() {
-    local x rule rules member sum total weight needed votes quotas unit order president senate house directors seats
+    local x rules member total weight votes quotas unit order president senate house directors seats
     for directors in 23 39; do
         mapfile -t votes < <(repeat "$directors" '1, 0')
         write_rules '2, 1' '0, 1' "${votes[@]}"
@@ -190,22 +179,8 @@ each_hard_game() {
         write_rules "${quotas[0]}, ${quotas[1]}, ${quotas[2]}" "${votes[@]}"
         "$@" "a president, a senate and a house as rules $order"
     done
-    # random weights up to 50 and zeros, and as quotas more than a third of what they add up to
     for rules in 2 3 4; do
-        x=$rules
-        needed=
-        votes=()
-        for ((rule = 0; rule < rules; rule++)); do
-            sum=0
-            for ((member = 0; member < 26; member++)); do
-                x=$(((75 * x + 74) % 65537))
-                weight=$((x % 3 == 0 ? 0 : x % 50 + 1))
-                sum=$((sum + weight))
-                votes[member]+=${votes[member]:+, }$weight
-            done
-            needed+=${needed:+, }$((sum / 3 + 1))
-        done
-        write_rules "$needed" "${votes[@]}"
+        random_file "$rules" "$rules" >"$temp/rules.toml"
         "$@" "26 random members and $rules rules"
     done
 

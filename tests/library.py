@@ -1,5 +1,5 @@
 #!/usr/bin/env python3
-"""Each piece of Rattle in docs/LIBRARY.md is in the sources of a crate, and its first example is whole. Each call that
+"""Each piece of Rattle in docs/LIBRARY.md is in the sources of a crate, and its first program is whole. Each call that
 it names with its crate exists.
 
     tests/library.py
@@ -32,8 +32,9 @@ sources = [packed(read(os.path.relpath(path, TOP))) for path in sorted(glob.glob
 for block in re.findall(r"```rust\n(.*?)```", page, re.S):
     first = next(line.strip() for line in block.split("\n") if line.strip())
     report(any(packed(block) in source for source in sources), f"docs/LIBRARY.md: {first}", "no crate has this code")
-example = read("crates/examples/src/all_indices.rt")
-report(example in page, "docs/LIBRARY.md has crates/examples/src/all_indices.rt whole", "it has not")
+program = read("crates/examples/src/main.rt")
+whole = packed("".join(re.findall(r"```rust\n(.*?)```", page, re.S)[:2])) == packed(program[program.index("ghost use"):])
+report(whole, "docs/LIBRARY.md has the program of crates/examples whole", "it has not")
 missing = []
 for crate, path in re.findall(r"`(\w+)::([\w:]+)`", re.sub(r"```.*?```", "", page, flags=re.S)):
     item = path.split("::")[-1]

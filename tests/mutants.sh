@@ -69,9 +69,9 @@ for name, (said, used) in lines.items():
     beside = os.path.basename(os.path.dirname(os.path.dirname(whole)))
     own = f"{room}/crates/{name}"
     said += lines[beside][0]
-    shared = f"{os.path.dirname(whole)}/helpers.rt"
-    for file in [f"{whole}.rt", *sorted(glob.glob(f"{whole}/**/*.rt", recursive=True)), shared]:
-        to = f"{own}/src/helpers.rt" if file == shared else f"{own}/src/tests{file[len(whole):]}"
+    shared = [it for it in glob.glob(f"{os.path.dirname(whole)}/*.rt") if not re.search(r"/lib\.rt$|_tests\.rt$", it)]
+    for file in [f"{whole}.rt", *sorted(glob.glob(f"{whole}/**/*.rt", recursive=True)), *shared]:
+        to = f"{own}/src/{os.path.basename(file)}" if file in shared else f"{own}/src/tests{file[len(whole):]}"
         with open(file, encoding="utf-8") as it:
             text = it.read()
         used += [it for it in lines[beside][1] if it not in (name, *used) and re.search(rf"\b{it}\b", text)]
@@ -81,7 +81,8 @@ for name, (said, used) in lines.items():
         with open(to, "w", encoding="utf-8") as it:
             it.write(text)
     with open(f"{own}/src/lib.rt", "a", encoding="utf-8") as it:
-        it.write("\n#[cfg(test)]\nmod helpers;\n#[cfg(test)]\nmod tests;\n")
+        for module in [*(os.path.basename(it)[: -len(".rt")] for it in shared), "tests"]:
+            it.write(f"\n#[cfg(test)]\nmod {module};\n")
 with open(f"{room}/crates.txt", "w", encoding="utf-8") as it:
     for name, (said, used) in lines.items():
         it.write(f"{' '.join([name, *said])}: {' '.join(used)}\n")

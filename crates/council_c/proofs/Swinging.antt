@@ -2,8 +2,8 @@
 use Rattle.std.proofs.Common.{◌≡◌, ℕ, refl, true}
 use Rattle.council_game.specs.Game.{GameView}
 use Rattle.power_index.specs.Fractions.{lowest_terms}
-use Rattle.swings.specs.Indices.{banzhaf, penrose, shapley_shubik}
-use Rattle.swings.specs.Swings.{swings}
+use Rattle.power_index.specs.SwingIndices.{banzhaf, penrose, shapley_shubik}
+use Rattle.power_index.specs.Swings.{swings}
 use Rattle.council_c.specs.Numbers.{in_words, minimal_numbers, numbers}
 use Rattle.council_c.specs.declared.results.CouncilFraction.{CouncilFraction}
 use Rattle.council_c.specs.declared.results.CouncilMember.{CouncilMember}

@@ -5,8 +5,8 @@ use Rattle.council_game.specs.Votes.{minimal_coalitions, rule_at}
 use Rattle.power_index.specs.Counting.{count_of_member, count_of_size}
 use Rattle.power_index.specs.Fractions.{lowest_terms}
 use Rattle.power_index.specs.Indices.{deegan_packel, public_good}
-use Rattle.swings.specs.Indices.{banzhaf, penrose, shapley_shubik}
-use Rattle.swings.specs.Swings.{swings, winning_coalitions}
+use Rattle.power_index.specs.SwingIndices.{banzhaf, penrose, shapley_shubik}
+use Rattle.power_index.specs.Swings.{swings, winning_coalitions}
 use Rattle.council_c.specs.declared.results.CouncilFraction.{CouncilFraction}
 use Rattle.council_c.specs.declared.results.CouncilMember.{CouncilMember}
 use Rattle.council_c.specs.declared.results.CouncilSummary.{CouncilSummary}

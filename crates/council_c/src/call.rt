@@ -87,7 +87,7 @@ pub extern "C" fn council_swings_report(
 /// `weights` has the weights of the first rule, those of the second, and so on, and `results` has
 /// room for each member. With `swings`, those and the indices that rest on them are computed too.
 /// The coalitions are counted by states, or if these are too many by a walk of at most `visits`
-/// visits; 0 means 2^64 - 1.
+/// visits; 0 means 2^64 - 1, which is more than any walk makes.
 ///
 /// The result is a status: 0; 2 if the lengths do not fit each other, or the summary has not the
 /// sizes of its structs; 3 for a fault of the game, whose number, member and rule are then in the

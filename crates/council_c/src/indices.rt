@@ -7,7 +7,7 @@ ghost use Rattle.council_c.specs.Numbers.{IsSummary, numbers};
 ghost use Rattle.council_c.specs.declared.fault.Fault.TheVariants as fault;
 ghost use Rattle.council_game.specs.Members.{members};
 ghost use Rattle.council_run.specs.declared.fault.Cause.TheVariants as cause;
-ghost use Rattle.swings.specs.Swings.{AreWinningCounts};
+ghost use Rattle.power_index.specs.Swings.{AreWinningCounts};
 
 use crate::arrays::{game_of_arrays, rule_of_fault};
 use crate::fault::Fault;
@@ -16,8 +16,8 @@ use crate::results::{CouncilMember, CouncilSummary, MEMBER_SIZE, SUMMARY_SIZE};
 use council_base::NoGate;
 use council_game::{Game, GameFault, Memory};
 use council_run::{Cause, RunFault, count_or_stop, find_swings};
+use power_index::Swings;
 use std::alloc::Global;
-use swings::Swings;
 
 /// The numbers of a game and its members.
 #[derive(Drop)]

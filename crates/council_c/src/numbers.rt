@@ -7,15 +7,14 @@ ghost use Rattle.council_game.specs.Members.{members};
 ghost use Rattle.council_game.specs.Votes.{rule_at};
 ghost use Rattle.power_index.specs.Counting.{count_of_size};
 ghost use Rattle.power_index.specs.Tables.{AreCountsOfGame};
-ghost use Rattle.swings.specs.Swings.{AreWinningCounts};
+ghost use Rattle.power_index.specs.Swings.{AreWinningCounts};
 
 use crate::results::{CouncilFraction, CouncilMember, CouncilSummary, MEMBER_SIZE, SUMMARY_SIZE};
 use council_base::limits;
 use council_game::{Game, Memory};
 use power_index::laws::minimal_coalitions_can_be_counted;
-use power_index::{Counts, deegan_packel, public_good};
+use power_index::{Counts, Swings, banzhaf, deegan_packel, penrose, public_good, shapley_shubik};
 use std::alloc::Global;
-use swings::{Swings, banzhaf, penrose, shapley_shubik};
 
 /// Returns the numbers of a member that rest on the minimal winning coalitions.
 fn minimal_numbers(game: &Game, counts: &Counts, member: usize) -> CouncilMember

@@ -7,8 +7,6 @@
 #![tactic(auto)]
 
 mod progress;
-#[cfg(test)]
-mod tests;
 mod thousands;
 
 pub use progress::Progress;

@@ -14,8 +14,8 @@ use Rattle.council_game.proofs.Shared.Joins.{one-number, next-numbers}
 use Rattle.power_index.specs.{Counting.members, Fractions.lowest_terms}
 use Rattle.power_index.specs.Tables.{Tables, table_of_size, table_of_member, table_deegan_packel, table_public_good}
 use Rattle.power_index.proofs.Shared.{Members.size-le, Small.AreBelow, Small.deegan_packel-wide, Small.public_good-wide}
-use Rattle.swings.specs.{Indices.banzhaf, Indices.penrose, Indices.shapley_shubik, Swings.AreWinningCounts, Swings.swings}
-use Rattle.swings.proofs.Shared.Small.{banzhaf-small, penrose-small, shapley-small, swings-few}
+use Rattle.power_index.specs.{SwingIndices.banzhaf, SwingIndices.penrose, SwingIndices.shapley_shubik, Swings.AreWinningCounts, Swings.swings}
+use Rattle.power_index.proofs.Shared.Small.{banzhaf-small, penrose-small, shapley-small, swings-few}
 use Rattle.council_report.specs.Lines.{line, with_slashes, name_of, weights_of_coalition, weights_of_member}
 use Rattle.council_report.specs.SwingLines.{added_fields, swing_fields}
 use Rattle.council_report.specs.Inner.{Lines.fields_of, Lines.fields_of_counts, Lines.lines_of_members, Lines.lines_of_sizes, Lines.sizes_of_counts}

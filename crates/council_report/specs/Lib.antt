@@ -1,7 +1,7 @@
 pub use Rattle.council_game.specs.Game
 pub use Rattle.council_game.specs.Votes
 pub use Rattle.power_index.specs.Tables
-pub use Rattle.swings.specs.Swings
+pub use Rattle.power_index.specs.Swings
 pub mod Lines
 pub mod Report
 pub mod SwingLines

@@ -5,8 +5,8 @@ use Rattle.council_base.specs.declared.report_lines.ReportLines.{ReportLines}
 use Rattle.council_game.specs.Votes.{minimal_coalitions}
 use Rattle.council_game.specs.Game.{GameView, votes_of}
 use Rattle.power_index.specs.Fractions.{lowest_terms}
-use Rattle.swings.specs.Swings.{swings, winning_coalitions}
-use Rattle.swings.specs.Indices.{banzhaf, penrose, shapley_shubik}
+use Rattle.power_index.specs.Swings.{swings, winning_coalitions}
+use Rattle.power_index.specs.SwingIndices.{banzhaf, penrose, shapley_shubik}
 use Rattle.council_report.specs.Lines.{index_fields, line}
 use Rattle.council_report.specs.Report.{game_lines, member_lines, report_with}
 

@@ -6,7 +6,7 @@ ghost use Rattle.council_game.specs.Game.{GameView, IsGame};
 ghost use Rattle.power_index.specs.Counting.{members};
 ghost use Rattle.power_index.specs.Tables.{table_of_member_size, table_total};
 ghost use Rattle.power_index.specs.Fractions.{IsIndex, pair_of};
-ghost use Rattle.swings.specs.Swings.{AreWinningCounts};
+ghost use Rattle.power_index.specs.Swings.{AreWinningCounts};
 ghost use Rattle.council_report.specs.Lines.{with_tab, with_slashes, weights_of_member, index_fields};
 ghost use Rattle.council_report.specs.SwingLines.{added_fields, swing_fields};
 ghost use Rattle.council_report.specs.Inner.Ready.{AppendsInRoom};
@@ -18,8 +18,9 @@ use crate::lines::{push_field, push_number, push_values};
 use crate::output::Block;
 use council_game::Game;
 use itoa::Buffer;
-use power_index::{Counts, Fraction, deegan_packel, public_good};
-use swings::{Swings, banzhaf, penrose, shapley_shubik};
+use power_index::{
+    Counts, Fraction, Swings, banzhaf, deegan_packel, penrose, public_good, shapley_shubik,
+};
 
 /// Appends a field `top/bottom`.
 fn push_fraction(out: &mut Block, fraction: Fraction)

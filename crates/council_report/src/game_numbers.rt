@@ -4,11 +4,10 @@ ghost use Rattle.std.proofs.Props.{props};
 ghost use Rattle.council_game.specs.Game.{IsGame};
 ghost use Rattle.council_report.specs.Inner.Numbers.{AreSomeCounts};
 ghost use Rattle.power_index.specs.Tables.{AreCounts};
-ghost use Rattle.swings.specs.Swings.{AreWinningCounts};
+ghost use Rattle.power_index.specs.Swings.{AreWinningCounts};
 
 use council_game::Game;
-use power_index::Counts;
-use swings::Swings;
+use power_index::{Counts, Swings};
 
 /// A game, and what is shown of it.
 #[derive(Drop)]

@@ -3,14 +3,14 @@ ghost use Rattle.std.specs.Prelude.{◌≡◌, ◌<◌, ℕ, List, Some, decimal
 ghost use Rattle.council_report.specs.Inner.Ready.{AppendsInRoom, AppendsText};
 ghost use Rattle.council_game.specs.Game.{GameView};
 ghost use Rattle.council_game.specs.Joined.{GivesEach};
-ghost use Rattle.swings.specs.Swings.{AreWinningCounts};
+ghost use Rattle.power_index.specs.Swings.{AreWinningCounts};
 ghost use Rattle.council_report.specs.Lines.{members_line, minimal_line, quota_line, title_line, total_line, with_slashes, with_tab};
 ghost use Rattle.council_report.specs.SwingLines.{winning_line};
 
 use crate::output::Block;
 use council_game::{Game, push_joined};
 use itoa::Buffer;
-use swings::Swings;
+use power_index::Swings;
 
 /// Appends a field of bytes.
 pub(crate) fn push_field(out: &mut Block, field: &[u8])

@@ -8,7 +8,7 @@ ghost use Rattle.council_report.specs.Inner.Lines.{heading_of, lines_of};
 ghost use Rattle.council_report.specs.Outcome.{Writes};
 ghost use Rattle.council_report.specs.Report.{report_over, report_with};
 ghost use Rattle.council_report.specs.SwingLines.{added_fields, swings_report, winning_lines};
-ghost use Rattle.swings.specs.Swings.{AreWinningCounts};
+ghost use Rattle.power_index.specs.Swings.{AreWinningCounts};
 
 use crate::ReportLines;
 use crate::fault::ReportFault;
@@ -19,9 +19,8 @@ use crate::shared_line::SharedLine;
 use crate::stream::{put_members, put_pieces, put_sizes};
 use council_base::Sink;
 use council_game::{Coalition, Game};
-use power_index::Counts;
+use power_index::{Counts, Swings};
 use std::alloc::Global;
-use swings::Swings;
 
 /// Writes the lines of what is there.
 ///

@@ -18,6 +18,12 @@ module _ (g : GameView) (w : WalkView) (law : (v : Votes) → IsVotes v → slic
   over-all = ap (λ (v : Votes). slice v w.bits w.number) votes ∙ ap (λ (k : ℕ). slice (votes_of g) k w.number) bits
       ∙ ap (λ (k : ℕ). slice (votes_of g) 0 k) number ∙ law (votes_of g) are
 
+  -- makes at most as many visits as there are members for each set of them
+  pub visits-end : (visits : ℕ) → visits ≤ w.bits + w.votes.members * 2 ^ w.votes.members → visits ≤ length g.names * 2 ^ length g.names
+  visits-end visits most =
+      let each : w.votes.members ≡ length g.names = ap (λ (v : Votes). v.members) votes in
+      omega (arith, subst (λ (n : ℕ). visits ≤ w.bits + n * 2 ^ n) each most, bits)
+
   -- under one rule makes few visits
   pub few-visits : (visits : ℕ) → (length w.votes.rules ≡ 1 → visits ≤ w.bits + (w.votes.members - w.bits) * given_count w)
       → length g.rules ≡ 1 → visits ≤ length g.names * count_of g
@@ -62,6 +68,8 @@ same-parts g (Some k) N h = (ap (λ (v : GameView). v.names) h, ap (λ (v : Game
 -- it is too long too
 pub too-long : (g h : GameView) (visits : ℕ) → (h.names ≡ g.names) × (h.rules ≡ g.rules) → count_of h ≡ count_of g
     → IsTooLong visits h → IsTooLong visits g
-too-long g h visits same count long one =
-    let many = long (ap length same.1 ∙ one) in
-    subst (λ (n : ℕ). visits ≤ length g.names * n) count (subst (λ (n : ℕ). visits ≤ n * count_of h) (ap length same.0) many)
+too-long g h visits same count long =
+    let members : length h.names ≡ length g.names = ap length same.0 in (
+      subst (λ (n : ℕ). visits ≤ n * 2 ^ n) members long.0,
+      λ one. subst (λ (n : ℕ). visits ≤ length g.names * n) count (subst (λ (n : ℕ). visits ≤ n * count_of h) members (long.1 (ap length same.1 ∙ one))),
+    )

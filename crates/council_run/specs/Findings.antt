@@ -2,7 +2,7 @@
 use Rattle.std.specs.Prelude.{◌≡◌, ℕ, Option, Result, Ok, Err}
 use Rattle.council_base.specs.declared.report_lines.ReportLines.{ReportLines}
 use Rattle.council_game.specs.Game.{GameView}
-use Rattle.swings.specs.Swings.{AreWinningCounts}
+use Rattle.power_index.specs.Swings.{AreWinningCounts}
 use Rattle.council_run.specs.Columns.{ShowsSwings}
 use Rattle.council_run.specs.Found.{IsFound, IsNotFound}
 use Rattle.council_run.specs.Run.{IsWithin}

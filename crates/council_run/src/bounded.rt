@@ -49,7 +49,7 @@ fn count_within(alloc: Global, game: &Game, visits: u64) -> Result<Option<Box<Co
     walked.was_checked();
     let mut walk = Walk::new(walked, 0, 0);
     let counted = count_walked(walked, &mut walk, visits);
-    // For the prover: under one rule there are few visits
+    // For the prover: there are no more visits than a walk can make
     let _visits = walk.visits();
     match counted {
         Some(counts) => Ok(Some(on_heap(alloc, counts)?)),

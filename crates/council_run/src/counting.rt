@@ -7,7 +7,7 @@ ghost use Rattle.council_run.specs.Found.{Finds, GatherFaultIs, IsWorkersFault};
 ghost use Rattle.council_run.specs.declared.fault.Cause.TheVariants as cause;
 ghost use Rattle.mwc_gather.specs.declared.fault.GatherFault.TheVariants as gather;
 ghost use Rattle.power_index.specs.Tables.{AreCountsOfGame, Tables};
-ghost use Rattle.swings.specs.Swings.{AreWinningCounts};
+ghost use Rattle.power_index.specs.Swings.{AreWinningCounts};
 ghost use Rattle.council_game.specs.Contribution.{by_contribution};
 ghost use Rattle.council_game.specs.Game.{IsGame};
 
@@ -19,19 +19,17 @@ use council_game::laws::places_do_not_matter;
 use mwc_states::{count_by_states, count_swings};
 use mwc_tally::{TallyFault, tally, tally_slice};
 use mwc_walk::laws::one_slice_is_the_whole;
-use power_index::Counts;
-use power_index::laws::{places_change_no_count, tallies_are_counts};
+use power_index::laws::{places_change_no_count, places_change_no_swing, tallies_are_counts};
+use power_index::{Counts, Swings};
 use std::alloc::Global;
 use std::sync::Wait;
 use std::thread::Threads;
-use swings::Swings;
-use swings::laws::places_change_no_swing;
 
 /// The most states by which a game is counted. With four times as many hardly another game is.
 pub const MOST_STATES: usize = 1 << 22;
 
 /// The most states by which a game is counted before its coalitions are listed. It takes some half
-/// a millisecond to see that a game of 26 members has more.
+/// a millisecond to see that a game of 27 members has more.
 pub const FEW_STATES: usize = 1 << 9;
 
 /// The most states by which a game is counted to tell how many coalitions it has: some tenths of a

@@ -16,8 +16,8 @@ use crate::listing::list_by_walk;
 use council_base::{NoGate, Options, Plan, ReportLines, Sink};
 use council_game::Game;
 use council_report::{ReportFault, write_swings};
+use power_index::Swings;
 use std::alloc::Global;
-use swings::Swings;
 
 /// All that a report is made from, by what it shows.
 #[derive(Drop)]

@@ -8,16 +8,15 @@ ghost use Rattle.council_report.specs.Report.{report_with};
 ghost use Rattle.council_report.specs.SwingLines.{added_fields, winning_lines};
 ghost use Rattle.council_run.specs.Found.{HoldAll, IsFound};
 ghost use Rattle.power_index.specs.Tables.{AreCountsOfGame};
-ghost use Rattle.swings.specs.Swings.{AreWinningCounts};
+ghost use Rattle.power_index.specs.Swings.{AreWinningCounts};
 
 use council_base::{Coalition, Memory, ReportLines, Sink};
 use council_game::Game;
 use council_report::{ReportFault, write_report_of};
 use mwc_gather::Gathered;
-use power_index::Counts;
 use power_index::laws::minimal_coalitions_can_be_counted;
+use power_index::{Counts, Swings};
 use std::alloc::Global;
-use swings::Swings;
 
 /// The minimal winning coalitions of a game, if they were kept.
 #[derive(Drop)]

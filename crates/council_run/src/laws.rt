@@ -12,7 +12,19 @@ use council_file::laws::known_bytes_give_their_game;
 ///
 /// If two runs over the same known bytes, with reports of one kind, both succeed, then they wrote
 /// the same text. So do tallies. After a run the reader r is r2, and the writer v is v2; after the
-/// other s is s2, and w is w2.
+/// other s is s2, and w is w2. `text` is the report that both are asked for, as a text of the game;
+/// `most` and `limit` are how many coalitions there may be, and `n` and `m` how many bytes each run
+/// wrote.
+///
+/// After these two runs `text` and `copy` hold the same bytes, if `options` and `others` agree in
+/// the lines of the report that they ask for:
+///
+/// ```text
+/// let (mut first, mut second) = (bytes.as_slice(), bytes.as_slice());
+/// run(rt, alloc, &mut first, &options, &NoGate, &mut text)?;
+/// run(rt, alloc, &mut second, &others, &gate, &mut copy)?;
+/// workers_change_no_report();
+/// ```
 pub fn workers_change_no_report<R: Source, S: Source, V: Sink, W: Sink>()
     ensures { (text : GameView → List ℕ) (bytes : List ℕ) (most limit : Option ℕ)
         (r r2 : R) (s s2 : S) (v v2 : V) (w w2 : W) (n m : ℕ)

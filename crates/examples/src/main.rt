@@ -3,23 +3,49 @@
 //! member of the game on standard input, a line for each.
 #![tactic(auto)]
 
-mod all_indices;
-mod best;
-mod blocking;
+mod coalitions;
+mod counts;
 mod names;
-mod quotas;
-mod reports;
 mod rings;
 mod slices;
-mod swing_indices;
 mod tables;
-mod tally;
 #[cfg(test)]
 mod tests;
 
-use crate::all_indices::indices_of;
+ghost use Rattle.council_base.specs.declared.limits.TheConstants.{COALITIONS};
+ghost use Rattle.council_game.specs.Game.{votes_of};
+ghost use Rattle.council_game.specs.Members.{members};
+ghost use Rattle.council_game.specs.Votes.{minimal_coalitions};
+ghost use Rattle.power_index.specs.MemberIndices.{indices_of_member};
+ghost use Rattle.std.specs.Prelude.{◌≡◌, ◌<◌, IfNone, IfOk, IfSome, length, map};
+
 use council_file::read_game;
+use council_game::{Game, Memory, limits};
+use mwc_walk::list_all;
+use power_index::{Counts, MemberIndices, all_indices};
+use std::alloc::Global;
 use std::process::ExitCode;
+
+/// Returns both indices of each member, in the order of the file.
+///
+/// It is none if the game has more than 4,000,000 minimal winning coalitions.
+///
+/// # Errors
+///
+/// `Memory` if an allocation was refused.
+pub fn indices_of(alloc: Global, game: &Game) -> Result<Option<Vec<MemberIndices>>, Memory>
+    ensures indices { IfOk result (λ o. IfSome o (λ v. v.items ≡
+        map (indices_of_member game.now (minimal_coalitions (votes_of game.now))) (members game.now))) }
+    ensures count { IfOk result (λ o. IfSome o (λ v. length v.items ≡ length game.now.names)) }
+    ensures more { IfOk result
+        (λ o. IfNone o (COALITIONS < length (minimal_coalitions (votes_of game.now)))) }
+{
+    let Some(list) = list_all(alloc, game, limits::COALITIONS)? else {
+        return Ok(None);
+    };
+    let counts = Counts::of(game, &list);
+    Ok(Some(all_indices(alloc, &counts)?))
+}
 
 fn main(rt: HostRuntime) -> ExitCode {
     let alloc = rt.alloc();

@@ -2,7 +2,7 @@
 ghost use Rattle.council_game.specs.Game.{votes_of};
 ghost use Rattle.council_game.specs.Members.{contains, members};
 ghost use Rattle.council_game.specs.Votes.{has, wins};
-ghost use Rattle.swings.specs.Critical.{is_critical};
+ghost use Rattle.power_index.specs.Swings.{is_critical};
 ghost use Rattle.game_calls.specs.Named.{is_named, is_unnamed};
 ghost use Rattle.std.specs.Cmp.Lexicographic.{pointwise};
 ghost use Rattle.std.specs.List.{filter, list_any};

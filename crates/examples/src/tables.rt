@@ -1,9 +1,41 @@
-//! Indices of all members, compared with each other and with a published table.
+//! Reports, and indices compared with each other and with a published table.
+ghost use Rattle.council_base.specs.declared.limits.TheConstants.{COALITIONS};
+ghost use Rattle.council_game.specs.Game.{votes_of};
+ghost use Rattle.council_game.specs.Votes.{minimal_coalitions};
+ghost use Rattle.council_report.specs.Report.{report};
 ghost use Rattle.power_index.specs.Fractions.{SameFraction, fraction_cmp};
+ghost use Rattle.std.specs.Prelude.{◌<◌, ◌↔◌, ◌≡◌, ◌≢◌, IfNone, IfOk, IfSome, IsTrue, ℕ, length, slice_index_or};
 ghost use Rattle.std.specs.declared.cmp.Ordering.TheVariants.{Less};
-ghost use Rattle.std.specs.Prelude.{◌≡◌, ◌≢◌, ◌↔◌, ◌<◌, ℕ, IfNone, IfSome, IsTrue, length, slice_index_or};
 
+use council_game::{Game, limits};
+use council_report::{ReportFault, ReportLines, write_report};
+use mwc_walk::list_all;
 use power_index::Index;
+use std::alloc::Global;
+
+/// Returns the report of a game as bytes.
+///
+/// It is none if the game has more than 4,000,000 minimal winning coalitions.
+///
+/// # Errors
+///
+/// Memory, or Write if the vector could not grow.
+pub fn report_into_memory(
+    alloc: Global,
+    game: &Game,
+    shown: ReportLines,
+) -> Result<Option<Vec<u8>>, ReportFault>
+    ensures report { IfOk result (λ o. IfSome o (λ v. v.items ≡ report shown game.now)) }
+    ensures more { IfOk result
+        (λ o. IfNone o (COALITIONS < length (minimal_coalitions (votes_of game.now)))) }
+{
+    let Some(list) = list_all(alloc, game, limits::COALITIONS)? else {
+        return Ok(None);
+    };
+    let mut bytes = Vec::new(alloc);
+    write_report(alloc, game, &list, shown, &mut bytes)?;
+    Ok(Some(bytes))
+}
 
 /// Returns whether the index of a member is above that of each other.
 fn is_above_others(indices: &[Index], i: usize) -> bool

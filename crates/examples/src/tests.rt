@@ -3,17 +3,13 @@ mod every_size;
 
 ghost use Rattle.std.specs.Prelude.{◌≡◌, length};
 
-use crate::all_indices::indices_of;
-use crate::best::lightest;
-use crate::blocking::is_blocking;
+use crate::coalitions::{is_blocking, lightest};
+use crate::counts::{counts_at_quotas, indices_by_swings, tally_index};
+use crate::indices_of;
 use crate::names::{find_critical, win_together};
-use crate::quotas::counts_at_quotas;
-use crate::reports::report_into_memory;
 use crate::rings::through_a_ring;
 use crate::slices::{Passes, words_of_slice};
-use crate::swing_indices::indices_by_swings;
-use crate::tables::{first_wrong_row, most_powerful};
-use crate::tally::tally_index;
+use crate::tables::{first_wrong_row, most_powerful, report_into_memory};
 use council_file::parse_game;
 use council_game::{Coalition, Game, GameFault, Rule, plain_list};
 use council_report::ReportLines;

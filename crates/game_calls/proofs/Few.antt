@@ -4,7 +4,7 @@ use Rattle.std.proofs.lemmas.List.FromFn.{length-range_with_len}
 use Rattle.council_game.specs.{Game.GameView, Game.IsGame, Members.members, Votes.down}
 use Rattle.council_game.proofs.Shared.Games.{few-members}
 use Rattle.power_index.proofs.Shared.Sums.{length-filter-le}
-use Rattle.swings.specs.Swings.{coalitions}
+use Rattle.power_index.specs.Swings.{coalitions}
 
 length-down : (n : ℕ) → length (down n) ≡ n
 unfolding down

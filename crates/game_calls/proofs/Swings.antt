@@ -9,7 +9,7 @@ use Rattle.council_base.proofs.Shared.{Digits.has-gone, Lists.filter-both}
 use Rattle.council_game.specs.{Game.GameView, Game.IsGame, Game.votes_of, Members.contains, Votes.down, Votes.minimal, Votes.minimal_coalitions, Votes.wins}
 use Rattle.council_game.proofs.Shared.{Listing.down-below, Listing.listed-is, Sets.needs-members, Sets.sum-down, Sets.sum-one, Sets.without-contains}
 use Rattle.power_index.specs.Counting.{count_of_member}
-use Rattle.swings.specs.{Critical.is_critical, Swings.swings, Swings.winning_coalitions}
+use Rattle.power_index.specs.{Swings.is_critical, Swings.swings, Swings.winning_coalitions}
 use Rattle.game_calls.specs.Winning.{IsVetoer}
 use Rattle.game_calls.proofs.Minimal.{larger_wins-of, minimal_subsets-of}
 

@@ -14,7 +14,7 @@ use Rattle.council_game.specs.Votes.{RuleView, down, rule_at, weight, wins}
 use Rattle.council_game.proofs.Shared.Rankings.{by_rank-at, length-by_rank, length-weights_by_rank}
 use Rattle.council_game.proofs.Shared.Sets.{coalition_of_set, set-below, set-contains, set-one, sum-moved, sum-range, weight-members, without-contains}
 use Rattle.council_game.proofs.Shared.{Making.ranks-are, Renamed.exchange, Weights.weight-without}
-use Rattle.swings.specs.{Critical.is_critical, Swings.swings}
+use Rattle.power_index.specs.{Swings.is_critical, Swings.swings}
 use Rattle.game_calls.specs.Winning.{AreDisjoint, IsProper, IsVetoer}
 use Rattle.game_calls.proofs.{Collecting.needed, Minimal.larger_wins-of, Swings.critical-is, Swings.without-below}
 

@@ -1,6 +1,6 @@
 //! Members that a coalition cannot do without.
 ghost use Rattle.council_game.specs.Members.{members};
-ghost use Rattle.swings.specs.Critical.{is_critical};
+ghost use Rattle.power_index.specs.Swings.{is_critical};
 ghost use Rattle.std.specs.List.{filter};
 ghost use Rattle.std.specs.Prelude.{◌≡◌, ◌<◌, IfOk, length};
 

@@ -20,7 +20,7 @@ ghost use Rattle.std.specs.List.{filter, range_with_len};
 ghost use Rattle.std.specs.Ordering.{nat_cmp};
 ghost use Rattle.std.specs.Prelude.{◌≡◌, ℕ, ◌<◌, ◌^◌, false, [], length, slice_index, slice_index_or, true, All, ◌+◌, ◌++◌, ◌∷◌, Bool, if◌then◌else◌, ◌↔◌, ◌*◌, ◌≤◌, List, map, Ok, Option};
 ghost use Rattle.game_calls.specs.Winning.{IsSubset, HasMinimalSubsets, HasVetoersInAll, HasMinimalSubsetOf, IsInAll, IsProper, IsVetoer};
-ghost use Rattle.swings.specs.Swings.{coalitions, swings, winning_coalitions};
+ghost use Rattle.power_index.specs.Swings.{coalitions, swings, winning_coalitions};
 
 /// Nobody is in the empty coalition.
 #[tactic(auto, using(crate::proofs::Masks::empty))]

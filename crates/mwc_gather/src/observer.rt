@@ -2,20 +2,18 @@
 ghost use Rattle.std.specs.Prelude.{ℕ, ⊤};
 
 use council_base::Gate;
+use mwc_walk::Informed;
 
 /// Whoever is informed of the slices that workers examine.
 ///
 /// Code that may announce one worker and slice can announce no other.
-pub(crate) trait SliceObserver {
+pub(crate) trait SliceObserver: Informed {
     /// For the prover: the workers and slices that it may be informed of.
     ghost takes: { ℕ → ℕ → Type 0 };
 
     /// Announces that a worker is about to examine a slice.
     fn announce(&self, worker: u8, slice: u16)
         requires { takes worker slice };
-
-    /// Notes further progress inside a slice.
-    fn note(&self, prefixes: u64, found: u64);
 }
 
 /// A gate may be informed of any worker and slice.
@@ -24,9 +22,5 @@ impl<G: Gate> SliceObserver for G {
 
     fn announce(&self, worker: u8, slice: u16) {
         self.pass(worker, slice)
-    }
-
-    fn note(&self, prefixes: u64, found: u64) {
-        self.inform(prefixes, found)
     }
 }

@@ -4,9 +4,9 @@ use Rattle.mwc_states.proofs.Imports.{winning_coalitions, What, Minimal, Winning
 use Rattle.mwc_states.proofs.Imports.{◌≡◌, ◌∙◌, ℕ, zero, suc, ◌<◌, ◌≤◌, Bool, true, false, not, ◌&&◌, ◌==◌, List, [], ◌∷◌, length, get_or}
 use Rattle.mwc_states.proofs.Imports.{get_or-set_other, ◌^◌, and_parts, not-true, cases_lt, nat_tests, get_or_past, list_all-map, size}
 use Rattle.mwc_states.proofs.Imports.{down, weight, votes_of, minimal_coalitions, set, filter, refl, sym, ap, arith, inl, inr, leb}
-use Rattle.mwc_states.proofs.Imports.{length-set, get_or-set_same, AreRowsOf, has}
+use Rattle.mwc_states.proofs.Imports.{length-set, get_or-set_same, AreRowsOf, has, cases_eq}
 use Rattle.std.proofs.lemmas.List.FromFn.{fill_by_all, get_or-map-range_with_len, length-map-range_with_len}
-use Rattle.std.proofs.lemmas.Bool.{cases_eq, and_from, not_from_false}
+use Rattle.std.proofs.lemmas.Bool.{and_from, not_from_false}
 use Rattle.council_game.specs.Votes.{rule_at, Votes, IsVotes, wins, minimal}
 use Rattle.mwc_states.specs.Inner.{Games.counted_coalitions, Games.is_counted, Links.AreSizesOf}
 use Rattle.council_base.specs.Coalitions.{without}
@@ -15,7 +15,7 @@ use Rattle.council_game.proofs.Shared.{Lists.all-at, Lists.all-of, Lists.all-rul
 use Rattle.council_game.specs.Game.{GameView, IsGame, AreNonemptyCoalitions}
 use Rattle.power_index.specs.Tables.{AreSizeCounts}
 use Rattle.power_index.proofs.Shared.Minimal.{minimal-are-coalitions, minimal-few}
-use Rattle.swings.proofs.Shared.Winning.{winning-are-coalitions, winning-few}
+use Rattle.power_index.proofs.Shared.Winning.{winning-are-coalitions, winning-few}
 use Rattle.mwc_states.proofs.Masks.{set_of, count-coalitions, weigh-set}
 use Rattle.std.specs.{List.range_with_len, List.list_all, Cmp.both_ways as same_test}
 

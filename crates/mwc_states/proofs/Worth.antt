@@ -2,11 +2,12 @@
 use Rattle.mwc_states.proofs.Imports.{drop-cons, get_or_append_left, get_or_past, get_or_push, get_or-map, length-map, map-append, accepts}
 use Rattle.mwc_states.proofs.Imports.{sum_by_more_le, arith, nat_tests, cases_lt, inl, inr, count_sets, ◌++◌, ◌&&◌, cond, leb, [], length}
 use Rattle.mwc_states.proofs.Imports.{◌≡◌, ◌∙◌, ℕ, zero, suc, ◌+◌, ◌-◌, ◌*◌, ◌^◌, ◌<◌, ◌≤◌, Bool, true, false, List, ◌∷◌, refl, sym, ap}
-use Rattle.mwc_states.proofs.Imports.{link_at, lists, rows_at, count_at, worth, with_member, All, IsWithin, sum_by-cons, Choices, drop}
-use Rattle.mwc_states.proofs.Imports.{get_or}
-use Rattle.std.proofs.lemmas.List.{drop_all, get_or_default, Elements.All-cons, Elements.All-nil}
-use Rattle.mwc_states.specs.Inner.Counting.{later, over_choices, step, AreLeading, AreCompleting}
-use Rattle.std.proofs.Common.{◌⊎◌, ◌/◌, pow_mono, Vec, Global}
+use Rattle.mwc_states.proofs.Imports.{link_at, lists, rows_at, count_at, worth, All, IsWithin, sum_by-cons, Choices, drop, get_or}
+use Rattle.mwc_states.proofs.Imports.{with_fewer, with_later, ◌==◌, take, ltb, cases_eq}
+use Rattle.mwc_states.specs.Inner.Counting.{with_member, later, over_choices, step, AreLeading, AreCompleting}
+use Rattle.std.proofs.lemmas.List.{drop_all, get_or_default, Elements.All-cons, Elements.All-nil, Sums.sum_by-le-sum_by}
+use Rattle.std.proofs.lemmas.Bool.{cond_both}
+use Rattle.std.proofs.Common.{◌⊎◌, ◌/◌, mul-le-mul, pow_mono, slice_index, Vec, Global}
 use Rattle.mwc_states.specs.Inner.{Links.IsGraph, Sets.has}
 unfoldable use Rattle.mwc_states.specs.Inner.Sets.{count_sets}
 unfoldable use Rattle.mwc_states.specs.Inner.Links.{accepts}
@@ -51,6 +52,16 @@ choices-few levels (suc i) c value few =
     let more : 2 ^ suc i ≡ 2 * 2 ^ i = omega arith in
     rw more (omega (arith, rest))
 
+-- a choice is worth a part of what all are
+pub later-part : (links counts : List ℕ) (k : ℕ) (choices : List Choices) (i : ℕ) (d : Choices) → i < length choices
+    → worth (take i choices) (with_later links counts k ((get_or choices i d).size + 1 + k))
+    + (get_or choices i d).count * slice_index counts (link_at links (get_or choices i d).row 1)
+    ≤ worth choices (with_later links counts k ((get_or choices i d).size + 1 + k))
+later-part links counts k choices i d lt =
+    let s : ℕ = (get_or choices i d).size + 1 + k in
+    let here : with_later links counts k s (get_or choices i d).row (get_or choices i d).size ≡ slice_index counts (link_at links (get_or choices i d).row 1) = grind (arith, nat_tests) in
+    omega (arith, ap (λ (n : ℕ). (get_or choices i d).count * n) here, sum_by_more_le (λ (some : Choices). some.count * with_later links counts k s some.row some.size) choices i d lt)
+
 -- the choice of no member
 pub lead-root : (levels : List (List ℕ)) → 1 ≤ rows_at levels 0 → AreLeading levels 0 (record { size = 0; row = 0; count = 1 } ∷ [])
 unfolding over_choices
@@ -63,6 +74,49 @@ lead-root levels root = record {
 pub worth-both : (choices : List Choices) (f g : ℕ → ℕ → ℕ) → worth choices (λ p a. f p a + g p a) ≡ worth choices f + worth choices g
 worth-both [] f g = omega arith
 worth-both (some ∷ rest) f g = simp sum_by-cons (omega (arith, worth-both rest f g))
+
+-- ---- completed by fewer later members, and by one more
+fewer-more : (links : List ℕ) (sizes : List (List ℕ)) (k s p a : ℕ)
+    → with_fewer links sizes (k + 1) s p a ≡ with_fewer links sizes k s p a + with_later links (get_or sizes k []) k s p a
+fewer-more links sizes k s p a = elim (cases_eq s (a + 1 + k)) [
+  | inl same ↦
+      let at : s - (a + 1) ≡ k = omega (arith, same) in
+      grind (arith, nat_tests, same, ap (λ (j : ℕ). count_at sizes (link_at links p 1) j) at)
+  | inr other ↦ grind (arith, nat_tests, other)
+]
+
+fewer-all : (links : List ℕ) (sizes : List (List ℕ)) (k s p a : ℕ) → (length sizes ≤ k) ⊎ (s ≤ k) → with_fewer links sizes k s p a ≡ with_member links sizes s p a
+fewer-all links sizes k s p a all = elim (cases_lt s (a + 1 + k)) [
+  | inl lt ↦ grind (arith, nat_tests, lt)
+  | inr le ↦
+      let past : get_or sizes (s - (a + 1)) [] ≡ [] = get_or_past sizes (s - (a + 1)) [] (elim all [ inl few ↦ omega (arith, few, le) | inr small ↦ absurd (omega (arith, small, le)) ]) in
+      grind (arith, nat_tests, le, past)
+]
+
+worth-zero : (choices : List Choices) → worth choices (λ _ _. 0) ≡ 0
+worth-zero [] = omega arith
+worth-zero (some ∷ rest) = simp sum_by-cons (omega (arith, worth-zero rest))
+
+pub worth-empty : (links : List ℕ) (choices : List Choices) (k s : ℕ) → worth choices (with_later links [] k s) ≡ 0
+worth-empty links choices k s = (λ t. worth choices (λ p a. (let e : with_later links [] k s p a ≡ 0 = grind (arith, nat_tests) in e) t)) ∙ worth-zero choices
+
+module _ (links : List ℕ) (sizes : List (List ℕ)) (choices : List Choices) (s : ℕ) where
+  pub worth-none : worth choices (with_fewer links sizes 0 s) ≡ 0
+  worth-none = (λ t. worth choices (λ p a. (let e : with_fewer links sizes 0 s p a ≡ 0 = grind (arith, nat_tests) in e) t)) ∙ worth-zero choices
+
+  pub worth-more : (k : ℕ) → worth choices (with_fewer links sizes (k + 1) s)
+      ≡ worth choices (with_fewer links sizes k s) + worth choices (with_later links (get_or sizes k []) k s)
+  worth-more k = (λ t. worth choices (λ p a. fewer-more links sizes k s p a t)) ∙ worth-both choices (with_fewer links sizes k s) (with_later links (get_or sizes k []) k s)
+
+  pub worth-all : (k : ℕ) → (length sizes ≤ k) ⊎ (s ≤ k) → worth choices (with_fewer links sizes k s) ≡ worth choices (with_member links sizes s)
+  worth-all k all = (λ t. worth choices (λ p a. fewer-all links sizes k s p a all t))
+
+  pub worth-part : (k : ℕ) → worth choices (with_fewer links sizes k s) ≤ worth choices (with_member links sizes s)
+  worth-part k = sum_by-le-sum_by (λ (some : Choices). some.count * with_fewer links sizes k s some.row some.size) (λ (some : Choices). some.count * with_member links sizes s some.row some.size) choices
+      (λ some. mul-le-mul (omega arith) (fewer-part some.row some.size))
+    where
+      fewer-part : (p a : ℕ) → with_fewer links sizes k s p a ≤ with_member links sizes s p a
+      fewer-part p a = cond_both (ltb s (a + 1 + k)) (with_member links sizes s p a) 0 (λ n. n ≤ with_member links sizes s p a) (λ _. omega arith) (λ _. omega arith)
 
 -- no size more
 pub later-none : (f : ℕ → ℕ) (s : ℕ) → later 0 f s ≡ f s
@@ -181,10 +235,17 @@ module _ {levels : List (List ℕ)} {i : ℕ} {links : List ℕ} (graph : IsGrap
         ∙ (λ t. over_choices levels i (λ p a. later a (count_sets (suc left) (λ set. has 0 set && accepts (front t) p set)) s))
         ∙ choices-sets levels i 0 (suc left) i (length levels) s (omega arith) (omega (arith, h.within)) (omega (arith, h.within))
 
-    pub with-fits : {sizes : List (List ℕ)} → AreCompleting levels (i + 1) sizes → (s : ℕ) → worth choices (with_member links sizes s) < 2 ^ 64
-    with-fits complete s =
-        let up : 2 ^ length levels ≤ 2 ^ 40 = pow_mono {j = 40} graph.few in
-        omega (arith, with-sum complete s, up, sets-few (length levels) s (λ set. has i set && accepts levels 0 set))
+    pub with-fits : {sizes : List (List ℕ)} → AreCompleting levels (i + 1) sizes → (k s : ℕ)
+        → worth choices (with_fewer links sizes k s) + worth choices (with_later links (get_or sizes k []) k s) < 2 ^ 64
+    with-fits {sizes = sizes} complete k s =
+        let up : 2 ^ length levels ≤ 2 ^ 40 = pow_mono {j = 40} graph.few in omega (
+          arith,
+          worth-more links sizes choices s k,
+          worth-part links sizes choices s (k + 1),
+          with-sum complete s,
+          up,
+          sets-few (length levels) s (λ set. has i set && accepts levels 0 set),
+        )
 
   -- ---- one member before
   pub complete-next : {sizes : List (List ℕ)} → AreCompleting levels (i + 1) sizes → (p s : ℕ)

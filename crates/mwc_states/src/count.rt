@@ -4,7 +4,7 @@ ghost use Rattle.council_game.specs.Game.{votes_of};
 ghost use Rattle.council_game.specs.Votes.{rule_at};
 ghost use Rattle.mwc_states.specs.Inner.Games.{AreCountsOf, AreRowsOf, counted_coalitions};
 ghost use Rattle.power_index.specs.Tables.{AreCountsOfGame};
-ghost use Rattle.swings.specs.Swings.{AreWinningCounts};
+ghost use Rattle.power_index.specs.Swings.{AreWinningCounts};
 
 use crate::graph::build;
 use crate::row::Row;
@@ -12,10 +12,9 @@ use crate::set_counts::{SetCounts, count};
 use crate::state::What;
 use council_base::{Gate, Memory};
 use council_game::Game;
-use power_index::Counts;
+use power_index::{Counts, Swings};
 use std::alloc::Global;
 use std::array;
-use swings::Swings;
 
 /// Returns the weights of the member of a rank place.
 fn weights_at(game: &Game, place: usize) -> Row
@@ -102,7 +101,7 @@ pub fn count_by_states<G: Gate>(
 /// # Errors
 ///
 /// Returns `Memory` if an allocation was refused.
-#[tactic(auto, unfolding(swings::specs::Swings::winning_coalitions))]
+#[tactic(auto, unfolding(power_index::specs::Swings::winning_coalitions))]
 pub fn count_swings<G: Gate>(
     alloc: Global,
     game: &Game,

@@ -1,7 +1,7 @@
 //! Counts of the sets that a graph accepts.
 ghost use Rattle.std.specs.Prelude.{◌≡◌, ℕ, ◌+◌, ◌/◌, ◌<◌, ◌≤◌, ◌^◌, [], true, All, IfOk, length, slice_index, slice_index_or};
 ghost use Rattle.council_base.specs.declared.limits.TheConstants.{SIZES};
-ghost use Rattle.mwc_states.specs.Inner.Counting.{AreCompleting, AreLeading, count_at, later, with_member, worth};
+ghost use Rattle.mwc_states.specs.Inner.Counting.{AreCompleting, AreLeading, count_at, later, with_later, worth};
 ghost use Rattle.mwc_states.specs.Inner.Links.{AreSizesOf, IsGraph, link_at, lists};
 ghost use Rattle.mwc_states.specs.Inner.Sets.{has};
 
@@ -50,19 +50,25 @@ fn sizes_of_root(sizes: &[Vec<u64>]) -> SizeCounts
     all
 }
 
-/// Counts the accepted sets of one size that have the member of a level.
+/// Adds up the accepted sets that have the member of a level and `more` later ones.
 #[tactic(auto, using(crate::proofs::Worth::counting))]
-fn count_size_with(links: &Links, choices: &[Choices], completing: &[Vec<u64>], size: usize) -> u64
+fn add_with(links: &Links, choices: &[Choices], counts: &[u64], more: usize, sizes: &mut SizeCounts)
     requires within { All (λ some. some.row < length links.now.items / 2) choices.now }
-    requires fits { worth choices.now (with_member links.now.items (lists completing.now) size) < 2 ^ 64 }
-    ensures { result ≡ worth choices.now (with_member links.now.items (lists completing.now) size) }
+    requires more { more < SIZES }
+    requires fits { (s : ℕ) → s < SIZES
+        → slice_index sizes.old s + worth choices.now (with_later links.now.items counts.now more s) < 2 ^ 64 }
+    ensures { (s : ℕ) → s < SIZES → slice_index sizes.new s
+        ≡ slice_index sizes.old s + worth choices.now (with_later links.now.items counts.now more s) }
 {
-    let mut sum = 0;
-    for some in choices {
-        let counts = counts_of(completing, size, some.size as usize + 1);
-        sum += some.count * count_of(counts, link_at(links, some.row as usize, 1));
+    if counts.is_empty() {
+        return;
     }
-    sum
+    for some in choices {
+        let size = some.size as usize + 1 + more;
+        if size < limits::SIZES {
+            sizes[size] += some.count * count_of(counts, link_at(links, some.row as usize, 1));
+        }
+    }
 }
 
 /// Counts the accepted sets that have the member of a level, by size.
@@ -78,9 +84,10 @@ fn count_with(
     requires completing { AreCompleting (lists levels.now) (level + 1) (lists completing.now) }
     ensures { AreSizesOf (lists levels.now) (has level) result }
 {
+    let links = &levels[level];
     let mut sizes = [0; limits::SIZES];
-    for size in 0..limits::SIZES {
-        sizes[size] = count_size_with(&levels[level], choices, completing, size);
+    for more in 0..completing.len().min(limits::SIZES) {
+        add_with(links, choices, &completing[more], more, &mut sizes);
     }
     sizes
 }

@@ -9,7 +9,7 @@ use Rattle.council_game.proofs.Shared.Listing.{listed-is}
 use Rattle.mwc_walk.specs.{Listed.IsListed, Listed.ListsAll, declared.seek.Seek.Seek}
 use Rattle.mwc_walk.specs.Inner.Cursor.{rest_of_slice, bound, Follows, GivesNext, FindsEnd}
 use Rattle.std.proofs.{Common.if◌then◌else◌, Common.mul-add, Common.take-append-drop, lemmas.List.take_more}
-use Rattle.mwc_walk.proofs.{Rest.down-split, Shared.Joined.slices-joined}
+use Rattle.mwc_walk.proofs.{Imports.pow_pos, Rest.down-split, Shared.Joined.slices-joined, Visits.fit-most}
 use Rattle.council_game.specs.Game.{GameView}
 
 -- what is left of a slice is its end
@@ -85,6 +85,10 @@ pub visits-most : {v : Votes} {a : Cursor} → CursorIs v a → (a.rules ≡ 1 �
 visits-most {v} {a} is rests one =
     let short = rest-short is in
     grind (arith, mul-add)
+
+-- under any rules, they are bounded by what there is to look at
+pub visits-fit : {v : Votes} {a : Cursor} → CursorIs v a → a.visits ≤ a.bits + v.members * 2 ^ v.members
+visits-fit {v} {a} is = fit-most _ _ _ _ _ _ a.fresh (pow_pos (v.members - a.place)) is.place.to is.fit
 
 -- what the calls of a walk rest on
 pub ruleset walking = (given-same, given-next, given-end, visits-most)

@@ -7,11 +7,12 @@ use Rattle.mwc_walk.proofs.Imports.{cases_lt, both_ways, sum_by-take-drop, weigh
 use Rattle.mwc_walk.proofs.Imports.{get_or_default, sum, sym, drop, length-take, nat_tests, zero, w64, trailing_zeros, steps_left, []}
 use Rattle.std.proofs.lemmas.Nat.Bits.{bit_at-trailing_zeros, bit_at-zero}
 use Rattle.std.specs.Int.Count.{trailing_of_zero}
-use Rattle.mwc_walk.specs.Inner.{Cursor.Steps, Cursor.Starts, Cursor.rest_of_slice, Lanes.no_lane, Lanes.lane_reaches, Lanes.lane_wins, Places.LanesAre}
-use Rattle.std.proofs.Common.{All, cond, ltb, pow-suc, lt-ltb, le-ltb}
+use Rattle.mwc_walk.specs.Inner.{Cursor.FitVisits, Cursor.Steps, Cursor.Starts, Cursor.rest_of_slice, Lanes.no_lane, Lanes.lane_reaches, Lanes.lane_wins, Places.LanesAre}
+use Rattle.std.proofs.Common.{All, cond, ltb, pow-suc, pow-add, lt-ltb, le-ltb, mul-le-mul}
 use Rattle.std.proofs.lemmas.Nat.{shl_below, shl_whole}
 use Rattle.mwc_walk.proofs.Rest.{dead-nothing, left-nothing, left-won, left-take, left-none, left-all}
 use Rattle.mwc_walk.proofs.Shared.One.{one-minimal, won-odd, empty-loses, slice-short, in-slice}
+use Rattle.mwc_walk.proofs.Visits.{fit-up, fit-out, fit-in, fit-pass, fit-start}
 use Rattle.mwc_walk.proofs.Rules.{wins-more, reaches-in, full-reach, weight-step, weight-over, weight-block, rest-step, lanes-pass}
 
 -- one digit more
@@ -113,6 +114,7 @@ module _ {v : Votes} {a : Cursor} (is : CursorIs v a) where
     back-up even =
         let place = place-up v a.bits a.number (a.place - 1) a.place (a.prefix / 2) a.prefix is.game (omega arith) refl
         (omega arith) is.place in
+        let fit = fit-up _ _ _ _ _ _ _ _ _ (a.place - 1) stale (sym (halves v.members (a.place - 1) a.place (a.prefix / 2) a.prefix (omega (arith, more, is.place.to)) (omega (arith, more)) (omega (arith, even)))) is.fit in
         grind (arith, cond-false, halves, lanes-up v (a.place - 1) a.place (a.prefix / 2) a.prefix)
 
     -- the last member is left out
@@ -126,6 +128,7 @@ module _ {v : Votes} {a : Cursor} (is : CursorIs v a) where
           (omega (arith, is.place.to)) (is.place.passed more) up in
           let lanes = lanes-out v (a.place - 1) a.place a.prefix (a.prefix - 1) (omega (arith, is.place.to)) (omega arith)
           a.lanes ls k (omega arith) (omega arith) all part is.lanes in
+          let fit = fit-out _ _ _ _ _ _ _ stale (omega (arith, odd)) is.fit in
           grind (arith, cond-false)
 
       out-fits : All (λ l. get_or l.weights (a.place - 1) 0 ≤ l.sum) (take k a.lanes)
@@ -168,7 +171,8 @@ module _ {v : Votes} {a : Cursor} (is : CursorIs v a) where
         ((a.prefix + 1) * 2 ^ (v.members - a.place))
         → (length v.rules ≡ 1 → cond (reaches v.rules a.place a.prefix) (a.place - a.bits) 0 ≡ 0)
         → Steps v a NotYet (record a { fresh = false })
-    pass-by same none = grind (arith, cond-true, cond-false, pow_pos)
+    pass-by same none =
+        let fit = fit-pass _ _ _ _ _ _ _ a.place fresh (pow_pos (v.members - a.place)) is.place.to is.fit in grind (arith, cond-true, cond-false, pow_pos)
 
     -- a prefix that cannot reach some quota is passed by
     pub enter-dead : reaches v.rules a.place a.prefix ≡ false → Steps v a NotYet (record a { fresh = false })
@@ -209,6 +213,7 @@ module _ {v : Votes} {a : Cursor} (is : CursorIs v a) where
           in-room lost is.place in
           let lanes = lanes-in v a.place (a.place + 1) a.prefix (2 * a.prefix + 1) in-room refl a.lanes ls k
           refl all part is.lanes in
+          let fit = fit-in _ _ _ _ _ _ _ _ _ _ t fresh (halves v.members a.place (a.place + 1) (a.prefix + 1) (2 * a.prefix + 1 + 1) in-room refl (omega arith)) refl (omega (arith, counted)) is.fit in
           grind (arith, cond-true, reaches-in, slice-short, halves)
 
   -- the number of a prefix with zeros after it
@@ -233,6 +238,7 @@ module _ {v : Votes} {a : Cursor} (is : CursorIs v a) where
     pub enter-give : a.fresh ≡ true → (m : ℕ) → m ≡ a.prefix * 2 ^ (a.members - a.place)
         → minimal v (a.prefix * 2 ^ (v.members - a.place)) ≡ true → Steps v a (Found m) (record a { fresh = false })
     enter-give fresh m found min =
+        let fit = fit-pass _ _ _ _ _ _ _ a.place fresh (pow_pos (v.members - a.place)) is.place.to is.fit in
         rw (found, is.members) (grind (arith, cond-true, cond-false, in-slice, left-take, open-most, left-won, won-visited))
 
 -- ---- back to the last member that is in
@@ -310,4 +316,7 @@ pub starts : (v : Votes) (k j x m n fixed : ℕ) (ls : List Lane) → IsVotes v 
     → Starts v k j
     (record { lanes = ls; rules = m; members = n; bits = k; number = j; prefix = x; place = k; fresh = true; visits = k })
 starts v k j x m n fixed ls game le below members rules room mask own sums prefix =
+    let whole : 2 ^ k * 2 ^ (v.members - k) ≡ 2 ^ v.members = sym (pow-add 2 k (v.members - k)) ∙ ap (λ (i : ℕ). 2 ^ i) (let e : k + (v.members - k) ≡ v.members = omega (arith, le) in e) in
+    let within : (x + 1) * 2 ^ (v.members - k) ≤ 2 ^ k * 2 ^ (v.members - k) = mul-le-mul (omega (arith, prefix, below)) (omega arith) in
+    let fit : FitVisits v.members k k true x (2 ^ (v.members - k)) k = fit-start _ _ _ _ (omega (arith, within, whole)) in
     grind (arith, cond-false, le-ltb, left-all, pow_pos, lanes-first v k x fixed ls le (rw prefix mask) own sums)

@@ -29,7 +29,10 @@ pub struct SliceProgress {
 
 impl SliceProgress {
     /// Begins with nothing told.
-    pub fn new() -> SliceProgress {
+    pub fn new() -> SliceProgress
+        ensures visits { result.visits ≡ 0 }
+        ensures found { result.found ≡ 0 }
+    {
         SliceProgress {
             visits: 0,
             found: 0,
@@ -38,7 +41,8 @@ impl SliceProgress {
 
     /// Informs of what was not told yet.
     pub fn inform<I: Informed>(&mut self, informed: &I, walk: &Walk<'_>)
-        ensures { self.new.visits ≡ walk.now.visits }
+        ensures visits { self.new.visits ≡ walk.now.visits }
+        ensures found { self.new.found ≡ 0 }
     {
         informed.note(walk.visits().saturating_sub(self.visits), self.found);
         self.visits = walk.visits();

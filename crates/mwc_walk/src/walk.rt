@@ -124,8 +124,9 @@ impl<'a> Walk<'a> {
     /// member out after all belongs to that visit. The count stops at the greatest number that it
     /// can hold.
     ///
-    /// It is never below the number of coalitions given. With one rule it is at most `bits` plus,
-    /// for each coalition given, the number of places that are not fixed.
+    /// It is never below the number of coalitions given. It is at most `bits` plus, for each set of
+    /// members, the number of all members; with one rule `bits` plus, for each coalition given, the
+    /// number of places that are not fixed.
     pub fn visits(&self) -> u64
         ensures count { result ≡ self.now.visits }
         ensures rest { self.now.to_come ≡
@@ -134,6 +135,7 @@ impl<'a> Walk<'a> {
         ensures most { length self.now.votes.rules ≡ 1 →
             result ≤ self.now.bits +
             (self.now.votes.members - self.now.bits) * given_count self.now }
+        ensures ever { result ≤ self.now.bits + self.now.votes.members * 2 ^ self.now.votes.members }
     {
         self.cursor.visits
     }

@@ -8,3 +8,9 @@ mod Units
 mod Walks
 mod Weights
 mod Imports
+mod Flips
+mod OrderShares
+mod Orders
+mod SwingBounds
+mod SwingCounts
+mod SwingPlaces

@@ -8,3 +8,4 @@ pub mod Printed
 pub mod Small
 pub mod Sound
 pub mod Sums
+pub mod Winning

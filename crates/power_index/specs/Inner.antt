@@ -1,2 +1,3 @@
 -- What only proofs, private functions and invariants need: no public contract mentions it.
 pub mod Tables
+pub mod Orders

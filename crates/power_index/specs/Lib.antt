@@ -6,4 +6,6 @@ pub mod Fractions
 pub mod Indices
 pub mod MemberIndices
 pub mod Renaming
+pub mod Swings
+pub mod SwingIndices
 pub mod Inner

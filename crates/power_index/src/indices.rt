@@ -1,4 +1,4 @@
-//! The two power indices of a member.
+//! The two power indices of a member over minimal winning coalitions.
 ghost use Rattle.council_game.specs.Game.{GameView};
 ghost use Rattle.power_index.specs.Fractions.{IsIndex, IsLowestOf, lowest_terms, pair_of};
 ghost use Rattle.power_index.specs.Indices.{deegan_packel, public_good};
@@ -10,11 +10,11 @@ ghost use Rattle.std.specs.Prelude.{◌≡◌, ℕ, ◌*◌, List, ◌<◌, ◌�
 
 use crate::{Counts, Fraction, lowest};
 
-/// The least common multiple of the sizes 1 to 40.
-const DENOMINATOR: u128 = 5_342_931_457_063_200;
+/// The least common multiple of the numbers 1 to 40.
+pub(crate) const DENOMINATOR: u128 = 5_342_931_457_063_200;
 
 /// Divides a part by a whole, in lowest terms: 0/1 if there is nothing to share.
-fn ratio(part: u128, whole: u128) -> Fraction
+pub(crate) fn ratio(part: u128, whole: u128) -> Fraction
     requires part { part ≤ whole }
     requires small { whole ≤ 10 ^ 30 }
     ensures lowest { IsLowestOf (part, whole) (pair_of result) }

@@ -1,6 +1,5 @@
-//! Tests of threads and rings: pipes, gatherings, tallies and whole runs.
-//!
-//! Each module `NAME_tests` tests the public calls of the crate NAME.
+//! Tests of threads and rings: pipes, gatherings, tallies and whole runs. Each module `NAME_tests`
+//! tests the public calls of the crate NAME.
 #![tactic(auto)]
 
 #[cfg(test)]
@@ -13,3 +12,5 @@ mod mwc_gather_tests;
 mod mwc_pipe_tests;
 #[cfg(test)]
 mod mwc_tally_tests;
+#[cfg(test)]
+mod watch;

@@ -3,7 +3,8 @@ mod refusals;
 
 ghost use Rattle.std.specs.Prelude.{◌≡◌, ℕ, length};
 
-use crate::helpers::{Watch, assert_same, game};
+use crate::helpers::{assert_same, game};
+use crate::watch::Watch;
 use council_game::{Coalition, Game};
 use mwc_gather::{
     Gate, GatherFault, Gathered, Guarded, Marks, NoGate, Sent, gather, send_slice, work,

@@ -3,7 +3,8 @@ mod refusals;
 
 ghost use Rattle.std.specs.Prelude.{◌≡◌, ◌<◌, ◌≤◌, length};
 
-use crate::helpers::{Watch, assert_same, game, game_of_rules};
+use crate::helpers::{assert_same, game, game_of_rules};
+use crate::watch::Watch;
 use council_game::Game;
 use mwc_tally::{tally, tally_slice};
 use mwc_walk::Walk;

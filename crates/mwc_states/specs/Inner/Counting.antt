@@ -1,5 +1,5 @@
 -- Choices of the first members of a graph, and sets that complete them, by size.
-use Rattle.std.specs.Prelude.{ℕ, zero, suc, ◌+◌, ◌-◌, ◌*◌, ◌<◌, ◌≤◌, ◌≡◌, nat_le, if◌then◌else◌, All, List, [], length, drop, slice_index, slice_index_or, sum_by}
+use Rattle.std.specs.Prelude.{ℕ, zero, suc, ◌+◌, ◌-◌, ◌*◌, ◌<◌, ◌≤◌, ◌≡◌, ◌==◌, ltb, nat_le, if◌then◌else◌, All, List, [], length, drop, slice_index, slice_index_or, sum_by}
 use Rattle.mwc_states.specs.declared.choices.Choices.{Choices}
 use Rattle.mwc_states.specs.Inner.Sets.{count_sets}
 use Rattle.mwc_states.specs.Inner.Links.{accepts, link_at, rows_at}
@@ -42,3 +42,11 @@ pub record AreCompleting (levels : List (List ℕ)) (i : ℕ) (sizes : List (Lis
 -- how many sets of size s have the member of a level, for a choice of size a that leads to row p
 abbrev pub with_member : List ℕ → List (List ℕ) → ℕ → ℕ → ℕ → ℕ
 with_member links completing s p a = later (a + 1) (count_at completing (link_at links p 1)) s
+
+-- of these, those that have just k later members, which so many sets complete by row
+abbrev pub with_later : List ℕ → List ℕ → ℕ → ℕ → ℕ → ℕ → ℕ
+with_later links counts k s p a = if a + 1 + k == s then slice_index counts (link_at links p 1) else 0
+
+-- and those that have fewer than k later members
+abbrev pub with_fewer : List ℕ → List (List ℕ) → ℕ → ℕ → ℕ → ℕ → ℕ
+with_fewer links completing k s p a = if ltb s (a + 1 + k) then with_member links completing s p a else 0

@@ -1,5 +1,5 @@
 -- How far a walk has come, and what is left to it.
-use Rattle.std.specs.Prelude.{ℕ, ◌+◌, ◌-◌, ◌*◌, ◌/◌, ◌%◌, ◌^◌, ◌≡◌, ◌≤◌, ◌<◌, false, if◌then◌else◌, ltb, List, [], ◌∷◌, length}
+use Rattle.std.specs.Prelude.{ℕ, ◌+◌, ◌-◌, ◌*◌, ◌/◌, ◌%◌, ◌^◌, ◌≡◌, ◌≤◌, ◌<◌, Bool, true, false, if◌then◌else◌, ltb, List, [], ◌∷◌, length}
 use Rattle.council_game.specs.Votes.{Votes, IsVotes}
 use Rattle.mwc_walk.specs.declared.cursor.Cursor.{Cursor}
 use Rattle.mwc_walk.specs.declared.seek.Seek.{Seek}
@@ -48,6 +48,13 @@ pub record CountsVisits (v : Votes) (bits number visits new unmet : ℕ) (rest :
       visits + (v.members - bits) * length rest ≤
       bits + (v.members - bits) * length (slice v bits number) + unmet
 
+-- the visits of a walk over n members after b fixed places: at most n for each number of n digits
+-- that is looked at no more, and one for each place on the way down to a fresh prefix x of p
+-- places, below which there are k numbers
+unfoldable pub FitVisits : (n b visits : ℕ) → Bool → (x k p : ℕ) → Type 0
+FitVisits n b visits true x k p = visits + n * ((x + 1) * k) ≤ b + n * 2 ^ n + p
+FitVisits n b visits false x k p = visits + n * (x * k) ≤ b + n * 2 ^ n
+
 -- what a cursor keeps
 pub record CursorIs (v : Votes) (c : Cursor) : Type 0 where
   pub game : IsVotes v
@@ -58,6 +65,7 @@ pub record CursorIs (v : Votes) (c : Cursor) : Type 0 where
   pub place : IsPlace v c.bits c.number c.place c.prefix
   pub visits :
       CountsVisits v c.bits c.number c.visits (new_visit c) (open_visits v c) (rest_of_slice v c)
+  pub fit : FitVisits v.members c.bits c.visits c.fresh c.prefix (2 ^ (v.members - c.place)) c.place
 
 -- b is the cursor a further on: at the same slice, with no fewer visits
 pub record Follows (v : Votes) (a b : Cursor) : Type 0 where

@@ -3,7 +3,8 @@ ghost use Rattle.std.specs.Prelude.{◌≤◌};
 ghost use Rattle.council_base.specs.declared.limits.TheConstants.{BITS, WORKERS};
 
 use super::*;
-use crate::helpers::{Watch, game_of_rules};
+use crate::helpers::game_of_rules;
+use crate::watch::Watch;
 use council_run::count_by_threads;
 
 /// Runs on the file, and looks whether each of `slices` slices passed once, no other did, and each

@@ -1,5 +1,5 @@
 use Rattle.power_index.specs.Fractions.{lowest_terms}
-use Rattle.swings.specs.{Indices.banzhaf, Indices.penrose, Indices.shapley_shubik, Swings.swings}
+use Rattle.power_index.specs.{SwingIndices.banzhaf, SwingIndices.penrose, SwingIndices.shapley_shubik, Swings.swings}
 use Rattle.council_report.proofs.Fields.{fields-then, index-is, number-is}
 use Rattle.council_report.proofs.Imports.{decimal, [], ◌∷◌, ◌++◌}
 use Rattle.council_report.specs.{Lines.index_fields, SwingLines.swing_fields}

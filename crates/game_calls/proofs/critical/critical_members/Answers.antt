@@ -1,5 +1,5 @@
 use Rattle.std.proofs.Common.{◌∙◌, sym}
-use Rattle.swings.specs.Critical.{is_critical}
+use Rattle.power_index.specs.Swings.{is_critical}
 use Rattle.game_calls.proofs.critical.critical_members.Goals.{then-is_critical+in_ok-push, else-is_critical}
 use Rattle.game_calls.proofs.Others.{passes, fails}
 use Rattle.game_calls.proofs.critical.critical_members.Goals as goal

@@ -1,6 +1,6 @@
 use Rattle.std.proofs.Common.{◌≡◌, filter}
 use Rattle.std.specs.List.{range_with_len}
-use Rattle.swings.specs.Critical.{is_critical}
+use Rattle.power_index.specs.Swings.{is_critical}
 use Rattle.game_calls.proofs.critical.critical_members.Given as goal
 
 abbrev pub invariant-loop-member : goal.invariant-loop-member

@@ -1,5 +1,4 @@
-use Rattle.mwc_states.proofs.Imports.{arith, nat_tests}
-use Rattle.mwc_states.proofs.Leaving.{misses-more}
+use Rattle.mwc_states.proofs.{Imports.arith, Imports.nat_tests, Leaving.misses-more}
 use Rattle.mwc_states.proofs.state.list_misses.Goals as goal
 
 pub loop-miss-preserved : goal.loop-miss-preserved

@@ -1,3 +1,0 @@
--- What other crates may cite.
-pub mod Winning
-pub mod Small

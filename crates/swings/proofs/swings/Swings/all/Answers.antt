@@ -1,6 +1,0 @@
-use Rattle.std.proofs.Common.{arith}
-use Rattle.council_base.proofs.Shared.Ranges.{sum_by-range-more}
-use Rattle.swings.proofs.swings.Swings.all.Goals as goal
-
-pub loop-member-preserved : goal.loop-member-preserved
-loop-member-preserved c = grind (arith, sum_by-range-more)

@@ -1,2 +1,0 @@
--- What only proofs, private functions and invariants need: no public contract mentions it.
-pub mod Orders
