@@ -3,3 +3,4 @@ mod Digits
 mod Parts
 mod Stopping
 mod Swinging
+mod Visits

@@ -3,7 +3,7 @@ use Rattle.std.proofs.Common.{◌≡◌, ℕ, List, Option, Ok, refl}
 use Rattle.council_game.specs.Game.{GameView}
 use Rattle.mwc_gather.specs.declared.fault.GatherFault.{GatherFault}
 use Rattle.mwc_gather.specs.declared.fault.GatherFault.TheVariants as gather
-use Rattle.council_run.specs.{Findings.IsNoFinding, Run.Holds}
+use Rattle.council_run.specs.{Run.Holds, Shared.Finding.IsNoFinding}
 use Rattle.council_run.specs.declared.columns.Columns.{Columns}
 use Rattle.council_run.specs.declared.fault.Cause.{Cause}
 use Rattle.council_run.specs.declared.fault.Cause.TheVariants as cause

@@ -5,7 +5,7 @@ use Rattle.council_game.specs.Game.{GameView}
 use Rattle.council_game.specs.Members.{members}
 use Rattle.council_game.specs.declared.fault.GameFault.{GameFault}
 use Rattle.council_game.specs.declared.fault.GameFault.TheVariants as game
-use Rattle.council_run.specs.Bounded.{IsTooLong}
+use Rattle.council_c.specs.Bounded.{IsTooLong}
 use Rattle.council_run.specs.declared.fault.Cause.TheVariants as cause
 use Rattle.council_c.specs.Answer.{status_of_call}
 use Rattle.council_c.specs.Arrays.{game_of_arrays, member_of_fault, rule_of_fault, rules_of}

@@ -1,3 +1,4 @@
+pub mod Bounded
 pub mod Asked
 pub mod Answer
 pub mod Arrays

@@ -4,18 +4,20 @@ ghost use Rattle.council_base.specs.Options.{lines_of};
 ghost use Rattle.council_c.specs.Asked.{limit_of, lines_of_call, most_of};
 ghost use Rattle.council_run.specs.declared.columns.Columns.{Columns};
 ghost use Rattle.council_run.specs.Columns.{limit_with, report_of};
-ghost use Rattle.council_run.specs.Findings.{AreFindings, FindsAll, columns_of};
+ghost use Rattle.council_run.specs.Findings.{AreFindings, columns_of};
+ghost use Rattle.council_run.specs.Shared.Finding.{FindsAll};
 ghost use Rattle.council_run.specs.Plans.{is_too_many, lines_of_plan};
 ghost use Rattle.council_c.specs.Answer.{FillsBy, Reports, Shows, StopsCall, StopsOn};
 
 use crate::fault::Fault;
+use crate::finding::find_in_one_thread;
 use crate::options::CouncilOptions;
 use crate::page::{Page, put};
 use council_base::{Memory, Options, Plan, ReportLines};
 use council_file::parse_game;
 use council_game::Game;
 use council_report::ReportFault;
-use council_run::{Columns, Findings, RunFault, find_in_one_thread};
+use council_run::{Columns, Findings, RunFault};
 use std::alloc::Global;
 use std::io;
 

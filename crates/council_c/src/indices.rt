@@ -10,12 +10,13 @@ ghost use Rattle.council_run.specs.declared.fault.Cause.TheVariants as cause;
 ghost use Rattle.power_index.specs.Swings.{AreWinningCounts};
 
 use crate::arrays::{game_of_arrays, rule_of_fault};
+use crate::bounded::count_or_stop;
 use crate::fault::Fault;
 use crate::numbers::{all_numbers, summarize};
 use crate::results::{CouncilMember, CouncilSummary, MEMBER_SIZE, SUMMARY_SIZE};
 use council_base::NoGate;
 use council_game::{Game, GameFault, Memory};
-use council_run::{Cause, RunFault, count_or_stop, find_swings};
+use council_run::{Cause, RunFault, find_swings};
 use power_index::Swings;
 use std::alloc::Global;
 

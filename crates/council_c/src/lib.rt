@@ -9,10 +9,12 @@
 #![tactic(auto)]
 
 mod arrays;
+mod bounded;
 mod call;
 mod explain;
 mod fault;
 mod fill;
+mod finding;
 mod indices;
 mod masks;
 mod numbers;

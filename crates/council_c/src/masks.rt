@@ -8,9 +8,10 @@ ghost use Rattle.council_run.specs.Found.{GatherFaultIs, IsNotFound};
 ghost use Rattle.mwc_gather.specs.declared.fault.GatherFault.TheVariants as gather;
 
 use crate::fault::Fault;
+use crate::finding::list_by_walk;
 use crate::indices::{Stop, read};
 use council_game::{Coalition, Game, Memory, limits};
-use council_run::{Coalitions, Found, RunFault, list_by_walk};
+use council_run::{Coalitions, Found, RunFault};
 use std::alloc::Global;
 
 /// Returns the binary digit of a member in the mask of a coalition, or 0 if the member is not in.

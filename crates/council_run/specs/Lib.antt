@@ -4,4 +4,4 @@ pub mod Found
 pub mod Plans
 pub mod Columns
 pub mod Findings
-pub mod Bounded
+pub mod Shared

@@ -1,25 +1,23 @@
-//! Counting the coalitions of a game, and keeping none: by states, and if these are too many, by
-//! worker threads or by one walk.
+//! Counting the coalitions of a game, and keeping none: by states, or if these are too many, by
+//! worker threads.
 ghost use Rattle.std.specs.Prelude.{◌≡◌, ◌⊎◌, IfErr, IfOk, IfSome, None, false, unwrap_or};
 ghost use Rattle.council_base.specs.declared.report_lines.ReportLines.{ReportLines};
 ghost use Rattle.council_run.specs.Run.{count_of};
-ghost use Rattle.council_run.specs.Found.{Finds, GatherFaultIs, IsWorkersFault};
+ghost use Rattle.council_run.specs.Found.{Finds, IsWorkersFault};
 ghost use Rattle.council_run.specs.declared.fault.Cause.TheVariants as cause;
-ghost use Rattle.mwc_gather.specs.declared.fault.GatherFault.TheVariants as gather;
 ghost use Rattle.power_index.specs.Tables.{AreCountsOfGame, Tables};
 ghost use Rattle.power_index.specs.Swings.{AreWinningCounts};
 ghost use Rattle.council_game.specs.Contribution.{by_contribution};
 ghost use Rattle.council_game.specs.Game.{IsGame};
 
 use crate::fault::{Cause, RunFault};
-use crate::found::{Coalitions, Found, on_heap};
+use crate::found::{Coalitions, Found};
 use council_base::{Gate, Memory, NoGate, Options};
 use council_game::Game;
 use council_game::laws::places_do_not_matter;
 use mwc_states::{count_by_states, count_swings};
-use mwc_tally::{TallyFault, tally, tally_slice};
-use mwc_walk::laws::one_slice_is_the_whole;
-use power_index::laws::{places_change_no_count, places_change_no_swing, tallies_are_counts};
+use mwc_tally::{TallyFault, tally};
+use power_index::laws::{places_change_no_count, places_change_no_swing};
 use power_index::{Counts, Swings};
 use std::alloc::Global;
 use std::sync::Wait;
@@ -126,19 +124,6 @@ pub fn count_by_threads<T: Threads + Wait + Sync, G: Gate + Sync>(
     )
 }
 
-/// Counts all coalitions of a game by one walk.
-#[inline(never)]
-fn count_walk(alloc: Global, game: &Game) -> Result<Box<Counts>, Memory>
-    ensures { IfOk result (λ counts. AreCountsOfGame game.now counts.value) }
-{
-    one_slice_is_the_whole();
-    tallies_are_counts();
-    let ordered = game.by_contribution(alloc)?;
-    let walked = choose_game(game, &ordered);
-    walked.was_checked();
-    on_heap(alloc, tally_slice(walked, 0, 0))
-}
-
 /// Counts all coalitions of a game by states, or if these are too many by worker threads.
 fn count_all<T: Threads + Wait + Sync, G: Gate + Sync>(
     rt: &T,
@@ -180,30 +165,11 @@ pub fn count_by_workers<T: Threads + Wait + Sync, G: Gate + Sync>(
     })
 }
 
-/// Counts the coalitions of a game by states, or if these are too many by one walk.
+/// Returns the game to walk over.
 ///
-/// It starts no thread.
-///
-/// # Errors
-///
-/// Out of memory.
-pub fn count_by_walk(alloc: Global, game: &Game) -> Result<Found, RunFault>
-    ensures finds { (lines : ReportLines) → lines.list ≡ false → Finds None lines game.now result }
-    ensures many { GatherFaultIs gather.TooMany result }
-{
-    let counts = match count_states(alloc, game, MOST_STATES, &NoGate)? {
-        Some(counts) => counts,
-        None => count_walk(alloc, game)?,
-    };
-    Ok(Found {
-        counts,
-        coalitions: Coalitions::Counted,
-    })
-}
-
-/// Returns the game to walk over: the one in the order of contribution, if there is one. It has as
-/// many minimal winning coalitions as the game itself, and its counts are those of the game.
-pub(crate) fn choose_game<'a>(game: &'a Game, ordered: &'a Option<Game>) -> &'a Game
+/// That is the one in the order of contribution, if there is one. It has as many minimal winning
+/// coalitions as the game itself, and its counts are those of the game.
+pub fn choose_game<'a>(game: &'a Game, ordered: &'a Option<Game>) -> &'a Game
     requires { IfSome ordered.now (λ h. h ≡ by_contribution game.now) }
     ensures game { result.now ≡ unwrap_or ordered.now game.now }
     ensures as_many { count_of result.now ≡ count_of game.now }

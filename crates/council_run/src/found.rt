@@ -38,7 +38,11 @@ pub struct Found {
 }
 
 /// Puts counts on the heap.
-pub(crate) fn on_heap(alloc: Global, counts: Counts) -> Result<Box<Counts>, Memory>
+///
+/// # Errors
+///
+/// `Memory` if an allocation was refused.
+pub fn on_heap(alloc: Global, counts: Counts) -> Result<Box<Counts>, Memory>
     ensures { IfOk result (λ own. own.value ≡ counts) }
 {
     Ok(Box::new(alloc, counts)?)

@@ -7,7 +7,6 @@
 //! ```
 #![tactic(auto)]
 
-mod bounded;
 mod columns;
 mod counting;
 mod fault;
@@ -17,15 +16,14 @@ pub mod laws;
 mod listing;
 mod runs;
 
-pub use bounded::count_or_stop;
 pub use columns::Columns;
 pub use council_base::{Gate, NoGate, Options, limits};
 pub use counting::{
-    FEW_STATES, LEAST_BITS, MOST_STATES, count_by_threads, count_by_walk, count_by_workers,
+    FEW_STATES, LEAST_BITS, MOST_STATES, choose_game, count_by_threads, count_by_workers,
     count_states, find_swings, number_by_states,
 };
 pub use fault::{Cause, RunFault, status};
-pub use findings::{Findings, find_in_one_thread};
-pub use found::{Coalitions, Found};
-pub use listing::{list_by_walk, list_by_workers};
+pub use findings::Findings;
+pub use found::{Coalitions, Found, on_heap};
+pub use listing::{count_few, list_by_workers};
 pub use runs::{report_game, run, tally};

@@ -1,4 +1,4 @@
-//! Listing the coalitions of a game: by worker threads, or by one walk.
+//! Listing the coalitions of a game by worker threads.
 ghost use Rattle.std.specs.Prelude.{◌≡◌, ◌≤◌, Err, IfErr, IfOk, IfSome, IsSome, Some, length, true, unwrap_or, ◌<◌};
 ghost use Rattle.council_base.specs.declared.limits.TheConstants.{WORKERS};
 ghost use Rattle.council_base.specs.declared.report_lines.ReportLines.{ReportLines};
@@ -14,7 +14,7 @@ use crate::found::{Coalitions, Found, on_heap};
 use council_base::{Gate, Memory, NoGate, Options};
 use council_game::Game;
 use mwc_gather::{GatherFault, Gathered, Guarded, gather};
-use mwc_walk::{Seek, Walk, list_all};
+use mwc_walk::{Seek, Walk};
 use power_index::Counts;
 use power_index::laws::minimal_coalitions_can_be_counted;
 use std::alloc::Global;
@@ -111,11 +111,15 @@ fn is_short(game: &Game) -> bool {
     false
 }
 
-/// Counts the coalitions of a game if few states do that, and fails if there are more than `most`.
+/// Counts the coalitions of a game if few states do that.
 ///
 /// `walked` is the game or has its members in another order. If the walk over it is short, nothing
 /// is counted.
-fn count_few(
+///
+/// # Errors
+///
+/// Out of memory; or TooMany if there are more than `most`.
+pub fn count_few(
     alloc: Global,
     game: &Game,
     walked: &Game,
@@ -186,39 +190,4 @@ pub fn list_by_workers<T: Threads + Wait + Sync, G: Gate + Sync>(
     let counts = count_gathered(alloc, walked, &gathered, counted)?;
     let coalitions = keep(alloc, game, ordered, gathered, options.list)?;
     Ok(Found { counts, coalitions })
-}
-
-/// Lists the coalitions of a game by one walk, and counts them.
-///
-/// It starts no thread. There may be at most `most`. They are kept only if they are to be shown in
-/// a list.
-///
-/// # Errors
-///
-/// Too many coalitions, or out of memory.
-pub fn list_by_walk(alloc: Global, game: &Game, most: u32, list: bool) -> Result<Found, RunFault>
-    ensures finds { (lines : ReportLines) → lines.list ≡ list → Finds (Some most) lines game.now result }
-    ensures many { GatherFaultIs GatherFault.TooMany result }
-{
-    minimal_coalitions_can_be_counted();
-    let ordered = game.by_contribution(alloc)?;
-    let walked = choose_game(game, &ordered);
-    count_few(alloc, game, walked, most)?;
-    let Some(mut all) = list_all(alloc, walked, most)? else {
-        return Err(RunFault::from(GatherFault::TooMany));
-    };
-    let counts = on_heap(alloc, Counts::of(walked, &all))?;
-    if !list {
-        return Ok(Found {
-            counts,
-            coalitions: Coalitions::Counted,
-        });
-    }
-    if let Some(ordered) = &ordered {
-        ordered.renumber_all(&mut all, game);
-    }
-    Ok(Found {
-        counts,
-        coalitions: Coalitions::Whole(all),
-    })
 }

@@ -6,7 +6,7 @@ ghost use Rattle.council_file.specs.Reads.{Reads};
 ghost use Rattle.council_report.specs.Outcome.{Writes};
 ghost use Rattle.council_report.specs.Report.{report};
 ghost use Rattle.council_run.specs.Columns.{ShowsSwings, limit_with, report_of};
-ghost use Rattle.council_run.specs.Findings.{FindsAll};
+ghost use Rattle.council_run.specs.Shared.Finding.{FindsAll};
 ghost use Rattle.council_run.specs.Found.{Finds, GatherFaultIs, IsWorkersFault};
 ghost use Rattle.council_run.specs.Plans.{is_too_many, limit_of, lines_of_plan};
 ghost use Rattle.council_run.specs.Run.{IsOutcome};

@@ -1,6 +1,6 @@
 use Rattle.std.proofs.Common.{refl}
 use Rattle.std.proofs.lemmas.Result.{err_from_is_err_and}
-use Rattle.council_run.proofs.Outcomes.{no-finding}
+use Rattle.council_run.proofs.Shared.Outcomes.{no-finding}
 use Rattle.council_run.specs.Plans.{is_cause_many, limit_of}
 use Rattle.council_run.specs.declared.columns.Columns.TheVariants as columns
 use Rattle.council_run.proofs.runs.find_all.Goals as goal

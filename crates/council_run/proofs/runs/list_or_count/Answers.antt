@@ -1,4 +1,4 @@
-use Rattle.council_run.proofs.Outcomes.{finds-either, not-found-either}
+use Rattle.council_run.proofs.Shared.Outcomes.{finds-either, not-found-either}
 use Rattle.council_run.proofs.runs.list_or_count.Goals as goal
 
 pub returns-in-Err : goal.returns-in-Err

@@ -5,9 +5,10 @@ use Rattle.council_game.specs.Game.{GameView}
 use Rattle.council_game.specs.declared.fault.GameFault.{GameFault}
 use Rattle.council_report.specs.Outcome.{Writes}
 use Rattle.council_run.specs.Columns.{limit_with, report_of}
-use Rattle.council_run.specs.Findings.{IsNoFinding, columns_of}
+use Rattle.council_run.specs.Findings.{columns_of}
+use Rattle.council_run.specs.Shared.Finding.{IsNoFinding}
 use Rattle.council_run.specs.declared.{columns.Columns.Columns, fault.Cause.Cause}
-use Rattle.council_run.proofs.Outcomes.{is-not-many, stops-found, stops-report}
+use Rattle.council_run.proofs.Shared.Outcomes.{is-not-many, stops-found, stops-report}
 use Rattle.council_run.specs.Plans.{is_cause_many, lines_of_plan}
 use Rattle.council_run.specs.Run.{IsOutcome, Stops}
 use Rattle.council_run.proofs.runs.report_game.Goals as goal

@@ -1,9 +1,9 @@
 use Rattle.std.proofs.Common.{refl}
 use Rattle.std.proofs.lemmas.Result.{err_from_is_err_and}
-use Rattle.council_run.proofs.Outcomes.{no-finding}
+use Rattle.council_run.proofs.Shared.Outcomes.{no-finding}
 use Rattle.council_run.specs.Plans.{is_cause_many, limit_of}
 use Rattle.council_run.specs.declared.columns.Columns.TheVariants as columns
-use Rattle.council_run.proofs.findings.find_in_one_thread.Goals as goal
+use Rattle.council_c.proofs.finding.find_in_one_thread.Goals as goal
 
 pub returns-in_err-found-in-Minimal-clause-finds : goal.returns-in_err-found-in-Minimal-clause-finds
 returns-in_err-found-in-Minimal-clause-finds c = rw c.in-Minimal.is (λ lines same.

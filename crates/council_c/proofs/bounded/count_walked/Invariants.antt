@@ -2,7 +2,7 @@ use Rattle.std.proofs.Common.{◌≡◌}
 use Rattle.council_game.specs.Game.{votes_of}
 use Rattle.mwc_walk.specs.{Seeks.seeks_left, WalkView.given}
 use Rattle.power_index.specs.Tables.{AreTallies}
-use Rattle.council_run.proofs.bounded.count_walked.Given as goal
+use Rattle.council_c.proofs.bounded.count_walked.Given as goal
 
 abbrev pub invariant-loop-counts : goal.invariant-loop-counts
 invariant-loop-counts l = record {

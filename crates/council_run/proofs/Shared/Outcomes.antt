@@ -6,7 +6,7 @@ use Rattle.council_game.specs.declared.fault.GameFault.{GameFault}
 use Rattle.council_report.specs.declared.fault.ReportFault.{ReportFault}
 use Rattle.council_report.specs.declared.fault.ReportFault.TheVariants as report
 use Rattle.mwc_gather.specs.declared.fault.GatherFault.TheVariants as gather
-use Rattle.council_run.specs.Findings.{IsNoFinding}
+use Rattle.council_run.specs.Shared.Finding.{IsNoFinding}
 use Rattle.council_run.specs.Found.{Finds, IsNotFound}
 use Rattle.council_run.specs.declared.columns.Columns.{Columns}
 use Rattle.council_run.specs.Plans.{is_cause_many, is_too_many, limit_of}

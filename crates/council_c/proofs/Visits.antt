@@ -8,7 +8,8 @@ use Rattle.council_game.specs.Votes.{IsVotes, Votes, minimal_coalitions}
 use Rattle.mwc_walk.specs.{Slices.slice, WalkView.WalkView, WalkView.given_count}
 use Rattle.power_index.specs.Tables.{Tables, AreTallies, table_total}
 use Rattle.power_index.proofs.Shared.{Minimal.minimal-are-coalitions, Sound.total-is}
-use Rattle.council_run.specs.{Bounded.IsTooLong, Run.count_of}
+use Rattle.council_c.specs.Bounded.{IsTooLong}
+use Rattle.council_run.specs.Run.{count_of}
 
 -- a walk over the whole of a game
 module _ (g : GameView) (w : WalkView) (law : (v : Votes) → IsVotes v → slice v 0 0 ≡ minimal_coalitions v) (are : IsVotes (votes_of g))

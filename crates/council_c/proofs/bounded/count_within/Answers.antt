@@ -1,8 +1,8 @@
 use Rattle.std.proofs.Common.{◌∙◌, ap, arith}
 use Rattle.council_game.specs.Game.{GameView}
 use Rattle.mwc_walk.specs.WalkView.{WalkView}
-use Rattle.council_run.proofs.Visits.{few-visits, same-parts, too-long, visits-end}
-use Rattle.council_run.proofs.bounded.count_within.Goals as goal
+use Rattle.council_c.proofs.Visits.{few-visits, same-parts, too-long, visits-end}
+use Rattle.council_c.proofs.bounded.count_within.Goals as goal
 
 pub returns-clause-long : goal.returns-clause-long
 returns-clause-long c =

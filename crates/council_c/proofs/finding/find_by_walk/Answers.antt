@@ -1,6 +1,6 @@
 use Rattle.std.proofs.Common.{inl, inr}
-use Rattle.council_run.proofs.Outcomes.{finds-either}
-use Rattle.council_run.proofs.findings.find_by_walk.Goals as goal
+use Rattle.council_run.proofs.Shared.Outcomes.{finds-either}
+use Rattle.council_c.proofs.finding.find_by_walk.Goals as goal
 
 pub returns-in-Count-clause-finds : goal.returns-in-Count-clause-finds
 returns-in-Count-clause-finds c = rw c.in-Count.is (λ lines same. c.count_by_walk.ensures.finds lines same)

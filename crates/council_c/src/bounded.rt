@@ -1,14 +1,13 @@
 //! Counting the coalitions of a game in one thread, for at most so long.
 ghost use Rattle.std.specs.Prelude.{◌≡◌, ◌≤◌, IfNone, IfOk, IfSome, []};
 ghost use Rattle.council_game.specs.Game.{votes_of};
-ghost use Rattle.council_run.specs.Bounded.{IsTooLong};
+ghost use Rattle.council_c.specs.Bounded.{IsTooLong};
 ghost use Rattle.mwc_walk.specs.WalkView.{given};
 ghost use Rattle.power_index.specs.Tables.{AreCountsOfGame};
 
-use crate::counting::{MOST_STATES, choose_game, count_states};
-use crate::found::on_heap;
 use council_base::{Memory, NoGate};
 use council_game::Game;
+use council_run::{MOST_STATES, choose_game, count_states, on_heap};
 use mwc_walk::laws::one_slice_is_the_whole;
 use mwc_walk::{Seek, Walk};
 use power_index::Counts;
@@ -59,13 +58,16 @@ fn count_within(alloc: Global, game: &Game, visits: u64) -> Result<Option<Box<Co
 
 /// Counts the coalitions of a game by states, or if these are too many by a walk.
 ///
-/// The walk makes at most `visits` visits; the result is `None` if it has not ended by then. It
-/// starts no thread.
+/// The walk makes at most `visits` visits; the result is `None` if it has not ended by then.
 ///
 /// # Errors
 ///
 /// `Memory` if an allocation was refused.
-pub fn count_or_stop(alloc: Global, game: &Game, visits: u64) -> Result<Option<Box<Counts>>, Memory>
+pub(crate) fn count_or_stop(
+    alloc: Global,
+    game: &Game,
+    visits: u64,
+) -> Result<Option<Box<Counts>>, Memory>
     ensures counts { IfOk result (λ o. IfSome o (λ counts. AreCountsOfGame game.now counts.value)) }
     ensures long { IfOk result (λ o. IfNone o (IsTooLong visits game.now)) }
 {

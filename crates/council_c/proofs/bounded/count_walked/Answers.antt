@@ -3,8 +3,8 @@ use Rattle.council_game.specs.{Game.votes_of, Votes.minimal_coalitions}
 use Rattle.mwc_walk.specs.WalkView.{given}
 use Rattle.power_index.specs.Tables.{AreTallies}
 use Rattle.power_index.proofs.Shared.{Minimal.minimal-few, Sound.tallies-are_counts}
-use Rattle.council_run.proofs.Visits.{over-all, ended, next-is, next-room}
-use Rattle.council_run.proofs.bounded.count_walked.Goals as goal
+use Rattle.council_c.proofs.Visits.{over-all, ended, next-is, next-room}
+use Rattle.council_c.proofs.bounded.count_walked.Goals as goal
 
 pub loop-counts-init : goal.loop-counts-init
 loop-counts-init c = record {
