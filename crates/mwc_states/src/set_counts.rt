@@ -51,6 +51,8 @@ fn sizes_of_root(sizes: &[Vec<u64>]) -> SizeCounts
 }
 
 /// Adds up the accepted sets that have the member of a level and `more` later ones.
+///
+/// `counts` has for each row the number of sets of `more` members that complete it.
 #[tactic(auto, using(crate::proofs::Worth::counting))]
 fn add_with(links: &Links, choices: &[Choices], counts: &[u64], more: usize, sizes: &mut SizeCounts)
     requires within { All (λ some. some.row < length links.now.items / 2) choices.now }

@@ -43,7 +43,8 @@ pub record AreCompleting (levels : List (List ℕ)) (i : ℕ) (sizes : List (Lis
 abbrev pub with_member : List ℕ → List (List ℕ) → ℕ → ℕ → ℕ → ℕ
 with_member links completing s p a = later (a + 1) (count_at completing (link_at links p 1)) s
 
--- of these, those that have just k later members, which so many sets complete by row
+-- of these, those that have just k later members; `counts` says for each row how many sets of k
+-- members complete it
 abbrev pub with_later : List ℕ → List ℕ → ℕ → ℕ → ℕ → ℕ → ℕ
 with_later links counts k s p a = if a + 1 + k == s then slice_index counts (link_at links p 1) else 0
 
