@@ -8,18 +8,16 @@ ghost use Rattle.council_run.specs.Columns.{limit_with, report_of};
 ghost use Rattle.council_run.specs.Run.{IsOutcome};
 ghost use Rattle.council_run.specs.Plans.{is_too_many, lines_of_plan};
 
-use council_base::{Gate, Plan, Sink, Source, sanitize};
-use council_explain::{explain, remark_on_quotas, remark_on_thousands};
+use council_base::{Gate, Plan, Sink, Source};
+use council_explain::{explain, remark_on_names, remark_on_quotas, remark_on_thousands};
 use council_file::{parse_game, read_bytes};
 use council_game::{Game, GameFault};
-use council_progress::Progress;
-use council_run::{
-    Cause, Columns, LEAST_BITS, MOST_STATES, RunFault, number_by_states, report_game, status,
+use council_run::{Cause, Columns, LEAST_BITS, RunFault, number_by_states, report_game, status};
+use council_words::{
+    Arguments, Progress, collect_words, parse_arguments, report_unopened, say, say_more,
 };
-use council_words::{Arguments, collect_words, parse_arguments};
 use mwc_gather::GatherFault;
 use mwc_walk::slice_count;
-use std::alloc::Global;
 use std::io::IsTerminal;
 use std::process::ExitCode;
 use std::rt::Files;
@@ -28,88 +26,43 @@ use std::thread::Threads;
 use std::time::Clock;
 use std::{fs, io};
 
-/// Prints on standard error why the program stops, and returns the status.
-fn print_fault(rt: &impl Eprint, fault: RunFault) -> ExitCode {
-    let cause = fault.cause;
-    let _ = eprintln!(rt; "council: {cause}");
+/// Returns what helps against a fault, or what `--explain` says of it.
+fn advice(cause: Cause, is_explained: bool) -> Option<&'static str> {
+    match (cause, is_explained) {
+        (Cause::Game(GameFault::Memory), _) => None,
+        (Cause::Game(_), false) => Some("--explain says where, and what is allowed"),
+        (Cause::Gather(GatherFault::TooMany), false) => Some("--tally counts any number of them"),
+        (Cause::Gather(GatherFault::TooMany), true) => {
+            Some("--tally counts any number of them, and --most takes up to 4000000")
+        }
+        (Cause::States, false) => Some("--tally may still count the minimal winning coalitions"),
+        (Cause::States, true) => Some(
+            "they take more than 4194304 states; --tally may still count the minimal winning coalitions",
+        ),
+        _ => None,
+    }
+}
+
+/// Says with `--explain` or on a terminal what helps against a fault, and returns the status.
+fn advise(
+    rt: &impl Eprint,
+    arguments: &Arguments<'_>,
+    is_terminal: bool,
+    fault: RunFault,
+) -> ExitCode {
+    if (arguments.explain || is_terminal)
+        && let Some(line) = advice(fault.cause, arguments.explain)
+    {
+        say_more(rt, line);
+    }
     ExitCode::from(status(&fault))
 }
 
-/// What helps against too many states.
-const WITHOUT_SWINGS: &str = "--tally may still count the minimal winning coalitions";
-
-/// Says more of why a game has no report, if there is more to say.
-fn explain_further(rt: &(impl Eprint + AllocGlobal), cause: Cause, game: &Game) {
-    match cause {
-        Cause::Gather(GatherFault::TooMany) => {
-            if let Ok(Some(number)) = number_by_states(rt.alloc(), game) {
-                let _ = eprintln!(rt; "  there are {number} of them");
-            }
-            let _ = eprintln!(rt;
-                "  --tally counts any number of them, and --most takes up to 4000000"
-            );
-        }
-        Cause::States => {
-            let _ = eprintln!(rt; "  they take more than {MOST_STATES} states; {WITHOUT_SWINGS}");
-        }
-        Cause::Game(_) | Cause::Gather(_) | Cause::Write | Cause::Memory => {}
+/// Prints a line on standard error, if there is one.
+fn remark(rt: &impl Eprint, line: Option<&'static str>) {
+    if let Some(line) = line {
+        say(rt, line);
     }
-}
-
-/// Names on a terminal the option that says more of a fault, or that helps against it.
-fn hint(rt: &impl Eprint, cause: Cause) {
-    let line = match cause {
-        Cause::Game(GameFault::Memory) => return,
-        Cause::Game(_) => "--explain says where, and what is allowed",
-        Cause::Gather(GatherFault::TooMany) => "--tally counts any number of them",
-        Cause::States => WITHOUT_SWINGS,
-        Cause::Gather(_) | Cause::Write | Cause::Memory => return,
-    };
-    let _ = eprintln!(rt; "  {line}");
-}
-
-/// What is said of a name that `is_misshown`.
-const MISSHOWN: &str = "has characters that move a terminal or show nothing";
-
-/// Returns whether a text has characters that move a terminal or show nothing.
-fn is_misshown(alloc: Global, text: &str) -> bool {
-    format!(in alloc; "{}", sanitize(text, text.len())).is_ok_and(|shown| shown.as_str() != text)
-}
-
-/// Says on standard error which names a terminal may not show as they are.
-fn remark_on_names(rt: &(impl Eprint + AllocGlobal), game: &Game) {
-    if game
-        .title()
-        .is_some_and(|title| is_misshown(rt.alloc(), title))
-    {
-        let _ = eprintln!(rt; "council: the title {MISSHOWN}");
-    }
-    for member in 0..game.members() {
-        if is_misshown(rt.alloc(), game.name(member)) {
-            let _ = eprintln!(rt; "council: the name of member {} {MISSHOWN}", member + 1);
-        }
-    }
-}
-
-/// The longest path that is shown, in characters.
-const LONGEST_PATH: usize = 4096;
-
-/// Says that the file could not be opened, and why, or on a terminal which option says why.
-fn report_unopened(
-    rt: &impl Eprint,
-    arguments: &Arguments<'_>,
-    terminal: bool,
-    path: &str,
-    error: &io::Error,
-) -> ExitCode {
-    let _ = eprintln!(rt; "council: the game file cannot be opened");
-    if arguments.explain {
-        let path = sanitize(path, LONGEST_PATH);
-        let _ = eprintln!(rt; "  {path}: {error}");
-    } else if terminal {
-        let _ = eprintln!(rt; "  --explain says why");
-    }
-    ExitCode::from(1)
 }
 
 /// Returns which numbers the arguments ask for.
@@ -159,111 +112,143 @@ fn slices_of(arguments: &Arguments<'_>) -> u16 {
     }
 }
 
-/// Reports on a game to standard output, and returns the status.
-///
-/// On a terminal it remarks on what may not be meant: in names first, and in numbers, of which
-/// `thousands` is a remark, after the report.
-fn report_on<R: AllocGlobal + Print + Eprint + Clock + Threads + Wait + Sync>(
+/// Reports on a game to standard output, and shows the progress on a terminal.
+fn print_report<R: AllocGlobal + Print + Eprint + Clock + Threads + Wait + Sync>(
     rt: &R,
     arguments: &Arguments<'_>,
-    terminal: bool,
+    is_terminal: bool,
     game: &Game,
-    thousands: Option<&'static str>,
-) -> ExitCode {
-    if terminal {
-        remark_on_names(rt, game);
-    }
-    let progress = Progress::new(rt, terminal, slices_of(arguments));
+) -> Result<u64, RunFault> {
+    let progress = Progress::new(rt, is_terminal, slices_of(arguments));
     let columns = columns_of(arguments);
     let outcome = report(rt, arguments, columns, game, &progress, &mut io::writer(rt));
     progress.wipe();
-    if let Err(fault) = outcome {
-        let code = print_fault(rt, fault);
-        if arguments.explain {
-            explain_further(rt, fault.cause, game);
-        } else if terminal {
-            hint(rt, fault.cause);
-        }
-        return code;
+    outcome
+}
+
+/// Says why a game has no report, and returns the status.
+fn refuse_game(
+    rt: &(impl Eprint + AllocGlobal),
+    arguments: &Arguments<'_>,
+    is_terminal: bool,
+    fault: RunFault,
+    game: &Game,
+) -> ExitCode {
+    say(rt, fault.cause);
+    if arguments.explain
+        && fault.is_too_many()
+        && let Ok(Some(number)) = number_by_states(rt.alloc(), game)
+    {
+        say_more(rt, format_args!("there are {number} of them"));
     }
-    if terminal {
-        for remark in [thousands, remark_on_quotas(game)] {
-            if let Some(remark) = remark {
-                let _ = eprintln!(rt; "council: {remark}");
-            }
-        }
+    advise(rt, arguments, is_terminal, fault)
+}
+
+/// Reports on a game, whose file has these bytes, and returns the status.
+///
+/// On a terminal it remarks on what may not be meant: in names first, and in numbers after the
+/// report.
+fn report_on<R: AllocGlobal + Print + Eprint + Clock + Threads + Wait + Sync>(
+    rt: &R,
+    arguments: &Arguments<'_>,
+    is_terminal: bool,
+    game: &Game,
+    bytes: &[u8],
+) -> ExitCode {
+    if is_terminal {
+        remark_on_names(rt, game);
+    }
+    if let Err(fault) = print_report(rt, arguments, is_terminal, game) {
+        return refuse_game(rt, arguments, is_terminal, fault, game);
+    }
+    if is_terminal {
+        remark(rt, remark_on_thousands(bytes));
+        remark(rt, remark_on_quotas(game));
     }
     ExitCode::SUCCESS
 }
 
 /// Says why a file has no game, and returns the status; the bytes are those that were read.
-fn refuse(
+fn refuse_file(
     rt: &(impl Eprint + AllocGlobal),
     arguments: &Arguments<'_>,
-    terminal: bool,
+    is_terminal: bool,
     fault: GameFault,
     bytes: &[u8],
 ) -> ExitCode {
-    let code = print_fault(rt, RunFault::from(fault));
-    if arguments.explain {
-        if let Ok(lines) = explain(rt.alloc(), bytes, fault) {
-            let _ = eprint!(rt; "{lines}");
-        }
-    } else if terminal {
-        hint(rt, Cause::Game(fault));
+    say(rt, fault);
+    let status = advise(rt, arguments, is_terminal, RunFault::from(fault));
+    if arguments.explain
+        && let Ok(lines) = explain(rt.alloc(), bytes, fault)
+    {
+        let _ = eprint!(rt; "{lines}");
     }
-    code
+    status
 }
 
-/// Reads a game, and reports on it; `terminal` tells whether standard error is a terminal.
-fn run_on<R: AllocGlobal + Print + Eprint + Clock + Threads + Wait + Sync, I: Source>(
+/// Reads the bytes of the file, or of standard input if none is named.
+fn read_file<R: AllocGlobal + Files + Input>(
+    rt: &R,
+    file: Option<&str>,
+) -> io::Result<Result<Vec<u8>, GameFault>> {
+    match file {
+        Some(path) => Ok(read_bytes(rt.alloc(), &mut fs::open(rt, path)?)),
+        None => Ok(read_bytes(rt.alloc(), &mut rt.reader())),
+    }
+}
+
+/// Reports on the game of these bytes, and returns the status.
+fn run_on<R: AllocGlobal + Print + Eprint + Clock + Threads + Wait + Sync>(
     rt: &R,
     arguments: &Arguments<'_>,
-    terminal: bool,
-    reader: &mut I,
+    is_terminal: bool,
+    bytes: &[u8],
 ) -> ExitCode {
-    let bytes = match read_bytes(rt.alloc(), reader) {
-        Ok(bytes) => bytes,
-        Err(fault) => return refuse(rt, arguments, terminal, fault, &[]),
-    };
-    match parse_game(rt.alloc(), &bytes) {
-        Ok(game) => {
-            let thousands = remark_on_thousands(&bytes);
-            drop(bytes);
-            report_on(rt, arguments, terminal, &game, thousands)
-        }
-        Err(fault) => refuse(rt, arguments, terminal, fault, &bytes),
+    match parse_game(rt.alloc(), bytes) {
+        Ok(game) => report_on(rt, arguments, is_terminal, &game, bytes),
+        Err(fault) => refuse_file(rt, arguments, is_terminal, fault, bytes),
     }
 }
 
-/// Runs on the file, or on standard input if none is named.
+/// Runs on the file that the arguments name, or on standard input.
 fn run_on_file<R: AllocGlobal + Files + Input + Print + Eprint + Clock + Threads + Wait + Sync>(
     rt: &R,
     arguments: &Arguments<'_>,
-    terminal: bool,
+    is_terminal: bool,
 ) -> ExitCode {
-    match arguments.file {
-        Some(path) => match fs::open(rt, path) {
-            Ok(mut file) => run_on(rt, arguments, terminal, &mut file),
-            Err(error) => report_unopened(rt, arguments, terminal, path, &error),
-        },
-        None => run_on(rt, arguments, terminal, &mut rt.reader()),
+    match read_file(rt, arguments.file) {
+        Ok(Ok(bytes)) => run_on(rt, arguments, is_terminal, &bytes),
+        Ok(Err(fault)) => refuse_file(rt, arguments, is_terminal, fault, &[]),
+        Err(error) => report_unopened(rt, arguments, is_terminal, error),
+    }
+}
+
+/// Runs as the words of the command line ask.
+///
+/// `is_typed` tells whether standard input is a terminal, and `is_terminal` whether standard error
+/// is one.
+fn run<R: AllocGlobal + Files + Input + Print + Eprint + Clock + Threads + Wait + Sync>(
+    rt: &R,
+    words: &[String],
+    is_typed: bool,
+    is_terminal: bool,
+) -> ExitCode {
+    match parse_arguments(rt, words) {
+        Ok(arguments) => {
+            if is_typed && arguments.file.is_none() {
+                say(rt, "a game is read from standard input, up to its end");
+            }
+            run_on_file(rt, &arguments, is_terminal)
+        }
+        Err(status) => status,
     }
 }
 
 fn main(rt: HostRuntime) -> ExitCode {
-    let words = match collect_words(&rt) {
-        Ok(words) => words,
-        Err(status) => return status,
-    };
-    match parse_arguments(&rt, words.as_slice()) {
-        Ok(arguments) => {
-            if arguments.file.is_none() && rt.stdin().is_terminal() {
-                let _ = eprintln!(&rt;
-                    "council: a game is read from standard input, up to its end"
-                );
-            }
-            run_on_file(&rt, &arguments, rt.stderr().is_terminal())
+    match collect_words(&rt) {
+        Ok(words) => {
+            let (is_typed, is_terminal) = (rt.stdin().is_terminal(), rt.stderr().is_terminal());
+            run(&rt, words.as_slice(), is_typed, is_terminal)
         }
         Err(status) => status,
     }

@@ -1,5 +1,6 @@
 //! The command line of the program, and what it prints if it cannot run.
-use crate::words::{Arguments, WordsFault, read_words};
+use crate::remarks::say;
+use crate::words::{Arguments, parse, read_words};
 use clap::Error;
 use clap::error::ErrorKind;
 use council_base::sanitize;
@@ -9,8 +10,8 @@ use std::io;
 use std::process::ExitCode;
 
 /// Reports on standard error that memory ran out, and returns the status 5.
-pub fn out_of_memory(rt: &impl Eprint) -> ExitCode {
-    let _ = eprintln!(rt; "council: out of memory");
+fn out_of_memory(rt: &impl Eprint) -> ExitCode {
+    say(rt, "out of memory");
     ExitCode::from(5)
 }
 
@@ -19,47 +20,37 @@ fn no_words(rt: &impl Eprint, error: io::Error) -> ExitCode {
     if error.kind() == io::ErrorKind::OutOfMemory {
         return out_of_memory(rt);
     }
-    let _ = eprintln!(rt; "council: the command line is not UTF-8");
+    say(rt, "the command line is not UTF-8");
     ExitCode::from(2)
 }
 
-/// The name of the program, whatever path started it.
-const NAME: &[u8] = b"council";
-
-/// The words of the command line, of which the first is `NAME`.
+/// The words of the command line, of which the first is empty, and no variables.
 ///
 /// The path that started the program may be no UTF-8, and is no argument.
 #[derive(Drop)]
-struct Named<'a, R>(&'a R);
+struct Unnamed<'a, R>(&'a R);
 
-impl<'a, R: Env> Env for Named<'a, R> {
+impl<'a, R: Env> Env for Unnamed<'a, R> {
     fn arg(&self, i: usize, buf: &mut [u8]) -> Result<usize, FillError> {
-        if i > 0 {
-            return self.0.arg(i, buf);
-        }
-        if buf.len() < NAME.len() {
-            return Err(FillError::TooLong);
-        }
-        buf[..NAME.len()].copy_from_slice(NAME);
-        Ok(NAME.len())
+        if i == 0 { Ok(0) } else { self.0.arg(i, buf) }
     }
 
-    fn var(&self, name: &str, buf: &mut [u8]) -> Result<usize, FillError> {
-        self.0.var(name, buf)
+    fn var(&self, _name: &str, _buf: &mut [u8]) -> Result<usize, FillError> {
+        Err(FillError::NotPresent)
     }
 
-    fn var_at(&self, i: usize, buf: &mut [u8]) -> Result<usize, FillError> {
-        self.0.var_at(i, buf)
+    fn var_at(&self, _i: usize, _buf: &mut [u8]) -> Result<usize, FillError> {
+        Err(FillError::NotPresent)
     }
 }
 
-/// Collects the words of the command line.
+/// Collects the words of the command line, the first of them empty.
 ///
 /// # Errors
 ///
 /// The status to end with, if they are not UTF-8 or memory ran out. A fault is printed first.
 pub fn collect_words(rt: &(impl AllocGlobal + Env + Eprint)) -> Result<Vec<String>, ExitCode> {
-    match std::env::args(&(Named(rt), rt.alloc())) {
+    match std::env::args(&(Unnamed(rt), rt.alloc())) {
         Ok(words) => match words.collect(rt.alloc()) {
             Ok(words) => Ok(words),
             Err(_) => Err(out_of_memory(rt)),
@@ -75,22 +66,22 @@ fn refuse(rt: &(impl Print + Eprint), error: &Error) -> ExitCode {
     }
     let printed = error.print(rt).is_ok();
     if error.use_stderr() {
-        return ExitCode::from(2);
+        ExitCode::from(2)
+    } else if printed {
+        ExitCode::SUCCESS
+    } else {
+        say(rt, "output failed");
+        ExitCode::from(5)
     }
-    if printed {
-        return ExitCode::SUCCESS;
-    }
-    let _ = eprintln!(rt; "council: output failed");
-    ExitCode::from(5)
 }
 
 /// Makes the words safe to show in a line.
 fn sanitize_words(alloc: Global, words: &[String]) -> Result<Vec<String>, AllocError> {
-    let mut sanitize_words = Vec::new(alloc);
+    let mut sanitized = Vec::new(alloc);
     for word in words {
-        sanitize_words.push(format!(in alloc; "{}", sanitize(word.as_str(), usize::MAX))?)?;
+        sanitized.push(format!(in alloc; "{}", sanitize(word.as_str(), usize::MAX))?)?;
     }
-    Ok(sanitize_words)
+    Ok(sanitized)
 }
 
 /// Prints the text of the parser on words that it refuses, with safe words.
@@ -98,16 +89,16 @@ fn refuse_words(rt: &(impl AllocGlobal + Print + Eprint), words: &[String]) -> E
     let Ok(words) = sanitize_words(rt.alloc(), words) else {
         return out_of_memory(rt);
     };
-    match read_words(rt.alloc(), words.as_slice()) {
-        Err(WordsFault::Parse(error)) => refuse(rt, &error),
-        Ok(_) | Err(WordsFault::Range) => {
-            let _ = eprintln!(rt; "council: a word of the command line is not plain");
+    match parse(rt.alloc(), words.as_slice()) {
+        Err(error) => refuse(rt, &error),
+        Ok(_) => {
+            say(rt, "a word of the command line is not plain");
             ExitCode::from(2)
         }
     }
 }
 
-/// Parses the words of the command line, the first of them the name of the program.
+/// Parses the words of the command line, of which the first is no argument.
 ///
 /// # Errors
 ///
@@ -119,16 +110,7 @@ pub fn parse_arguments<'a>(
 ) -> Result<Arguments<'a>, ExitCode> {
     match read_words(rt.alloc(), words) {
         Ok(arguments) => Ok(arguments),
-        Err(WordsFault::Parse(error)) => {
-            if error.kind() == ErrorKind::OutOfMemory {
-                Err(out_of_memory(rt))
-            } else {
-                Err(refuse_words(rt, words))
-            }
-        }
-        Err(WordsFault::Range) => {
-            let _ = eprintln!(rt; "council: a number of the command line is out of range");
-            Err(ExitCode::from(2))
-        }
+        Err(ErrorKind::OutOfMemory) => Err(out_of_memory(rt)),
+        Err(_) => Err(refuse_words(rt, words)),
     }
 }

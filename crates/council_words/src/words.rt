@@ -1,18 +1,10 @@
 //! The words of the command line.
 use clap::builder::ValueParser;
+use clap::error::ErrorKind;
 use clap::parser::ValueSource;
 use clap::{Arg, ArgAction, ArgMatches, Command, Error};
 use council_base::{Options, Plan, limits};
 use std::alloc::{AllocError, Global};
-
-/// Why a command line cannot be run.
-#[derive(Debug, Drop)]
-pub enum WordsFault {
-    /// The parser refused it, or answers `--help` or `--version`.
-    Parse(Error),
-    /// A number is out of range; the parser checks the ranges first.
-    Range,
-}
 
 /// What a command line asks for.
 #[derive(Drop)]
@@ -95,144 +87,141 @@ or read, 2 if the command line is wrong, 3 if the file has no game, 4 if the
 game has more than --most coalitions, 5 if memory ran out, a thread could not be
 started, or the output failed, 6 if swings take too many states.";
 
-/// An option that takes a number.
-///
-/// It has how `--help` writes the number, its default, and its range.
+/// What an argument of the command line takes.
 #[derive(Clone, Copy)]
-struct Number {
-    name: &'static str,
-    value: &'static str,
-    default: &'static str,
-    help: &'static str,
-    least: u32,
-    greatest: u32,
+enum Takes {
+    /// It is the game file.
+    File,
+    /// A number: how `--help` writes it, its default, and its range.
+    Number(&'static str, &'static str, u32, u32),
+    /// Nothing; these do not go with it.
+    Nothing(&'static [&'static str]),
 }
 
-/// The options that take a number.
-const NUMBERS: &[Number] = &[
-    Number {
-        name: "workers",
-        value: "N",
-        default: "4",
-        help: "Worker threads, 1 to 16",
-        least: 1,
-        greatest: limits::WORKERS as u32,
-    },
-    Number {
-        name: "bits",
-        value: "K",
-        default: "6",
-        help: "Tuning only: how the work is cut, 0 to 10",
-        least: 0,
-        greatest: limits::BITS as u32,
-    },
-    Number {
-        name: "most",
-        value: "N",
-        default: "1000000",
-        help: "Refuses a game with more coalitions, 1 to 4000000;
+/// The arguments in the order of `--help`: what each takes, its name and its help.
+const ARGUMENTS: &[(Takes, &str, &str)] = &[
+    (
+        Takes::File,
+        "FILE",
+        "The game file; none, or -, is standard input",
+    ),
+    (
+        Takes::Number("N", "4", 1, limits::WORKERS as u32),
+        "workers",
+        "Worker threads, 1 to 16",
+    ),
+    (
+        Takes::Number("K", "6", 0, limits::BITS as u32),
+        "bits",
+        "Tuning only: how the work is cut, 0 to 10",
+    ),
+    (
+        Takes::Number("N", "1000000", 1, limits::COALITIONS),
+        "most",
+        "Refuses a game with more coalitions, 1 to 4000000;
 without it and --list, a game with more is counted
 if it has few states",
-        least: 1,
-        greatest: limits::COALITIONS,
-    },
-];
-
-/// The flags, their help, and what does not go with them.
-const FLAGS: &[(&str, &str, &[&str])] = &[
-    ("list", "A line for each minimal winning coalition", &[]),
-    ("sizes", "A line for each size of a coalition", &[]),
-    ("notation", "A line [q; w1, .., wn] for each rule", &[]),
+    ),
     (
+        Takes::Nothing(&[]),
+        "list",
+        "A line for each minimal winning coalition",
+    ),
+    (
+        Takes::Nothing(&[]),
+        "sizes",
+        "A line for each size of a coalition",
+    ),
+    (
+        Takes::Nothing(&[]),
+        "notation",
+        "A line [q; w1, .., wn] for each rule",
+    ),
+    (
+        Takes::Nothing(&["list", "most"]),
         "tally",
         "Counts the coalitions, any number of them, and keeps none",
-        &["list", "most"],
     ),
     (
+        Takes::Nothing(&["only-swings"]),
         "swings",
         "Adds swings and the indices that rest on them",
-        &["only-swings"],
     ),
     (
+        Takes::Nothing(&["list", "sizes", "tally", "most"]),
         "only-swings",
         "Shows only these, and finds no minimal winning coalition",
-        &["list", "sizes", "tally", "most"],
     ),
-    ("explain", "If a game is refused, says where and why", &[]),
+    (
+        Takes::Nothing(&[]),
+        "explain",
+        "If a game is refused, says where and why",
+    ),
 ];
 
-/// Makes a parser of the numbers in the range of an option.
-fn range_of<'a>(number: &Number) -> ValueParser<'a> {
-    ValueParser::Signed(i64::from(number.least), i64::from(number.greatest))
-}
-
-/// Makes an option that takes a number.
-fn number_option<'a>(alloc: Global, number: &Number) -> Arg<'a> {
-    Arg::new(alloc, number.name)
-        .long(number.name)
-        .value_name(number.value)
-        .help(number.help)
-        .default_value(number.default)
-        .value_parser(range_of(number))
-}
-
-/// Makes an option that takes nothing.
-fn flag<'a>(
+/// Makes an argument of the command.
+fn make_argument<'a>(
     alloc: Global,
+    takes: Takes,
     name: &'a str,
     help: &'a str,
-    others: &'a [&'a str],
 ) -> Result<Arg<'a>, AllocError> {
-    Arg::new(alloc, name)
-        .long(name)
-        .help(help)
-        .action(ArgAction::SetTrue)
-        .conflicts_with_all(others)
+    let argument = Arg::new(alloc, name).help(help);
+    match takes {
+        Takes::File => Ok(argument),
+        Takes::Number(value, default, least, greatest) => Ok(
+            argument
+                .long(name)
+                .value_name(value)
+                .default_value(default)
+                .value_parser(ValueParser::Signed(i64::from(least), i64::from(greatest))),
+        ),
+        Takes::Nothing(others) => argument
+            .long(name)
+            .action(ArgAction::SetTrue)
+            .conflicts_with_all(others),
+    }
 }
 
-/// Makes the arguments of the command, in the order of `--help`.
+/// Makes the arguments of the command.
 fn make_arguments<'a>(alloc: Global) -> Result<Vec<Arg<'a>>, AllocError> {
-    let file = "The game file; none, or -, is standard input";
     let mut arguments = Vec::new(alloc);
-    arguments.push(Arg::new(alloc, "FILE").help(file))?;
-    for number in NUMBERS {
-        arguments.push(number_option(alloc, number))?;
-    }
-    for (name, help, others) in FLAGS {
-        arguments.push(flag(alloc, name, help, others)?)?;
+    for (takes, name, help) in ARGUMENTS {
+        arguments.push(make_argument(alloc, *takes, name, help)?)?;
     }
     Ok(arguments)
 }
 
-/// Returns the game file that is named, or `None` for standard input and `-`.
-fn file_of<'a>(matches: &ArgMatches<'a>) -> Option<&'a str> {
-    match matches.get_str("FILE") {
-        Some("-") => None,
-        file => file,
-    }
+/// Parses the words, of which the first is the name of the program.
+pub(crate) fn parse<'a>(alloc: Global, words: &'a [String]) -> Result<ArgMatches<'a>, Error> {
+    let arguments = make_arguments(alloc)?;
+    Command::new(alloc, "council")
+        .version(VERSION)
+        .about(ABOUT)
+        .after_help(FORMS)
+        .args(arguments)?
+        .try_get_matches_from(words)
 }
 
-/// Returns the options of a run, or `None` if a number is missing or out of range.
-fn options_of(matches: &ArgMatches<'_>) -> Option<Options> {
-    let workers = matches.get_one::<u8>("workers")?;
-    let bits = matches.get_one::<u8>("bits")?;
-    let most = matches.get_one::<u32>("most")?;
-    if workers == 0
-        || limits::WORKERS < workers
-        || limits::BITS < bits
-        || most == 0
-        || limits::COALITIONS < most
-    {
-        return None;
-    }
-    Some(Options {
-        workers,
-        bits,
-        most,
+/// Returns the options of a run. The parser has checked the ranges of the numbers.
+fn options_of(matches: &ArgMatches<'_>) -> Options {
+    Options {
+        workers: matches
+            .get_one::<u8>("workers")
+            .unwrap_or(1)
+            .clamp(1, limits::WORKERS),
+        bits: matches
+            .get_one::<u8>("bits")
+            .unwrap_or(0)
+            .clamp(0, limits::BITS),
+        most: matches
+            .get_one::<u32>("most")
+            .unwrap_or(1)
+            .clamp(1, limits::COALITIONS),
         list: matches.get_flag("list"),
         sizes: matches.get_flag("sizes"),
         notation: matches.get_flag("notation"),
-    })
+    }
 }
 
 /// Returns how the coalitions are found: only a list and `--most` refuse those that are more.
@@ -247,32 +236,27 @@ fn plan_of(matches: &ArgMatches<'_>) -> Plan {
     }
 }
 
-/// Parses the words.
-fn matches_of<'a>(alloc: Global, words: &'a [String]) -> Result<ArgMatches<'a>, Error> {
-    let taken = make_arguments(alloc)?;
-    Command::new(alloc, "council")
-        .version(VERSION)
-        .about(ABOUT)
-        .after_help(FORMS)
-        .args(taken)?
-        .try_get_matches_from(words)
+/// Returns what the matches of a command line ask for.
+fn arguments_of<'a>(matches: &ArgMatches<'a>) -> Arguments<'a> {
+    let file = matches.get_str("FILE").unwrap_or("-");
+    Arguments {
+        file: if file == "-" { None } else { Some(file) },
+        options: options_of(matches),
+        plan: plan_of(matches),
+        swings: matches.get_flag("swings"),
+        only_swings: matches.get_flag("only-swings"),
+        explain: matches.get_flag("explain"),
+    }
 }
 
 /// Reads a command line, its first word the name of the program.
 ///
 /// # Errors
 ///
-/// `Parse` if the parser refuses it, or answers `--help` or `--version`.
-pub fn read_words<'a>(alloc: Global, words: &'a [String]) -> Result<Arguments<'a>, WordsFault> {
-    match matches_of(alloc, words) {
-        Ok(matches) => Ok(Arguments {
-            file: file_of(&matches),
-            options: options_of(&matches).ok_or(WordsFault::Range)?,
-            plan: plan_of(&matches),
-            swings: matches.get_flag("swings"),
-            only_swings: matches.get_flag("only-swings"),
-            explain: matches.get_flag("explain"),
-        }),
-        Err(error) => Err(WordsFault::Parse(error)),
+/// The kind of the parser's error if it refuses them, or answers `--help` or `--version`.
+pub fn read_words<'a>(alloc: Global, words: &'a [String]) -> Result<Arguments<'a>, ErrorKind> {
+    match parse(alloc, words) {
+        Ok(matches) => Ok(arguments_of(&matches)),
+        Err(error) => Err(error.kind()),
     }
 }
