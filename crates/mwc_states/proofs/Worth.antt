@@ -3,11 +3,12 @@ use Rattle.mwc_states.proofs.Imports.{drop-cons, get_or_append_left, get_or_past
 use Rattle.mwc_states.proofs.Imports.{sum_by_more_le, arith, nat_tests, cases_lt, inl, inr, count_sets, ◌++◌, ◌&&◌, cond, leb, [], length}
 use Rattle.mwc_states.proofs.Imports.{◌≡◌, ◌∙◌, ℕ, zero, suc, ◌+◌, ◌-◌, ◌*◌, ◌^◌, ◌<◌, ◌≤◌, Bool, true, false, List, ◌∷◌, refl, sym, ap}
 use Rattle.mwc_states.proofs.Imports.{link_at, lists, rows_at, count_at, worth, All, IsWithin, sum_by-cons, Choices, drop, get_or}
-use Rattle.mwc_states.proofs.Imports.{with_fewer, with_later, ◌==◌, take, ltb, cases_eq}
+use Rattle.mwc_states.proofs.Imports.{with_fewer, with_later, ◌==◌, take, ltb, cases_eq, set, get_or-set_other}
 use Rattle.mwc_states.specs.Inner.Counting.{with_member, later, over_choices, step, AreLeading, AreCompleting}
+use Rattle.std.proofs.lemmas.{Grind.get_or-set_at, List.map-set}
 use Rattle.std.proofs.lemmas.List.{drop_all, get_or_default, Elements.All-cons, Elements.All-nil, Sums.sum_by-le-sum_by}
 use Rattle.std.proofs.lemmas.Bool.{cond_both}
-use Rattle.std.proofs.Common.{◌⊎◌, ◌/◌, mul-le-mul, pow_mono, slice_index, Vec, Global}
+use Rattle.std.proofs.Common.{◌⊎◌, ◌≢◌, ◌/◌, mul-le-mul, pow_mono, slice_index, Vec, Global}
 use Rattle.mwc_states.specs.Inner.{Links.IsGraph, Sets.has}
 unfoldable use Rattle.mwc_states.specs.Inner.Sets.{count_sets}
 unfoldable use Rattle.mwc_states.specs.Inner.Links.{accepts}
@@ -166,6 +167,19 @@ count-last sizes counts k s is =
     ap (λ (ls : List (List ℕ)). count_at ls k s) (map-append (λ (v : Vec ℕ Global). v.items) sizes (counts ∷ []))
     ∙ ap (λ (l : List ℕ). get_or l k 0) (get_or_push (lists sizes) counts.items [] s (omega (arith, is, as-many sizes)))
 
+-- other counts of a size
+pub count-here : (sizes : List (Vec ℕ Global)) (counts : Vec ℕ Global) (k i s : ℕ) → s ≡ i → i < length sizes
+    → count_at (lists (set sizes i counts)) k s ≡ get_or counts.items k 0
+count-here sizes counts k i s same lt =
+    ap (λ (ls : List (List ℕ)). count_at ls k s) (map-set (λ (v : Vec ℕ Global). v.items) sizes i counts)
+    ∙ ap (λ (l : List ℕ). get_or l k 0) (get_or-set_at (lists sizes) i s counts.items [] same (omega (arith, lt, as-many sizes)))
+
+pub count-other : (sizes : List (Vec ℕ Global)) (counts : Vec ℕ Global) (k i s : ℕ) → s ≢ i
+    → count_at (lists (set sizes i counts)) k s ≡ count_at (lists sizes) k s
+count-other sizes counts k i s other =
+    ap (λ (ls : List (List ℕ)). count_at ls k s) (map-set (λ (v : Vec ℕ Global). v.items) sizes i counts)
+    ∙ ap (λ (l : List ℕ). get_or l k 0) (get_or-set_other (lists sizes) i s counts.items [] other)
+
 pub count-past : (sizes : List (Vec ℕ Global)) (k s : ℕ) → length sizes ≤ s → count_at (lists sizes) k s ≡ 0
 count-past sizes k s le = ap (λ (l : List ℕ). get_or l k 0) (get_or_past (lists sizes) s [] (omega (arith, le, as-many sizes)))
 
@@ -248,13 +262,13 @@ module _ {levels : List (List ℕ)} {i : ℕ} {links : List ℕ} (graph : IsGrap
         )
 
   -- ---- one member before
-  pub complete-next : {sizes : List (List ℕ)} → AreCompleting levels (i + 1) sizes → (p s : ℕ)
+  pub complete-next : (sizes : List (List ℕ)) (p s : ℕ) → ((k t : ℕ) → t ≤ s → k < rows_at levels (i + 1) → count_at sizes k t ≡ count_sets left (accepts rest k) t)
       → later 0 (count_at sizes (link_at links p 0)) s + later 1 (count_at sizes (link_at links p 1)) s
       ≡ count_sets (length levels - i) (accepts (drop i levels) p) s
   unfolding accepts
-  complete-next {sizes = sizes} are p s =
-      (λ t. later-alike 0 (count_at sizes (link_at links p 0)) (count_sets left (accepts rest (link_at links p 0))) s (are.each (link_at links p 0) (s - 0) (level-small (2 * p + 0))) t
-      + later-alike 1 (count_at sizes (link_at links p 1)) (count_sets left (accepts rest (link_at links p 1))) s (are.each (link_at links p 1) (s - 1) (level-small (2 * p + 1))) t)
+  complete-next sizes p s each =
+      (λ t. later-alike 0 (count_at sizes (link_at links p 0)) (count_sets left (accepts rest (link_at links p 0))) s (each (link_at links p 0) (s - 0) (omega arith) (level-small (2 * p + 0))) t
+      + later-alike 1 (count_at sizes (link_at links p 1)) (count_sets left (accepts rest (link_at links p 1))) s (each (link_at links p 1) (s - 1) (omega arith) (level-small (2 * p + 1))) t)
       ∙ sym (sets-step left 0 s (accepts (links ∷ rest) p)) ∙ later-none (count_sets (suc left) (accepts (links ∷ rest) p)) s ∙ (λ t. count_sets (one_level t) (accepts (front t) p) s)
 
   pub complete-fits : (p s : ℕ) → count_sets (length levels - i) (accepts (drop i levels) p) s < 2 ^ 64
@@ -268,7 +282,7 @@ module _ {levels : List (List ℕ)} {i : ℕ} {links : List ℕ} (graph : IsGrap
   complete-past sizes are p s lt = grind (
     arith,
     nat_tests,
-    complete-next are p s,
+    complete-next (lists sizes) p s (λ k t le lt. are.each k t lt),
     count-past sizes (link_at links p 0) s (omega arith),
     count-past sizes (link_at links p 1) (s - 1) (omega arith),
     later-none (count_at (lists sizes) (link_at links p 0)) s,
@@ -292,6 +306,8 @@ complete-last levels = record {
       rw (none, gone) (last-counts k s (rw past at lt));
 }
 
-pub ruleset counting = (nat_tests, sum_by_more_le, complete-last, later-none, with_member, lists, link_at, get_or)
+pub ruleset completing = (nat_tests, complete-last, lists)
+
+pub ruleset counting = (nat_tests, sum_by_more_le, later-none, with_member, lists, link_at, get_or)
 
 pub ruleset leading = (nat_tests, lead-within, level-at)

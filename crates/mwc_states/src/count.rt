@@ -7,14 +7,13 @@ ghost use Rattle.power_index.specs.Tables.{AreCountsOfGame};
 ghost use Rattle.power_index.specs.Swings.{AreWinningCounts};
 
 use crate::graph::build;
-use crate::row::Row;
+use crate::row::{Row, ZERO};
 use crate::set_counts::{SetCounts, count};
 use crate::state::What;
 use council_base::{Gate, Memory};
 use council_game::Game;
 use power_index::{Counts, Swings};
 use std::alloc::Global;
-use std::array;
 
 /// Returns the weights of the member of a rank place.
 fn weights_at(game: &Game, place: usize) -> Row
@@ -22,20 +21,23 @@ fn weights_at(game: &Game, place: usize) -> Row
     ensures { (r : ℕ) → slice_index result r
         ≡ slice_index (rule_at (votes_of game.now).rules r).weights place }
 {
-    let (member, rules) = (game.member_at(place), game.rules());
-    array::from_fn(|r| if r < rules {
-        game.rule_weight(r, member)
-    } else {
-        0
-    })
+    let member = game.member_at(place);
+    let mut weights = ZERO;
+    for r in 0..game.rules() {
+        weights[r] = game.rule_weight(r, member);
+    }
+    weights
 }
 
 /// Returns the quotas of a game.
 fn quotas(game: &Game) -> Row
     ensures { (r : ℕ) → slice_index result r ≡ (rule_at (votes_of game.now).rules r).quota }
 {
-    let rules = game.rules();
-    array::from_fn(|r| if r < rules { game.rule_quota(r) } else { 0 })
+    let mut quotas = ZERO;
+    for r in 0..game.rules() {
+        quotas[r] = game.rule_quota(r);
+    }
+    quotas
 }
 
 /// Lists the weights of the members by rank place.
@@ -50,23 +52,34 @@ fn members(alloc: Global, game: &Game) -> Result<Vec<Row>, Memory>
     Ok(rows)
 }
 
-/// Counts the coalitions of a game that are minimal winning, or those that win.
+/// Counts the coalitions of a game that are minimal winning, or those that win: all by size, and
+/// those that have the member of each rank place.
 fn count_sets<G: Gate>(
     alloc: Global,
     game: &Game,
     what: What,
     room: usize,
     gate: &G,
-) -> Result<Option<Box<SetCounts>>, Memory>
+) -> Result<Option<SetCounts>, Memory>
     ensures { IfOk result (λ o. IfSome o (λ counts.
-        AreCountsOf game.now (counted_coalitions what (votes_of game.now)) counts.value)) }
+        AreCountsOf game.now (counted_coalitions what (votes_of game.now)) counts.0 counts.1)) }
 {
     game.was_checked();
     let members = members(alloc, game)?;
     let need = quotas(game);
-    let Some(levels) = build(alloc, what, &members, &need, game.rules(), room, gate)? else {
+    let mut levels = Vec::new(alloc);
+    if !build(
+        alloc,
+        what,
+        &members,
+        &need,
+        game.rules(),
+        room,
+        gate,
+        &mut levels,
+    )? {
         return Ok(None);
-    };
+    }
     Ok(Some(count(alloc, &levels)?))
 }
 
@@ -91,7 +104,7 @@ pub fn count_by_states<G: Gate>(
     let Some(counts) = count_sets(alloc, game, What::Minimal, room, gate)? else {
         return Ok(None);
     };
-    Ok(Some(Box::new(alloc, Counts::of_sizes(game, counts.all, counts.each))?))
+    Ok(Some(Box::new(alloc, Counts::of_sizes(game, counts.0, counts.1))?))
 }
 
 /// Counts the swings of a game's members by states.
@@ -113,6 +126,6 @@ pub fn count_swings<G: Gate>(
     let Some(counts) = count_sets(alloc, game, What::Winning, room, gate)? else {
         return Ok(None);
     };
-    let winning = Box::new(alloc, Counts::of_sizes(game, counts.all, counts.each))?;
+    let winning = Box::new(alloc, Counts::of_sizes(game, counts.0, counts.1))?;
     Ok(Some(Swings::of(game, winning)))
 }

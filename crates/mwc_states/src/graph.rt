@@ -1,9 +1,9 @@
 //! The graph of states, level by level.
-ghost use Rattle.std.specs.Prelude.{◌≡◌, ◌+◌, ◌*◌, ◌<◌, ◌≤◌, ◌^◌, IfOk, IfSome, length, map};
+ghost use Rattle.std.specs.Prelude.{◌≡◌, ◌+◌, ◌*◌, ◌<◌, ◌≤◌, ◌^◌, [], true, IfOk, IfSome, length, map};
 ghost use Rattle.council_base.specs.declared.limits.TheConstants.{MEMBERS, RULES};
 ghost use Rattle.mwc_states.specs.Inner.Graphs.{IsGraphOf};
 ghost use Rattle.mwc_states.specs.Inner.Links.{link_at};
-ghost use Rattle.mwc_states.specs.Inner.Tables.{IsLevel};
+ghost use Rattle.mwc_states.specs.Inner.Tables.{AreDecided, IsLevel};
 
 use crate::later::Later;
 use crate::row::Row;
@@ -24,37 +24,64 @@ pub(crate) fn link_at(links: &Links, row: usize, choice: usize) -> u32
     links[2 * row + choice]
 }
 
-/// Decides a member in each state of a level, and returns the links to the next one and its states.
+/// Decides a member in each state of a table, and adds what they leave to another one.
 ///
-/// Returns `None` if these have more than `rows` rows, before equal ones are merged.
-#[tactic(auto, using(crate::proofs::Building::found))]
-pub(crate) fn decide_level(
-    alloc: Global,
+/// Returns whether this has at most `rows` rows, before equal states are merged.
+fn decide_states(
     what: What,
     table: &Table,
     member: &Row,
     later: &Later,
     rows: usize,
-) -> Result<Option<(Links, Table)>, Memory>
-    requires { length table.now ≤ 2 ^ 26 }
-    ensures { IfOk result (λ o. IfSome o (λ level. IsLevel what member.now later.now.members.now
-        table.now level.0.items level.1)) }
+    next: &mut Table,
+    left: &mut Vec<Row>,
+) -> Result<bool, Memory>
+    requires { next.old ≡ [] }
+    ensures { IfOk result (λ whole. whole ≡ true → AreDecided what member.now later.now.members.now
+        table.now next.new (length table.now)) }
 {
-    let mut next = Table::new(alloc);
-    let mut left = Vec::new(alloc);
     for place in 0..table.len() {
         if next.rows() > rows {
-            return Ok(None);
+            return Ok(false);
         }
-        decide(what, table.state(place), member, false, later, &mut left)?;
-        next.push(&left)?;
-        decide(what, table.state(place), member, true, later, &mut left)?;
-        next.push(&left)?;
+        decide(what, table.state(place), member, false, later, left)?;
+        next.push(left)?;
+        decide(what, table.state(place), member, true, later, left)?;
+        next.push(left)?;
     }
-    let Some(level) = next.sort(alloc)? else {
+    Ok(true)
+}
+
+/// Decides a member in each state of a level, and returns the links to the next one.
+///
+/// The table gets the states of that one. Returns `None` if these have more than `rows` rows,
+/// before equal ones are merged.
+#[tactic(auto, using(crate::proofs::Building::found))]
+fn decide_level(
+    alloc: Global,
+    what: What,
+    member: &Row,
+    later: &Later,
+    rows: usize,
+    table: &mut Table,
+) -> Result<Option<Links>, Memory>
+    requires { length table.old ≤ 2 ^ 26 }
+    ensures { IfOk result (λ o. IfSome o (λ links. IsLevel what member.now later.now.members.now
+        table.old links.items table.new)) }
+{
+    let mut next = Table::new(alloc);
+    if !decide_states(
+        what,
+        table,
+        member,
+        later,
+        rows,
+        &mut next,
+        &mut Vec::new(alloc),
+    )? {
         return Ok(None);
-    };
-    Ok(Some(level))
+    }
+    next.sort(alloc, table)
 }
 
 /// Returns how many sums of later members are listed under each rule, if a level has these states.
@@ -77,8 +104,8 @@ fn rows_for(room: usize) -> usize {
 
 /// Builds the graph of the sets of members that complete a need.
 ///
-/// Each level decides the next member. Returns `None` if there are more than `room` states, or too
-/// many rows, or if no set of all members completes the need. The gate hears of each level.
+/// Adds a level for each member, and the gate hears of it. Returns false if there are more than
+/// `room` states, or too many rows, or if no set of all members completes the need.
 pub(crate) fn build<G: Gate>(
     alloc: Global,
     what: What,
@@ -87,39 +114,32 @@ pub(crate) fn build<G: Gate>(
     rules: usize,
     room: usize,
     gate: &G,
-) -> Result<Option<Vec<Links>>, Memory>
+    levels: &mut Vec<Links>,
+) -> Result<bool, Memory>
     requires some { 1 ≤ length members.now }
     requires few { length members.now ≤ MEMBERS }
     requires rules { rules ≤ RULES }
-    ensures { IfOk result (λ o. IfSome o (λ levels.
-        IsGraphOf what members.now need.now (map (λ links. links.items) levels.items))) }
+    requires none { levels.old.items ≡ [] }
+    ensures { IfOk result (λ whole. whole ≡ true →
+        IsGraphOf what members.now need.now (map (λ links. links.items) levels.new.items)) }
 {
-    let mut levels = Vec::with_capacity(alloc, members.len())?;
     let mut table = Table::new(alloc);
     table.push(&[*need])?;
     let rows = rows_for(room);
     let mut left = room.min(1 << 26);
     for level in 0..members.len() {
         if table.len() > left {
-            return Ok(None);
+            return Ok(false);
         }
         left -= table.len();
-        let later = Later::new(
-            alloc,
-            &members[level + 1..],
-            rules,
-            sums_for(table.len(), rules, room),
-        )?;
-        let Some((links, next)) = decide_level(alloc, what, &table, &members[level], &later, rows)?
+        let sums = sums_for(table.len(), rules, room);
+        let later = Later::new(alloc, &members[level + 1..], rules, sums)?;
+        let Some(links) = decide_level(alloc, what, &members[level], &later, rows, &mut table)?
         else {
-            return Ok(None);
+            return Ok(false);
         };
         levels.push(links)?;
-        table = next;
         gate.decide(level as u8 + 1, members.len() as u8);
     }
-    if table.is_last() {
-        return Ok(Some(levels));
-    }
-    Ok(None)
+    Ok(table.is_last())
 }

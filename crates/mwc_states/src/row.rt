@@ -6,7 +6,6 @@ ghost use Rattle.mwc_states.specs.Inner.Later.{IsTotal};
 ghost use Rattle.mwc_states.specs.Inner.States.{misses_all};
 
 use council_base::{Memory, limits};
-use std::array;
 
 /// A number under each rule; 0 under the rules that a game does not have.
 pub(crate) type Row = [u64; limits::RULES];
@@ -19,7 +18,11 @@ pub(crate) const ZERO: Row = [0; limits::RULES];
 pub(crate) fn add(a: &Row, b: &Row) -> Row
     ensures { (r : ℕ) → slice_index result r ≡ min (slice_index a.now r + slice_index b.now r) MOST }
 {
-    array::from_fn(|r| a[r].saturating_add(b[r]))
+    let mut sum = *a;
+    for r in 0..limits::RULES {
+        sum[r] = sum[r].saturating_add(b[r]);
+    }
+    sum
 }
 
 /// Returns the sum of some rows, up to the greatest number of 64 bits.
@@ -41,10 +44,13 @@ pub(crate) fn reduce(row: &Row, member: &Row, taken: bool) -> Row
     ensures { (r : ℕ) → slice_index result r
         ≡ slice_index row.now r - (if taken then slice_index member.now r else 0) }
 {
-    if !taken {
-        return *row;
+    let mut left = *row;
+    if taken {
+        for r in 0..limits::RULES {
+            left[r] = left[r].saturating_sub(member[r]);
+        }
     }
-    array::from_fn(|r| row[r].saturating_sub(member[r]))
+    left
 }
 
 /// Returns the greater of two numbers under each rule.
@@ -52,7 +58,11 @@ pub(crate) fn reduce(row: &Row, member: &Row, taken: bool) -> Row
 pub(crate) fn max(a: &Row, b: &Row) -> Row
     ensures { (r : ℕ) → slice_index result r ≡ max (slice_index a.now r) (slice_index b.now r) }
 {
-    array::from_fn(|r| a[r].max(b[r]))
+    let mut max = *a;
+    for r in 0..limits::RULES {
+        max[r] = max[r].max(b[r]);
+    }
+    max
 }
 
 /// Returns the lesser of two numbers under each rule.
@@ -60,7 +70,11 @@ pub(crate) fn max(a: &Row, b: &Row) -> Row
 pub(crate) fn min(a: &Row, b: &Row) -> Row
     ensures { (r : ℕ) → slice_index result r ≡ min (slice_index a.now r) (slice_index b.now r) }
 {
-    array::from_fn(|r| a[r].min(b[r]))
+    let mut min = *a;
+    for r in 0..limits::RULES {
+        min[r] = min[r].min(b[r]);
+    }
+    min
 }
 
 /// Returns whether weights are at least as great as a row under each rule.
@@ -69,7 +83,12 @@ pub(crate) fn min(a: &Row, b: &Row) -> Row
 pub(crate) fn meets(weights: &Row, row: &Row) -> bool
     ensures { result ≡ meets (slice_index weights.now) row.now }
 {
-    (0..limits::RULES).all(|r| weights[r] >= row[r])
+    for r in 0..limits::RULES {
+        if weights[r] < row[r] {
+            return false;
+        }
+    }
+    true
 }
 
 /// Lets proofs know that the numbers of a row have 64 bits.
@@ -84,7 +103,12 @@ pub(crate) fn is_row(row: &Row)
 pub(crate) fn is_implied(rows: &[Row], miss: &Row) -> bool
     ensures { result ≡ list_any (λ row. meets (slice_index miss.now) row) rows.now }
 {
-    rows.iter().any(|row| meets(miss, row))
+    for row in rows {
+        if meets(miss, row) {
+            return true;
+        }
+    }
+    false
 }
 
 /// Adds a row to the misses of a state, which are in order, and drops those that it implies.

@@ -1,5 +1,5 @@
 //! Counts of the sets that a graph accepts.
-ghost use Rattle.std.specs.Prelude.{◌≡◌, ℕ, ◌+◌, ◌/◌, ◌<◌, ◌≤◌, ◌^◌, [], true, All, IfOk, length, slice_index, slice_index_or};
+ghost use Rattle.std.specs.Prelude.{◌≡◌, ℕ, ◌+◌, ◌/◌, ◌<◌, ◌≤◌, ◌^◌, [], true, false, All, IfOk, OnOk, length, slice_index, slice_index_or};
 ghost use Rattle.council_base.specs.declared.limits.TheConstants.{SIZES};
 ghost use Rattle.mwc_states.specs.Inner.Counting.{AreCompleting, AreLeading, count_at, later, with_later, worth};
 ghost use Rattle.mwc_states.specs.Inner.Links.{AreSizesOf, IsGraph, link_at, lists};
@@ -12,11 +12,7 @@ use power_index::SizeCounts;
 use std::alloc::Global;
 
 /// Accepted sets by size: of all, and of those that have each member.
-#[derive(Clone, Copy)]
-pub(crate) struct SetCounts {
-    pub(crate) all: SizeCounts,
-    pub(crate) each: [SizeCounts; limits::MEMBERS],
-}
+pub(crate) type SetCounts = (SizeCounts, [SizeCounts; limits::MEMBERS]);
 
 /// Returns the count of a row, or 0 if it is not there.
 #[inline]
@@ -94,9 +90,29 @@ fn count_with(
     sizes
 }
 
-/// Counts the sets of one size that complete each row of a level; lists none if all counts are 0.
+/// Counts the sets of one size that complete each row of a level; returns whether there are any.
 ///
 /// They are the sets without the member of the level and those with it.
+fn complete_rows(links: &Links, without: &[u64], with: &[u64], counts: &mut [u64]) -> bool
+    requires rows { length counts.old ≡ length links.now.items / 2 }
+    requires fits { (k : ℕ) → slice_index without.now (link_at links.now.items k 0)
+        + slice_index with.now (link_at links.now.items k 1) < 2 ^ 64 }
+    ensures counts { (k : ℕ) → k < length links.now.items / 2
+        → slice_index counts.new k ≡ slice_index without.now (link_at links.now.items k 0)
+        + slice_index with.now (link_at links.now.items k 1) }
+    ensures none { result ≡ false → (k : ℕ) → slice_index counts.new k ≡ 0 }
+{
+    let mut any = false;
+    for row in 0..counts.len() {
+        let count = count_of(without, link_at(links, row, 0))
+            + count_of(with, link_at(links, row, 1));
+        any |= count > 0;
+        counts[row] = count;
+    }
+    any
+}
+
+/// Counts the sets of one size that complete each row of a level; lists none if all counts are 0.
 fn complete_size(
     alloc: Global,
     links: &Links,
@@ -112,85 +128,83 @@ fn complete_size(
     if without.is_empty() && with.is_empty() {
         return Ok(Vec::new(alloc));
     }
-    let rows = links.len() / 2;
-    let mut counts = Vec::with_capacity(alloc, rows)?;
-    for row in 0..rows {
-        let count = count_of(without, link_at(links, row, 0))
-            + count_of(with, link_at(links, row, 1));
-        counts.push(count)?;
-    }
-    if counts.iter().all(|count| *count == 0) {
+    let mut counts = vec![in alloc; 0; links.len() / 2]?;
+    if !complete_rows(links, without, with, &mut counts) {
         return Ok(Vec::new(alloc));
     }
     Ok(counts)
 }
 
-/// Counts the sets that complete the rows of a level, by size, from those of the next one.
+/// Counts the sets that complete the rows of a level, by size, instead of those of the next one.
 fn complete(
     alloc: Global,
     levels: &[Links],
     level: usize,
-    next: &[Vec<u64>],
-) -> Result<Vec<Vec<u64>>, Memory>
+    sizes: &mut Vec<Vec<u64>>,
+) -> Result<(), Memory>
     requires graph { IsGraph (lists levels.now) }
     requires level { level < length levels.now }
-    requires next { AreCompleting (lists levels.now) (level + 1) (lists next.now) }
-    ensures { IfOk result (λ sizes. AreCompleting (lists levels.now) level (lists sizes.items)) }
+    requires next { AreCompleting (lists levels.now) (level + 1) (lists sizes.old.items) }
+    ensures { OnOk result (AreCompleting (lists levels.now) level (lists sizes.new.items)) }
 {
     let links = &levels[level];
-    let mut sizes = Vec::new(alloc);
-    for size in 0..next.len() + 1 {
-        let (without, with) = (counts_of(next, size, 0), counts_of(next, size, 1));
-        sizes.push(complete_size(alloc, links, without, with)?)?;
+    sizes.push(Vec::new(alloc))?;
+    for size in (0..sizes.len()).rev() {
+        let (without, with) = (counts_of(sizes, size, 0), counts_of(sizes, size, 1));
+        sizes[size] = complete_size(alloc, links, without, with)?;
     }
-    Ok(sizes)
+    Ok(())
 }
 
-/// Counts the sets that complete the rows of a level, and the accepted ones with each later member.
-#[tactic(auto, using(crate::proofs::Worth::counting))]
+/// Counts the accepted sets with each member from a level on, and those that complete its rows.
+///
+/// At first `completing` has those that complete the rows after the last level.
 fn count_from(
     alloc: Global,
     levels: &[Links],
     level: usize,
     choices: &[Choices],
+    completing: &mut Vec<Vec<u64>>,
     each: &mut [SizeCounts; limits::MEMBERS],
-) -> Result<Vec<Vec<u64>>, Memory>
+) -> Result<(), Memory>
     requires graph { IsGraph (lists levels.now) }
     requires level { level ≤ length levels.now }
     requires choices { AreLeading (lists levels.now) level choices.now }
-    ensures completing { IfOk result (λ sizes.
-        AreCompleting (lists levels.now) level (lists sizes.items)) }
-    ensures each { IfOk result (λ _. (i : ℕ) → level ≤ i → i < length levels.now
+    requires last { AreCompleting (lists levels.now) (length levels.now) (lists completing.old.items) }
+    ensures completing { OnOk result
+        (AreCompleting (lists levels.now) level (lists completing.new.items)) }
+    ensures each { OnOk result ((i : ℕ) → level ≤ i → i < length levels.now
         → AreSizesOf (lists levels.now) (has i) (slice_index_or each.new i [])) }
 {
     if level == levels.len() {
-        // The empty set completes row 1 after the last level, and no set completes row 0.
-        let empty = vec![in alloc; 0, 1]?;
-        return Ok(vec![in alloc; empty]?);
+        return Ok(());
     }
     let next = decide_all(alloc, levels, level, choices)?;
-    let completing = count_from(alloc, levels, level + 1, &next, each)?;
-    each[level] = count_with(levels, level, choices, &completing);
-    complete(alloc, levels, level, &completing)
+    count_from(alloc, levels, level + 1, &next, completing, each)?;
+    each[level] = count_with(levels, level, choices, completing);
+    complete(alloc, levels, level, completing)
 }
 
-/// Counts the sets that a graph accepts, by size and by member.
+/// Counts the sets that a graph accepts by size: all, and those that have each member.
 ///
 /// Member i is decided at level i, and the root is row 0 of level 0. Choices are counted from the
 /// first level on, and sets that complete them from the last one back.
-pub(crate) fn count(alloc: Global, levels: &[Links]) -> Result<Box<SetCounts>, Memory>
+#[tactic(auto, using(crate::proofs::Worth::completing))]
+pub(crate) fn count(alloc: Global, levels: &[Links]) -> Result<SetCounts, Memory>
     requires { IsGraph (lists levels.now) }
-    ensures all { IfOk result (λ counts. AreSizesOf (lists levels.now) (λ set. true) counts.value.all) }
+    ensures all { IfOk result (λ counts. AreSizesOf (lists levels.now) (λ set. true) counts.0) }
     ensures each { IfOk result (λ counts. (i : ℕ) → i < length levels.now
-        → AreSizesOf (lists levels.now) (has i) (slice_index_or counts.value.each i [])) }
+        → AreSizesOf (lists levels.now) (has i) (slice_index_or counts.1 i [])) }
 {
     let root = [Choices {
         size: 0,
         row: 0,
         count: 1,
     }];
+    // The empty set completes row 1 after the last level, and no set completes row 0.
+    let mut completing = Vec::new(alloc);
+    completing.push(vec![in alloc; 0, 1]?)?;
     let mut each = [[0; limits::SIZES]; limits::MEMBERS];
-    let completing = count_from(alloc, levels, 0, &root, &mut each)?;
-    let all = sizes_of_root(&completing);
-    Ok(Box::new(alloc, SetCounts { all, each })?)
+    count_from(alloc, levels, 0, &root, &mut completing, &mut each)?;
+    Ok((sizes_of_root(&completing), each))
 }

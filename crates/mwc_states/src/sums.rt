@@ -1,5 +1,5 @@
 //! Sums of the subsets of some members.
-ghost use Rattle.std.specs.Prelude.{◌≡◌, ◌<◌, ◌≤◌, ℕ, true, Bool, List, length, slice_index, IfOk, OnOk};
+ghost use Rattle.std.specs.Prelude.{◌≡◌, ◌<◌, ◌≤◌, ℕ, true, [], Bool, List, length, slice_index, IfOk, OnOk};
 ghost use Rattle.council_base.specs.declared.limits.TheConstants.{RULES};
 ghost use Rattle.mwc_states.specs.Inner.Sets.{weigh, meets};
 ghost use Rattle.mwc_states.specs.Inner.Sums.{IsAscending, AddsSum, AddsMember, AreListed, AreLowered, AreSums};
@@ -26,44 +26,55 @@ fn push(sums: &mut Vec<Row>, sum: &Row, rule: usize) -> Result<(), Memory>
 }
 
 /// Lists the sums of some members' subsets with and without one more member.
-fn add_member(alloc: Global, sums: &[Row], member: &Row, rule: usize) -> Result<Vec<Row>, Memory>
+fn add_member(sums: &[Row], member: &Row, rule: usize, all: &mut Vec<Row>) -> Result<(), Memory>
     requires rule { rule < RULES }
+    requires none { all.old.items ≡ [] }
     requires ascending { IsAscending rule sums.now }
-    ensures { IfOk result (λ all. AddsMember rule member.now sums.now all.items
+    ensures { OnOk result (AddsMember rule member.now sums.now all.new.items
         (length sums.now) (length sums.now)) }
 {
-    let mut all = Vec::with_capacity(alloc, sums.len().saturating_mul(2))?;
     let mut i = 0;
     let mut j = 0;
     while j < sums.len() {
         let with = row::add(&sums[j], member);
         if i < sums.len() && sums[i][rule] <= with[rule] {
-            push(&mut all, &sums[i], rule)?;
+            push(all, &sums[i], rule)?;
             i += 1;
         } else {
-            push(&mut all, &with, rule)?;
+            push(all, &with, rule)?;
             j += 1;
         }
     }
-    Ok(all)
+    Ok(())
 }
 
 /// Lists the sums of all subsets of some members, ascending under a rule.
 ///
 /// Stops early once there are more than `limit` sums.
-fn list(alloc: Global, members: &[Row], rule: usize, limit: usize) -> Result<Vec<Row>, Memory>
+fn list(
+    alloc: Global,
+    members: &[Row],
+    rule: usize,
+    limit: usize,
+    sums: &mut Vec<Row>,
+) -> Result<(), Memory>
     requires rule { rule < RULES }
-    ensures { IfOk result (λ sums. length sums.items ≤ limit
-        → AreListed rule members.now sums.items) }
+    requires none { sums.old.items ≡ [] }
+    ensures { OnOk result (length sums.new.items ≤ limit
+        → AreListed rule members.now sums.new.items) }
 {
     let Some((member, others)) = members.split_first() else {
-        return Ok(vec![in alloc; ZERO]?);
+        sums.push(ZERO)?;
+        return Ok(());
     };
-    let sums = list(alloc, others, rule, limit)?;
+    list(alloc, others, rule, limit, sums)?;
     if sums.len() > limit {
-        return Ok(sums);
+        return Ok(());
     }
-    Ok(add_member(alloc, &sums, member, rule)?)
+    let mut all = Vec::with_capacity(alloc, sums.len().saturating_mul(2))?;
+    add_member(sums, member, rule, &mut all)?;
+    *sums = all;
+    Ok(())
 }
 
 /// Lowers each row to the least of itself and all later ones under each rule.
@@ -97,7 +108,8 @@ impl Sums {
         requires rule { rule < RULES }
         ensures { IfOk result (λ sums. AreSums sums.rule members.now sums.rows.items) }
     {
-        let mut rows = list(alloc, members, rule, limit)?;
+        let mut rows = Vec::new(alloc);
+        list(alloc, members, rule, limit, &mut rows)?;
         if rows.len() > limit {
             return Ok(Sums {
                 rule,

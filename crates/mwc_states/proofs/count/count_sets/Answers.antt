@@ -11,18 +11,18 @@ returns g c =
     let votes = c.was_checked.ensures.votes in
     let members = c.in_ok-members.members.items in
     let need = c.quotas-need.result in
-    let levels = map (λ l. l.items) c.in-Some.levels.items in
+    let levels = map (λ l. l.items) c.build.new.levels.items in
     let rows = c.in_ok-members.ensures in
-    let graph : IsGraphOf c.args.what members need levels = rw c.deref.ensures.value at (rw c.in-Some.is at c.in_ok-levels.ensures) in
+    let graph : IsGraphOf c.args.what members need levels = rw c.deref.ensures.value at (c.in_ok-build.ensures c.if-not-branch.false) in
     let long : length levels ≡ v.members = graph.long ∙ rows.long in
     let same = λ (xs : List Bool) (full : length xs ≡ v.members). graph.accepts_all xs (full ∙ sym rows.long) in
-    let few : length c.in-Some.levels.items ≡ v.members = sym (length-map c.in-Some.levels.items (λ l. l.items)) ∙ long in
+    let few : length c.build.new.levels.items ≡ v.members = sym (length-map c.build.new.levels.items (λ l. l.items)) ∙ long in
     record {
       few = counted-few c.args.what c.args.game.now c.was_checked.ensures.game;
       coalitions = counted-nonempty c.args.what c.args.game.now c.was_checked.ensures.game;
-      all = sizes-are v members need votes rows c.quotas-need.ensures c.args.what levels (λ _. true) (λ _. true) c.in_ok-count.field-0.value.all long same (λ _. refl)
+      of_all = sizes-are v members need votes rows c.quotas-need.ensures c.args.what levels (λ _. true) (λ _. true) c.in_ok-count.field-0.0 long same (λ _. refl)
           (rw c.deref-2.ensures.value at c.in_ok-count.ensures.all);
-      each = λ p lt. sizes-are v members need votes rows c.quotas-need.ensures c.args.what levels (set_has p) (has v.members p) (get_or c.in_ok-count.field-0.value.each p []) long
+      of_each = λ p lt. sizes-are v members need votes rows c.quotas-need.ensures c.args.what levels (set_has p) (has v.members p) (get_or c.in_ok-count.field-0.1 p []) long
           same (λ m. set-at v.members m p lt)
           (rw c.deref-2.ensures.value at (c.in_ok-count.ensures.each p (omega (arith, lt, few, ap length c.deref-2.ensures.value))));
     }

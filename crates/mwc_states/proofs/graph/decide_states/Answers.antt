@@ -1,5 +1,5 @@
 use Rattle.mwc_states.proofs.Building.{decided-more}
-use Rattle.mwc_states.proofs.graph.decide_level.Goals as goal
+use Rattle.mwc_states.proofs.graph.decide_states.Goals as goal
 
 pub loop-place-preserved : goal.loop-place-preserved
 loop-place-preserved c = rw (c.in_ok-push-2.ensures, c.in_ok-push.ensures) (decided-more c.args.what c.args.member.now c.args.later.now.members.now c.args.table.now
