@@ -13,8 +13,8 @@ room=$(mktemp -d)
 trap 'rm -rf "$room"' EXIT
 mkdir "$room/crates"
 cp "$top/HANDLES" "$room/"
-grep -E '^(council_base|mwc_pipe)[ :]' "$top/crates.txt" > "$room/crates.txt"
-for name in council_base mwc_pipe; do
+grep -E '^(council_game|mwc_pipe)[ :]' "$top/crates.txt" > "$room/crates.txt"
+for name in council_game mwc_pipe; do
     mkdir "$room/crates/$name"
     for part in src specs proofs out; do
         if [ -d "$top/crates/$name/$part" ]; then

@@ -43,10 +43,10 @@ RINGS = [
 ]
 # in reading order: the first pattern that fits a module
 PARTS = [
-    ("The mathematics", r"council_base\.(?!Options)|council_game\.(Votes|Ranks|Members)|mwc_walk\.Slices|power_index\."),
+    ("The mathematics", r"council_game\.(Coalitions|Lists|Votes|Ranks|Members)|mwc_walk\.Slices|power_index\."),
     ("The pipe", r"mwc_pipe\."),
     ("The gathering", r"mwc_gather\."),
-    ("The game file", r"council_game\.(?!Joined|Notation)|council_file\.(Bracket|File)"),
+    ("The game file", r"council_game\.(?!Joined|Notation|Options)|council_file\.(Bracket|File)"),
     ("The report", r"council_report\.|council_game\.(Joined|Notation)"),
     ("The run", r"."),
 ]
@@ -65,7 +65,7 @@ ring was read to its end and gave what the worker sent. It rests on the contract
 on private clauses of the gatherer. The last section lists what the three public contracts add.
 
 A limit has a name here, such as `MEMBERS`; `are_these_numbers` in
-`crates/council_base/src/limits.rt` says its number. In the clauses of `gather`, `guarded.now` is
+`crates/council_game/src/limits.rt` says its number. In the clauses of `gather`, `guarded.now` is
 the game that `Guarded::new` was given.
 
 This page is computed by following the names in the sources: `python3 tests/reading.py --page`

@@ -23,8 +23,7 @@ use crate::guarded::Guarded;
 use crate::job::Job;
 use crate::send::put;
 use crate::worker_handle::WorkerHandle;
-use council_base::Gate;
-use council_game::Game;
+use council_game::{Game, Gate};
 use mwc_pipe::{Word, ring};
 use std::alloc::Global;
 use std::process::Abort;
@@ -193,7 +192,7 @@ use crate::marks::Marks;
 use crate::waiting::tests::{equal_game, is_asleep, looks_before_sleep, wait_for_sleeps};
 use crate::waiting::{Backoff, Waker, Wakers};
 use crate::worker_handle::WorkerHandle;
-use council_base::{Gate, NoGate};
+use council_game::{Gate, NoGate};
 use std::process::Abort;
 use std::thread;
 

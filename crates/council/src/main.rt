@@ -8,10 +8,9 @@ ghost use Rattle.council_run.specs.Columns.{limit_with, report_of};
 ghost use Rattle.council_run.specs.Run.{IsOutcome};
 ghost use Rattle.council_run.specs.Plans.{is_too_many, lines_of_plan};
 
-use council_base::{Gate, Plan, Sink, Source};
 use council_explain::{explain, remark_on_names, remark_on_quotas, remark_on_thousands};
 use council_file::{parse_game, read_bytes};
-use council_game::{Game, GameFault};
+use council_game::{Game, GameFault, Gate, Plan, Sink, Source};
 use council_run::{Cause, Columns, LEAST_BITS, RunFault, number_by_states, report_game, status};
 use council_words::{
     Arguments, Progress, collect_words, parse_arguments, report_unopened, say, say_more,

@@ -2,7 +2,7 @@
 use Rattle.std.proofs.Common.{◌≡◌, ◌∙◌, ap, suc, ◌<◌, ◌≤◌, ◌+◌, ◌^◌, ℕ, Bool, true, false, arith, refl, sum_by, if◌then◌else◌}
 use Rattle.std.proofs.Math.{Nat.two-pow-succ, Pow.pow_mono}
 use Rattle.std.specs.List.{range_with_len}
-use Rattle.council_base.proofs.Shared.Ranges.{sum_by-range-more}
+use Rattle.council_game.proofs.Shared.Ranges.{sum_by-range-more}
 use Rattle.council_game.specs.Game.{GameView}
 use Rattle.council_game.specs.Members.{contains}
 use Rattle.council_c.specs.Masks.{digit_of}

@@ -4,7 +4,7 @@ use Rattle.std.proofs.lemmas.{List.FromFn.map-range_with_len_more, List.FromFn.l
 use Rattle.std.proofs.lemmas.{Bool.Decides.nat_tests, Grind.common_steps}
 use Rattle.std.specs.List.{range_with_len}
 use Rattle.std.proofs.Common.{Bool, Option, None, Result, Ok, Err, if◌then◌else◌}
-use Rattle.council_base.proofs.Shared.Lists.{get_or-zeros}
+use Rattle.council_game.proofs.Shared.Sums.{get_or-zeros}
 use Rattle.council_file.specs.Bracket.{counted_names}
 use Rattle.council_game.specs.{Fault.◌>>=◌, Fault.refuse, Fault.refuse_at, Game.GameView, Game.first_weights, Ranks.rank_places, Votes.RuleView}
 unfoldable pub use Rattle.council_game.specs.Game.{made_game}

@@ -2,7 +2,7 @@
 use Rattle.std.specs.Prelude.{ℕ, ◌+◌, ◌-◌, ◌*◌, ◌&&◌, nat_le, nat_lt, Bool, List, length, map, slice_index, position, take, drop, None, Result, Err, if◌then◌else◌}
 use Rattle.std.specs.List.{range_with_len}
 use Rattle.std.specs.Option.{option_map_or}
-use Rattle.council_base.specs.declared.limits.TheConstants.{RULES, WEIGHT}
+use Rattle.council_game.specs.declared.limits.TheConstants.{RULES, WEIGHT}
 use Rattle.council_file.specs.Bracket.{counted_names}
 use Rattle.council_game.specs.Game.{GameView, has_bad_quota, made_game}
 use Rattle.council_game.specs.Votes.{RuleView}

@@ -1,7 +1,7 @@
 -- What a call is asked for.
 use Rattle.std.specs.Prelude.{ℕ, ◌==◌, ◌&&◌, ◌||◌, nat_lt, Bool, Option, None, Some, if◌then◌else◌}
-use Rattle.council_base.specs.declared.limits.TheConstants.{COALITIONS}
-use Rattle.council_base.specs.declared.report_lines.ReportLines.{ReportLines}
+use Rattle.council_game.specs.declared.limits.TheConstants.{COALITIONS}
+use Rattle.council_game.specs.declared.report_lines.ReportLines.{ReportLines}
 use Rattle.council_run.specs.declared.columns.Columns.{Columns}
 use Rattle.council_run.specs.declared.columns.Columns.TheVariants as columns
 use Rattle.council_c.specs.declared.options.CouncilOptions.{CouncilOptions}

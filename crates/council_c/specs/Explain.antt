@@ -1,6 +1,6 @@
 -- What the words of a status are.
 use Rattle.std.specs.Prelude.{◌≡◌, ◌≤◌, ◌⊎◌, ℕ, List}
-use Rattle.council_base.specs.declared.limits.TheConstants.{MEMBERS}
+use Rattle.council_game.specs.declared.limits.TheConstants.{MEMBERS}
 use Rattle.council_game.specs.Faults.{number_of}
 use Rattle.council_game.specs.declared.fault.GameFault.{GameFault}
 use Rattle.council_run.specs.declared.fault.Cause.TheVariants as cause

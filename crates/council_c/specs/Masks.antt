@@ -1,6 +1,6 @@
 -- What a call for the coalitions of arrays answers.
 use Rattle.std.specs.Prelude.{◌≡◌, ◌^◌, ℕ, true, false, List, ◌++◌, length, map, drop, min, sum_by, Ok, Some, ◌⊎◌, ⊤, if◌then◌else◌}
-use Rattle.council_base.specs.declared.limits.TheConstants.{COALITIONS}
+use Rattle.council_game.specs.declared.limits.TheConstants.{COALITIONS}
 use Rattle.council_game.specs.Game.{GameView}
 use Rattle.council_game.specs.Members.{contains, members}
 use Rattle.council_run.specs.Run.{IsWithin}

@@ -1,7 +1,7 @@
 //! The game that arrays hold.
 ghost use Rattle.std.specs.Prelude.{◌≡◌, ◌+◌, ◌-◌, ◌*◌, ◌<◌, All, IfOk, IfSome, length, map, nat_lt, position, slice_index, string_bytes};
 ghost use Rattle.std.specs.Option.{option_map_or};
-ghost use Rattle.council_base.specs.declared.limits.TheConstants.{WEIGHT};
+ghost use Rattle.council_game.specs.declared.limits.TheConstants.{WEIGHT};
 ghost use Rattle.council_c.specs.Arrays.{game_of_arrays, rule_of_fault, rules_of};
 ghost use Rattle.council_file.specs.Bracket.{counted_names};
 ghost use Rattle.council_game.specs.Fault.{Answers};

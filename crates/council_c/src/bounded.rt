@@ -5,8 +5,7 @@ ghost use Rattle.council_c.specs.Bounded.{IsTooLong};
 ghost use Rattle.mwc_walk.specs.WalkView.{given};
 ghost use Rattle.power_index.specs.Tables.{AreCountsOfGame};
 
-use council_base::{Memory, NoGate};
-use council_game::Game;
+use council_game::{Game, Memory, NoGate};
 use council_run::{MOST_STATES, choose_game, count_states, on_heap};
 use mwc_walk::laws::one_slice_is_the_whole;
 use mwc_walk::{Seek, Walk};

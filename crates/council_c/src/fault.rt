@@ -5,7 +5,7 @@ ghost use Rattle.council_c.specs.declared.fault.Fault.TheVariants as fault;
 ghost use Rattle.council_run.specs.declared.fault.Cause.TheVariants as cause;
 
 use crate::page::put;
-use council_base::Memory;
+use council_game::Memory;
 use council_run::{Cause, RunFault, status};
 use std::fmt;
 use std::fmt::InlineText;

@@ -1,6 +1,6 @@
 //! A report in a buffer.
 ghost use Rattle.std.specs.Prelude.{◌≡◌, Bool, IfErr, IfOk, OnErr, OnOk, false, length, true};
-ghost use Rattle.council_base.specs.Options.{lines_of};
+ghost use Rattle.council_game.specs.Options.{lines_of};
 ghost use Rattle.council_c.specs.Asked.{limit_of, lines_of_call, most_of};
 ghost use Rattle.council_run.specs.declared.columns.Columns.{Columns};
 ghost use Rattle.council_run.specs.Columns.{limit_with, report_of};
@@ -13,9 +13,8 @@ use crate::fault::Fault;
 use crate::finding::find_in_one_thread;
 use crate::options::CouncilOptions;
 use crate::page::{Page, put};
-use council_base::{Memory, Options, Plan, ReportLines};
 use council_file::parse_game;
-use council_game::Game;
+use council_game::{Game, Memory, Options, Plan, ReportLines};
 use council_report::ReportFault;
 use council_run::{Columns, Findings, RunFault};
 use std::alloc::Global;

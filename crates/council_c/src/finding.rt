@@ -1,6 +1,6 @@
 //! Finding what a report shows in the caller's thread: by states, or by one walk.
 ghost use Rattle.std.specs.Prelude.{◌≡◌, IfOk, None, Some, false};
-ghost use Rattle.council_base.specs.declared.report_lines.ReportLines.{ReportLines};
+ghost use Rattle.council_game.specs.declared.report_lines.ReportLines.{ReportLines};
 ghost use Rattle.council_run.specs.Columns.{limit_with};
 ghost use Rattle.council_run.specs.Found.{Finds, GatherFaultIs};
 ghost use Rattle.council_run.specs.Plans.{is_too_many, limit_of, lines_of_plan};
@@ -8,8 +8,7 @@ ghost use Rattle.council_run.specs.Shared.Finding.{FindsAll};
 ghost use Rattle.mwc_gather.specs.declared.fault.GatherFault.TheVariants as gather;
 ghost use Rattle.power_index.specs.Tables.{AreCountsOfGame};
 
-use council_base::{Memory, NoGate, Options, Plan};
-use council_game::Game;
+use council_game::{Game, Memory, NoGate, Options, Plan};
 use council_run::{
     Coalitions, Columns, Findings, Found, MOST_STATES, RunFault, choose_game, count_few,
     count_states, find_swings, on_heap,

@@ -10,8 +10,7 @@ ghost use Rattle.power_index.specs.Tables.{AreCountsOfGame};
 ghost use Rattle.power_index.specs.Swings.{AreWinningCounts};
 
 use crate::results::{CouncilFraction, CouncilMember, CouncilSummary, MEMBER_SIZE, SUMMARY_SIZE};
-use council_base::limits;
-use council_game::{Game, Memory};
+use council_game::{Game, Memory, limits};
 use power_index::laws::minimal_coalitions_can_be_counted;
 use power_index::{Counts, Swings, banzhaf, deegan_packel, penrose, public_good, shapley_shubik};
 use std::alloc::Global;

@@ -1,9 +1,9 @@
 //! The options of a call.
 ghost use Rattle.std.specs.Prelude.{◌≡◌, MatchOption, false, true};
-ghost use Rattle.council_base.specs.Options.{lines_of};
+ghost use Rattle.council_game.specs.Options.{lines_of};
 ghost use Rattle.council_c.specs.Asked.{are_wrong, lines_of_call, most_of};
 
-use council_base::{Options, limits};
+use council_game::{Options, limits};
 
 /// How many coalitions a call keeps by default.
 const USUAL: u32 = 1_000_000;

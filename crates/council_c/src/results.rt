@@ -3,7 +3,7 @@ ghost use Rattle.std.specs.Prelude.{◌≡◌};
 ghost use Rattle.council_c.specs.Numbers.{in_words, words_of};
 ghost use Rattle.power_index.specs.Fractions.{pair_of};
 
-use council_base::limits;
+use council_game::limits;
 use power_index::Fraction;
 
 /// A number of 128 bits, in two words.

@@ -1,6 +1,6 @@
 //! The lines of an explanation, and places in the file that they are of.
 use crate::numbers::GUIDE;
-use council_base::{Memory, Sanitized, sanitize};
+use council_game::{Memory, Sanitized, sanitize};
 use std::alloc::Global;
 use std::fmt::{Display, Write};
 use toml::de::Error;

@@ -1,6 +1,5 @@
 //! Names that a terminal may not show as they are.
-use council_base::sanitize;
-use council_game::Game;
+use council_game::{Game, sanitize};
 use std::alloc::Global;
 use std::fmt::Display;
 
@@ -12,7 +11,7 @@ fn is_misshown(alloc: Global, text: &str) -> bool {
     }
 }
 
-/// Remarks on a text that a terminal may not show as it is; `what` is a name for it.
+/// Remarks on a text that a terminal may not show unchanged; `what` is a name for it.
 fn remark_on(rt: &(impl Eprint + AllocGlobal), text: &str, what: impl Display + Drop) {
     if is_misshown(rt.alloc(), text) {
         let _ = eprintln!(rt;

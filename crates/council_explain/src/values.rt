@@ -1,7 +1,7 @@
 //! What is wrong with the keys and values of a file in TOML.
 use crate::explanation::{Explanation, elements, short, value_of};
 use crate::numbers::kind;
-use council_base::limits;
+use council_game::limits;
 use std::num::{nearest_u64_to_f64, saturating_f64_to_u64};
 use toml::Value;
 

@@ -6,7 +6,7 @@ use Rattle.std.specs.List.{list_any, list_all, range_with_len}
 use Rattle.std.specs.Option.{option_map_or}
 use Rattle.std.specs.Str.{is_utf8}
 use Rattle.std.specs.Cmp.Lexicographic.{pointwise}
-use Rattle.council_base.specs.declared.limits.TheConstants.{MEMBERS, RULES, FILE_BYTES}
+use Rattle.council_game.specs.declared.limits.TheConstants.{MEMBERS, RULES, FILE_BYTES}
 use Rattle.toml.specs.Data.{Data, Items, no_items, item, Members, no_members, member, get_member, get, as_str, as_integer, as_array}
 use Rattle.toml.specs.Data.{as_table}
 use Rattle.toml.specs.Parse.{parse_document}

@@ -1,6 +1,6 @@
 -- What a reader gave, and the reads by which it did.
 use Rattle.std.specs.Prelude.{◌≡◌, ◌<◌, ◌≤◌, ℕ, List, [], ◌++◌, length, take, Option, ◌⊎◌, Result, Ok, Err, ◌+◌}
-use Rattle.council_base.specs.declared.limits.TheConstants.{FILE_BYTES}
+use Rattle.council_game.specs.declared.limits.TheConstants.{FILE_BYTES}
 use Rattle.council_game.specs.Game.{GameView}
 use Rattle.council_game.specs.declared.fault.GameFault.{GameFault}
 use Rattle.council_game.specs.declared.fault.GameFault.TheVariants.{Read, Memory}

@@ -5,8 +5,7 @@ ghost use Rattle.council_file.specs.Reads.{Gave, Reading, Reads};
 ghost use Rattle.council_file.specs.Inner.Reads.{Given, GrewBy, IsStop};
 
 use crate::parse_game;
-use council_base::Source;
-use council_game::{Game, GameFault, limits};
+use council_game::{Game, GameFault, Source, limits};
 use std::alloc::Global;
 
 /// Reads at most `room` bytes, once, puts them at the end of the others, and returns how many came.

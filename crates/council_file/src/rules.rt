@@ -8,8 +8,7 @@ ghost use Rattle.toml.specs.View.{table_view, view};
 
 use crate::members::{member_list, number_or, only_weight, weight_under};
 use crate::tree::{elements_at, has_key, value_at};
-use council_base::list_from_fn;
-use council_game::{Memory, Rule, limits};
+use council_game::{Memory, Rule, limits, list_from_fn};
 use std::alloc::{AllocError, Global};
 use toml::{Table, Value};
 

@@ -1,5 +1,5 @@
 -- The words of other libraries and of the definitions that two or more files of these proofs take.
-pub use Rattle.council_base.proofs.Shared.Digits.{digit-kept, has-none}
+pub use Rattle.council_game.proofs.Shared.Digits.{digit-kept, has-none}
 pub use Rattle.council_game.specs.Game.{GameView, IsGame, first_weights, has_bad_quota, is_heavy, is_name, is_repeat, ranked_by_first, total, votes_of}
 pub use Rattle.council_game.specs.{Inner.Along.rule_along, Inner.Along.weights_at, Inner.View.game_view, Rules.rule_view, Rules.rule_views}
 pub use Rattle.council_game.specs.{Inner.Held.votes, declared.rule.Rule.Rule}

@@ -1,4 +1,6 @@
 pub mod Shared
+mod Common
+mod Sizes
 mod Order
 mod Named
 mod Moving

@@ -1,4 +1,7 @@
 -- What other crates may cite.
+pub mod Digits
+pub mod Ranges
+pub mod Sums
 pub mod Lists
 pub mod RuleLists
 pub mod Rankings

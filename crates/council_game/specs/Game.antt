@@ -4,7 +4,7 @@ use Rattle.std.specs.Prelude.{take, map, sum, position, slice_index, slice_index
 use Rattle.std.specs.List.{list_any, list_all, range_with_len}
 use Rattle.std.specs.Option.{option_map_or}
 use Rattle.std.specs.Cmp.Lexicographic.{pointwise}
-use Rattle.council_base.specs.declared.limits.TheConstants.{MEMBERS, RULES, WEIGHT, TITLE_BYTES, NAME_BYTES}
+use Rattle.council_game.specs.declared.limits.TheConstants.{MEMBERS, RULES, WEIGHT, TITLE_BYTES, NAME_BYTES}
 use Rattle.council_game.specs.declared.fault.GameFault.{GameFault}
 use Rattle.council_game.specs.declared.fault.GameFault.TheVariants.{Title, Members, Name, SameName, Weight, QuotaRange}
 use Rattle.council_game.specs.Fault.{◌>>=◌, refuse, refuse_at}

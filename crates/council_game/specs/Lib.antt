@@ -1,4 +1,6 @@
-pub use Rattle.council_base.specs.Coalitions
+pub mod Coalitions
+pub mod Lists
+pub mod Options
 pub mod Fault
 pub mod Faults
 pub mod Votes

@@ -2,9 +2,9 @@
 use Rattle.std.specs.Prelude.{ℕ, zero, suc, ◌^◌, Bool, not, ◌&&◌, nat_le, List, [], ◌∷◌, length, ◌≡◌, ◌≤◌, ◌<◌, slice_index, slice_index_or}
 use Rattle.std.specs.Prelude.{sum_by, ⊤}
 use Rattle.std.specs.List.{filter, sum, list_all, AllByRecursion}
-use Rattle.council_base.specs.declared.limits.TheConstants.{MEMBERS, RULES, TOTAL}
-unfoldable pub use Rattle.council_base.specs.Coalitions.{has, without}
-pub use Rattle.council_base.specs.Coalitions.{places_of, size}
+use Rattle.council_game.specs.declared.limits.TheConstants.{MEMBERS, RULES, TOTAL}
+unfoldable pub use Rattle.council_game.specs.Coalitions.{has, without}
+pub use Rattle.council_game.specs.Coalitions.{places_of, size}
 
 -- a quota, and a weight for each member: in a game by the file's order, in its votes by rank
 pub record RuleView : Type 0 where

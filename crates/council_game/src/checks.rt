@@ -2,7 +2,7 @@
 ghost use Rattle.std.specs.Prelude.{◌≡◌, ◌≤◌, ◌<◌, length, map, not, string_bytes, position, nat_eq, IfSome};
 ghost use Rattle.std.specs.List.{list_any};
 ghost use Rattle.std.specs.Cmp.Lexicographic.{pointwise};
-ghost use Rattle.council_base.specs.declared.limits.TheConstants.{MEMBERS, WEIGHT};
+ghost use Rattle.council_game.specs.declared.limits.TheConstants.{MEMBERS, WEIGHT};
 ghost use Rattle.council_game.specs.Game.{is_plain, is_title, is_name, is_repeat, is_heavy, has_bad_quota};
 ghost use Rattle.council_game.specs.Inner.Checks.{check_names, check_repeats, check_weights};
 ghost use Rattle.council_game.specs.Rules.{rule_view, rule_views};

@@ -4,9 +4,9 @@ ghost use Rattle.std.specs.Vec.{vec_capacity};
 ghost use Rattle.council_game.specs.Votes.{rule_at};
 ghost use Rattle.council_game.specs.Notation.{notation};
 
+use crate::Memory;
 use crate::game::Game;
 use crate::numbers::{push_decimal, push_joined};
-use council_base::Memory;
 use std::alloc::{AllocError, Global};
 
 /// Returns the notation of a rule.

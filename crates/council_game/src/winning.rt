@@ -1,6 +1,6 @@
 //! Whether a coalition wins, and whether it is minimal.
 ghost use Rattle.std.specs.Prelude.{◌≡◌, ◌≤◌, length, sum, ◌^◌, IfOk};
-ghost use Rattle.council_base.specs.declared.limits.TheConstants.{MEMBERS, TOTAL, PLAIN_MEMBERS};
+ghost use Rattle.council_game.specs.declared.limits.TheConstants.{MEMBERS, TOTAL, PLAIN_MEMBERS};
 ghost use Rattle.council_game.specs.Votes.{IsVotes, weight, wins, minimal, minimal_coalitions};
 ghost use Rattle.council_game.specs.Rules.{rule_views};
 ghost use Rattle.council_game.specs.Inner.Held.{votes};

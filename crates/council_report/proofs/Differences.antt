@@ -5,7 +5,7 @@ use Rattle.std.proofs.Common.{◌/◌, ◌%◌, pow-suc, pow_mono}
 use Rattle.std.specs.Int.{trailing_zeros}
 use Rattle.std.proofs.lemmas.Nat.{leading_length, xor_lt}
 use Rattle.std.proofs.lemmas.Nat.Bits.{bit_at_xor, bit_at_above, bit_at-lt, bit_at-trailing_zeros}
-use Rattle.council_base.proofs.Shared.Digits.{lowest-place}
+use Rattle.council_game.proofs.Shared.Digits.{lowest-place}
 
 -- equal digits
 same-digit : (a b i : ℕ) → bit_xor a b / 2 ^ i % 2 ≡ 0 → a / 2 ^ i % 2 ≡ b / 2 ^ i % 2

@@ -1,5 +1,5 @@
 -- The words of other libraries and of the definitions that two or more files of these proofs take.
-pub use Rattle.council_base.specs.declared.report_lines.ReportLines.{ReportLines}
+pub use Rattle.council_game.specs.declared.report_lines.ReportLines.{ReportLines}
 pub use Rattle.council_game.proofs.Shared.{Games.votes-are, Weights.weight-le}
 pub use Rattle.council_game.specs.{Game.GameView, Game.IsGame, Game.votes_of, Votes.IsRule, Votes.rule_at, Votes.weight}
 pub use Rattle.council_report.specs.{Inner.Lines.line_of_member, Inner.Lines.line_of_size, declared.game_numbers.GameNumbers.GameNumbers}

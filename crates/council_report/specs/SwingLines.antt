@@ -1,7 +1,7 @@
 -- The lines and fields of swings, and the reports that show them.
 use Rattle.std.specs.Prelude.{ℕ, List, [], ◌∷◌, ◌++◌, Option, codes, decimal, length}
 use Rattle.std.specs.Option.{option_map_or}
-use Rattle.council_base.specs.declared.report_lines.ReportLines.{ReportLines}
+use Rattle.council_game.specs.declared.report_lines.ReportLines.{ReportLines}
 use Rattle.council_game.specs.Votes.{minimal_coalitions}
 use Rattle.council_game.specs.Game.{GameView, votes_of}
 use Rattle.power_index.specs.Fractions.{lowest_terms}

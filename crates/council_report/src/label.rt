@@ -1,6 +1,6 @@
 //! What a member adds to the line of a coalition.
 ghost use Rattle.std.specs.Prelude.{◌≡◌, ◌<◌, ℕ, length, slice_index, IfOk};
-ghost use Rattle.council_base.specs.declared.limits.TheConstants.{RULES};
+ghost use Rattle.council_game.specs.declared.limits.TheConstants.{RULES};
 ghost use Rattle.council_game.specs.Game.{IsGame};
 ghost use Rattle.council_report.specs.Inner.SharedLine.{AreLabels, IsLabel, weights_under};
 

@@ -17,6 +17,6 @@ mod shared_line;
 mod stream;
 mod subtotal;
 
-pub use council_base::ReportLines;
+pub use council_game::ReportLines;
 pub use fault::ReportFault;
 pub use report::{write_report, write_report_of, write_swings};

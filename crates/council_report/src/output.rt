@@ -6,7 +6,7 @@ ghost use Rattle.council_report.specs.Sending.{Sending};
 ghost use Rattle.council_report.specs.declared.output.TheConstants.{LINE, ROOM};
 
 use crate::fault::ReportFault;
-use council_base::Sink;
+use council_game::Sink;
 use std::alloc::{AllocError, Global};
 
 /// The bytes of a block.

@@ -1,7 +1,7 @@
 //! A report, written whole.
 ghost use Rattle.std.specs.Prelude.{◌≡◌, ◌++◌, ◌≤◌, ◌^◌, true, ℕ, List, length, IfSome};
-ghost use Rattle.council_base.specs.Lists.{joined};
-ghost use Rattle.council_base.specs.declared.limits.TheConstants.{MEMBERS, COALITIONS};
+ghost use Rattle.council_game.specs.Lists.{joined};
+ghost use Rattle.council_game.specs.declared.limits.TheConstants.{MEMBERS, COALITIONS};
 ghost use Rattle.council_game.specs.Game.{AreNonemptyCoalitions};
 ghost use Rattle.power_index.specs.Tables.{AreCounts};
 ghost use Rattle.council_report.specs.Inner.Lines.{heading_of, lines_of};
@@ -17,8 +17,7 @@ use crate::heading::push_heading;
 use crate::output::Block;
 use crate::shared_line::SharedLine;
 use crate::stream::{put_members, put_pieces, put_sizes};
-use council_base::Sink;
-use council_game::{Coalition, Game};
+use council_game::{Coalition, Game, Sink};
 use power_index::{Counts, Swings};
 use std::alloc::Global;
 

@@ -1,7 +1,7 @@
 //! A line that one coalition shares with the next.
 ghost use Rattle.std.specs.Prelude.{◌≡◌, ◌+◌, ◌^◌, ◌<◌, ◌≤◌, true, false, length, IfOk};
 ghost use Rattle.std.specs.List.{flat_map};
-ghost use Rattle.council_base.specs.declared.limits.TheConstants.{MEMBERS};
+ghost use Rattle.council_game.specs.declared.limits.TheConstants.{MEMBERS};
 ghost use Rattle.council_game.specs.Game.{votes_of};
 ghost use Rattle.council_game.specs.Votes.{has, rule_at, weight};
 ghost use Rattle.council_report.specs.Lines.{coalition_line, with_tab, with_slashes, weights_of_coalition, names_of};

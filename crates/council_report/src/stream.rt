@@ -1,7 +1,7 @@
 //! The lines of a report on their way to its writer.
 ghost use Rattle.std.specs.Prelude.{◌<◌, length};
 ghost use Rattle.std.specs.List.{flat_map};
-ghost use Rattle.council_base.specs.Lists.{joined};
+ghost use Rattle.council_game.specs.Lists.{joined};
 ghost use Rattle.council_game.specs.Game.{AreNonemptyCoalitions};
 ghost use Rattle.council_report.specs.Lines.{coalition_line};
 ghost use Rattle.council_report.specs.Report.{coalition_lines};
@@ -17,8 +17,7 @@ use crate::count_lines::{push_member, push_size};
 use crate::game_numbers::GameNumbers;
 use crate::output::Block;
 use crate::shared_line::SharedLine;
-use council_base::Sink;
-use council_game::{Coalition, Game};
+use council_game::{Coalition, Game, Sink};
 
 /// Appends a line for each coalition, in the order of the list, whichever that is.
 fn put_coalitions<W: Sink>(

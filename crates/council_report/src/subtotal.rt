@@ -1,6 +1,6 @@
 //! How long a line's names are at a place, and what their members weigh.
 ghost use Rattle.std.specs.Prelude.{◌≡◌, ◌+◌, ◌^◌, ◌<◌, ℕ, length, slice_index};
-ghost use Rattle.council_base.specs.declared.limits.TheConstants.{RULES};
+ghost use Rattle.council_game.specs.declared.limits.TheConstants.{RULES};
 
 use crate::label::Label;
 use council_game::limits;

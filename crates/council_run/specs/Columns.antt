@@ -1,7 +1,7 @@
 -- Which numbers a report shows.
 use Rattle.std.specs.Prelude.{ℕ, List, Bool, Option, None, ⊤}
-use Rattle.council_base.specs.declared.plan.Plan.{Plan}
-use Rattle.council_base.specs.declared.report_lines.ReportLines.{ReportLines}
+use Rattle.council_game.specs.declared.plan.Plan.{Plan}
+use Rattle.council_game.specs.declared.report_lines.ReportLines.{ReportLines}
 use Rattle.council_game.specs.Game.{GameView}
 use Rattle.council_report.specs.Report.{report}
 use Rattle.council_report.specs.SwingLines.{report_with_swings, swings_report}

@@ -1,5 +1,5 @@
 -- All that a report is made from.
-use Rattle.council_base.specs.declared.report_lines.ReportLines.{ReportLines}
+use Rattle.council_game.specs.declared.report_lines.ReportLines.{ReportLines}
 use Rattle.council_game.specs.Game.{GameView}
 use Rattle.power_index.specs.Swings.{AreWinningCounts}
 use Rattle.council_run.specs.Found.{IsFound}

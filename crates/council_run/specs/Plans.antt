@@ -1,14 +1,14 @@
 -- Plans: how the coalitions of a game are found, and how many there may be.
 use Rattle.std.specs.Prelude.{ℕ, Bool, true, false, Option, Some, None, Result, Ok, Err}
-use Rattle.council_base.specs.Options.{lines_of, without_list}
-use Rattle.council_base.specs.declared.options.Options.{Options}
-use Rattle.council_base.specs.declared.report_lines.ReportLines.{ReportLines}
+use Rattle.council_game.specs.Options.{lines_of, without_list}
+use Rattle.council_game.specs.declared.options.Options.{Options}
+use Rattle.council_game.specs.declared.report_lines.ReportLines.{ReportLines}
 use Rattle.mwc_gather.specs.declared.fault.GatherFault.TheVariants as gather
 use Rattle.council_run.specs.declared.fault.Cause.{Cause}
 use Rattle.council_run.specs.declared.fault.Cause.TheVariants as cause
 use Rattle.council_run.specs.declared.fault.RunFault.{RunFault}
-use Rattle.council_base.specs.declared.plan.Plan.{Plan}
-use Rattle.council_base.specs.declared.plan.Plan.TheVariants as plan
+use Rattle.council_game.specs.declared.plan.Plan.{Plan}
+use Rattle.council_game.specs.declared.plan.Plan.TheVariants as plan
 
 -- the optional lines of the report: none for a coalition if they are only counted
 abbrev pub lines_of_plan : Plan → Options → ReportLines

@@ -1,7 +1,7 @@
 //! Counting the coalitions of a game, and keeping none: by states, or if these are too many, by
 //! worker threads.
 ghost use Rattle.std.specs.Prelude.{◌≡◌, ◌⊎◌, IfErr, IfOk, IfSome, None, false, unwrap_or};
-ghost use Rattle.council_base.specs.declared.report_lines.ReportLines.{ReportLines};
+ghost use Rattle.council_game.specs.declared.report_lines.ReportLines.{ReportLines};
 ghost use Rattle.council_run.specs.Run.{count_of};
 ghost use Rattle.council_run.specs.Found.{Finds, IsWorkersFault};
 ghost use Rattle.council_run.specs.declared.fault.Cause.TheVariants as cause;
@@ -12,9 +12,8 @@ ghost use Rattle.council_game.specs.Game.{IsGame};
 
 use crate::fault::{Cause, RunFault};
 use crate::found::{Coalitions, Found};
-use council_base::{Gate, Memory, NoGate, Options};
-use council_game::Game;
 use council_game::laws::places_do_not_matter;
+use council_game::{Game, Gate, Memory, NoGate, Options};
 use mwc_states::{count_by_states, count_swings};
 use mwc_tally::{TallyFault, tally};
 use power_index::laws::{places_change_no_count, places_change_no_swing};

@@ -1,13 +1,12 @@
 //! All that a report is made from.
 ghost use Rattle.std.specs.Prelude.{◌≡◌};
-ghost use Rattle.council_base.specs.declared.report_lines.ReportLines.{ReportLines};
+ghost use Rattle.council_game.specs.declared.report_lines.ReportLines.{ReportLines};
 ghost use Rattle.council_report.specs.Outcome.{Writes};
 ghost use Rattle.council_run.specs.Columns.{report_of};
 ghost use Rattle.council_run.specs.Findings.{AreFindings, columns_of};
 
 use crate::found::Found;
-use council_base::{ReportLines, Sink};
-use council_game::Game;
+use council_game::{Game, ReportLines, Sink};
 use council_report::{ReportFault, write_swings};
 use power_index::Swings;
 use std::alloc::Global;

@@ -1,6 +1,6 @@
 //! What a report is made from.
 ghost use Rattle.std.specs.Prelude.{◌≡◌, IfOk, IfSome};
-ghost use Rattle.council_base.specs.Lists.{joined};
+ghost use Rattle.council_game.specs.Lists.{joined};
 ghost use Rattle.council_game.specs.Game.{votes_of};
 ghost use Rattle.council_game.specs.Votes.{minimal_coalitions};
 ghost use Rattle.council_report.specs.Outcome.{Writes};
@@ -10,8 +10,7 @@ ghost use Rattle.council_run.specs.Found.{HoldAll, IsFound};
 ghost use Rattle.power_index.specs.Tables.{AreCountsOfGame};
 ghost use Rattle.power_index.specs.Swings.{AreWinningCounts};
 
-use council_base::{Coalition, Memory, ReportLines, Sink};
-use council_game::Game;
+use council_game::{Coalition, Game, Memory, ReportLines, Sink};
 use council_report::{ReportFault, write_report_of};
 use mwc_gather::Gathered;
 use power_index::laws::minimal_coalitions_can_be_counted;

@@ -5,8 +5,8 @@ ghost use Rattle.council_file.specs.Reads.{Reads};
 ghost use Rattle.council_report.specs.Outcome.{Writes};
 ghost use Rattle.council_run.specs.Run.{IsOutcome};
 
-use council_base::{Sink, Source};
 use council_file::laws::known_bytes_give_their_game;
+use council_game::{Sink, Source};
 
 /// States that workers change no report, nor do bits, schedules, limits and gates.
 ///

@@ -17,7 +17,7 @@ mod listing;
 mod runs;
 
 pub use columns::Columns;
-pub use council_base::{Gate, NoGate, Options, limits};
+pub use council_game::{Gate, NoGate, Options, limits};
 pub use counting::{
     FEW_STATES, LEAST_BITS, MOST_STATES, choose_game, count_by_threads, count_by_workers,
     count_states, find_swings, number_by_states,

@@ -1,7 +1,7 @@
 //! Listing the coalitions of a game by worker threads.
 ghost use Rattle.std.specs.Prelude.{◌≡◌, ◌≤◌, Err, IfErr, IfOk, IfSome, IsSome, Some, length, true, unwrap_or, ◌<◌};
-ghost use Rattle.council_base.specs.declared.limits.TheConstants.{WORKERS};
-ghost use Rattle.council_base.specs.declared.report_lines.ReportLines.{ReportLines};
+ghost use Rattle.council_game.specs.declared.limits.TheConstants.{WORKERS};
+ghost use Rattle.council_game.specs.declared.report_lines.ReportLines.{ReportLines};
 ghost use Rattle.council_game.specs.Contribution.{by_contribution};
 ghost use Rattle.council_game.specs.Game.{GameView};
 ghost use Rattle.council_run.specs.Found.{AreListed, Finds, GatherFaultIs, HoldAll, IsNotFound};
@@ -11,8 +11,7 @@ ghost use Rattle.power_index.specs.Tables.{AreCountsOfGame, Tables, table_total}
 use crate::counting::{FEW_STATES, choose_game, count_states};
 use crate::fault::RunFault;
 use crate::found::{Coalitions, Found, on_heap};
-use council_base::{Gate, Memory, NoGate, Options};
-use council_game::Game;
+use council_game::{Game, Gate, Memory, NoGate, Options};
 use mwc_gather::{GatherFault, Gathered, Guarded, gather};
 use mwc_walk::{Seek, Walk};
 use power_index::Counts;

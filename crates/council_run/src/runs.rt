@@ -1,7 +1,7 @@
 //! Runs: from the bytes of a game to its report.
 ghost use Rattle.std.specs.Prelude.{◌≡◌, ◌≢◌, IfErr, None, Ok, Some};
-ghost use Rattle.council_base.specs.Options.{lines_of, without_list};
-ghost use Rattle.council_base.specs.declared.report_lines.ReportLines.{ReportLines};
+ghost use Rattle.council_game.specs.Options.{lines_of, without_list};
+ghost use Rattle.council_game.specs.declared.report_lines.ReportLines.{ReportLines};
 ghost use Rattle.council_file.specs.Reads.{Reads};
 ghost use Rattle.council_report.specs.Outcome.{Writes};
 ghost use Rattle.council_report.specs.Report.{report};
@@ -11,7 +11,7 @@ ghost use Rattle.council_run.specs.Found.{Finds, GatherFaultIs, IsWorkersFault};
 ghost use Rattle.council_run.specs.Plans.{is_too_many, limit_of, lines_of_plan};
 ghost use Rattle.council_run.specs.Run.{IsOutcome};
 ghost use Rattle.council_run.specs.declared.fault.Cause.TheVariants as cause;
-ghost use Rattle.council_base.specs.declared.plan.Plan.TheVariants as plans;
+ghost use Rattle.council_game.specs.declared.plan.Plan.TheVariants as plans;
 ghost use Rattle.mwc_gather.specs.declared.fault.GatherFault.TheVariants as gather;
 
 use crate::columns::Columns;
@@ -20,9 +20,8 @@ use crate::fault::RunFault;
 use crate::findings::Findings;
 use crate::found::{Coalitions, Found};
 use crate::listing::list_by_workers;
-use council_base::{Gate, Options, Plan, ReportLines, Sink, Source};
 use council_file::read_game;
-use council_game::Game;
+use council_game::{Game, Gate, Options, Plan, ReportLines, Sink, Source};
 use std::alloc::Global;
 use std::sync::Wait;
 use std::thread::Threads;

@@ -3,7 +3,7 @@ use crate::remarks::say;
 use crate::words::{Arguments, parse, read_words};
 use clap::Error;
 use clap::error::ErrorKind;
-use council_base::sanitize;
+use council_game::sanitize;
 use std::alloc::{AllocError, Global};
 use std::env::{Env, FillError};
 use std::io;

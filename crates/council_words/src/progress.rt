@@ -1,6 +1,6 @@
 //! How far a run or a tally has come.
 use crate::thousands::Thousands;
-use council_base::Gate;
+use council_game::Gate;
 use std::fmt::{self, Display, Formatter, Write};
 use std::sync::{Mutex, Wait};
 use std::time::{Clock, Duration};

@@ -1,6 +1,6 @@
 //! What the program says on standard error, beside its progress.
 use crate::words::Arguments;
-use council_base::sanitize;
+use council_game::sanitize;
 use std::fmt::Display;
 use std::io;
 use std::process::ExitCode;

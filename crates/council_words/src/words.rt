@@ -3,7 +3,7 @@ use clap::builder::ValueParser;
 use clap::error::ErrorKind;
 use clap::parser::ValueSource;
 use clap::{Arg, ArgAction, ArgMatches, Command, Error};
-use council_base::{Options, Plan, limits};
+use council_game::{Options, Plan, limits};
 use std::alloc::{AllocError, Global};
 
 /// What a command line asks for.

@@ -1,5 +1,5 @@
 //! Counts without a list: at other quotas, by threads, and of swings.
-ghost use Rattle.council_base.specs.declared.limits.TheConstants.{WORKERS};
+ghost use Rattle.council_game.specs.declared.limits.TheConstants.{WORKERS};
 ghost use Rattle.council_game.specs.Game.{total, votes_of};
 ghost use Rattle.council_game.specs.Votes.{minimal_coalitions, rule_at};
 ghost use Rattle.game_calls.specs.Quotas.{at_quota};
@@ -9,8 +9,7 @@ ghost use Rattle.power_index.specs.SwingIndices.{banzhaf, shapley_shubik};
 ghost use Rattle.std.specs.List.{All};
 ghost use Rattle.std.specs.Prelude.{◌<◌, ◌≡◌, ◌≤◌, IfOk, IfSome, length, map};
 
-use council_base::NoGate;
-use council_game::{Game, Memory, limits};
+use council_game::{Game, Memory, NoGate, limits};
 use game_calls::{at_quota, count_minimal};
 use mwc_states::count_swings;
 use mwc_tally::{TallyFault, tally};

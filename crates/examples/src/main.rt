@@ -12,7 +12,7 @@ mod tables;
 #[cfg(test)]
 mod tests;
 
-ghost use Rattle.council_base.specs.declared.limits.TheConstants.{COALITIONS};
+ghost use Rattle.council_game.specs.declared.limits.TheConstants.{COALITIONS};
 ghost use Rattle.council_game.specs.Game.{votes_of};
 ghost use Rattle.council_game.specs.Members.{members};
 ghost use Rattle.council_game.specs.Votes.{minimal_coalitions};

@@ -1,6 +1,6 @@
 //! Words through a ring, from one thread to another.
 ghost use Rattle.std.specs.Prelude.{◌≡◌, ◌≤◌, [], IfOk, IfSome, length};
-ghost use Rattle.council_base.specs.declared.limits.TheConstants.{CAPACITY};
+ghost use Rattle.council_game.specs.declared.limits.TheConstants.{CAPACITY};
 
 use council_game::Memory;
 use mwc_pipe::{Closed, Rest, RingIn, Unfinished, Word, ring};

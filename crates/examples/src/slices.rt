@@ -1,5 +1,5 @@
 //! A gate and a pipe of one's own.
-ghost use Rattle.council_base.specs.declared.limits.TheConstants.{BITS};
+ghost use Rattle.council_game.specs.declared.limits.TheConstants.{BITS};
 ghost use Rattle.mwc_gather.specs.Slicing.{slicing};
 ghost use Rattle.mwc_gather.specs.Wording.{slice_words};
 ghost use Rattle.std.specs.Prelude.{◌≡◌, ◌≤◌, ◌<◌, ◌^◌, ℕ, IfSome, length};

@@ -1,5 +1,5 @@
 //! Reports, and indices compared with each other and with a published table.
-ghost use Rattle.council_base.specs.declared.limits.TheConstants.{COALITIONS};
+ghost use Rattle.council_game.specs.declared.limits.TheConstants.{COALITIONS};
 ghost use Rattle.council_game.specs.Game.{votes_of};
 ghost use Rattle.council_game.specs.Votes.{minimal_coalitions};
 ghost use Rattle.council_report.specs.Report.{report};

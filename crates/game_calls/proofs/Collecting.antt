@@ -1,7 +1,7 @@
 -- Members are taken in that have something in common.
 use Rattle.std.proofs.Common.{◌≡◌, ◌≢◌, ◌∙◌, ℕ, ◌+◌, ◌<◌, ◌≤◌, ◌^◌, ◌↔◌, true, false, length, get_or, sym, ap, arith, inl, inr, pow_pos, subst}
 use Rattle.std.proofs.lemmas.Bool.{both_ways, cases_eq, cases_Bool}
-use Rattle.council_base.proofs.Shared.Digits.{has-none}
+use Rattle.council_game.proofs.Shared.Digits.{has-none}
 use Rattle.council_game.specs.{Game.GameView, Game.votes_of, Members.IsSubsetOf, Members.contains, Votes.wins, Votes.has}
 use Rattle.game_calls.specs.Winning.{IsVetoer}
 

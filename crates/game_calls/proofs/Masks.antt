@@ -1,4 +1,4 @@
 -- The empty coalition.
-use Rattle.council_base.proofs.Shared.Digits.{has-none}
+use Rattle.council_game.proofs.Shared.Digits.{has-none}
 
 pub ruleset empty = (has-none)

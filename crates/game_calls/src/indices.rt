@@ -1,5 +1,5 @@
 //! The indices of a member.
-ghost use Rattle.council_base.specs.declared.limits.TheConstants.{COALITIONS};
+ghost use Rattle.council_game.specs.declared.limits.TheConstants.{COALITIONS};
 ghost use Rattle.council_game.specs.Game.{votes_of};
 ghost use Rattle.council_game.specs.Votes.{minimal_coalitions};
 ghost use Rattle.power_index.specs.MemberIndices.{indices_of_member};

@@ -4,8 +4,8 @@
 //! ```text
 //! game_calls::laws::lowest_terms_add_up();
 //! ```
-ghost use Rattle.council_base.specs.Coalitions.{has};
-ghost use Rattle.council_base.specs.declared.limits.TheConstants.{MEMBERS};
+ghost use Rattle.council_game.specs.Coalitions.{has};
+ghost use Rattle.council_game.specs.declared.limits.TheConstants.{MEMBERS};
 ghost use Rattle.council_game.specs.Game.{GameView, IsGame, AreNonemptyCoalitions, first_weights, has_low_quotas, made_game, total, votes_of};
 ghost use Rattle.council_game.specs.Members.{HaveSameMembers, IsSubsetOf, size_of};
 ghost use Rattle.council_game.specs.Ranks.{rank_places};

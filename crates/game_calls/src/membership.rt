@@ -1,5 +1,5 @@
 //! Members of a coalition, each given by its place in the file, from 0.
-ghost use Rattle.council_base.specs.Coalitions.{with_member, without};
+ghost use Rattle.council_game.specs.Coalitions.{with_member, without};
 ghost use Rattle.council_game.specs.Members.{contains};
 ghost use Rattle.std.specs.Prelude.{◌≡◌, ◌≢◌, ◌<◌, ◌^◌, ℕ, false, true, if◌then◌else◌, length, not, slice_index};
 

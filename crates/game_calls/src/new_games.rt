@@ -1,6 +1,6 @@
 //! Games from slices, and of the members of another one: under other rules, with other weights, at
 //! another quota.
-ghost use Rattle.council_base.specs.declared.limits.TheConstants.{RULES};
+ghost use Rattle.council_game.specs.declared.limits.TheConstants.{RULES};
 ghost use Rattle.council_game.specs.Fault.{Answers};
 ghost use Rattle.council_game.specs.Game.{made_game, total};
 ghost use Rattle.council_game.specs.Rules.{rule_views};

@@ -1,5 +1,5 @@
 //! Command lines. What the program refuses, `tests/cases/refused-words` shows.
-use council_base::Plan;
+use council_game::Plan;
 use council_words::read_words;
 use std::alloc::Global;
 use std::process::Abort;

@@ -5,7 +5,7 @@ use Rattle.mwc_gather.proofs.Imports.{◌≡◌, ◌⊎◌, ℕ, zero, suc, ◌+
 use Rattle.mwc_gather.proofs.Imports.{length, map, replicate, All, refl, ltb, set, get_or, ap, subst, arith, sym, ◌∙◌, inl, inr, eq-eqb}
 use Rattle.mwc_gather.proofs.Imports.{HasNotFailed, given_slices, AssignsInTurn, TakesTurn, AssignsOneEach, IsFresh}
 use Rattle.std.proofs.lemmas.List.{get_or_push, Elements.All-map, Sums.get_or-le-sum_by}
-use Rattle.council_base.proofs.Shared.Ranges.{sum_by-range-le}
+use Rattle.council_game.proofs.Shared.Ranges.{sum_by-range-le}
 use Rattle.mwc_gather.proofs.PartSlices.{part_slices_sum, each_held_once, held_increases}
 use Rattle.mwc_gather.proofs.Turns.{turn_nothing, turn_one, none_free, none_ill, still_held, went_on, slices_held_at}
 

@@ -5,7 +5,7 @@ use Rattle.mwc_gather.proofs.Imports.{nat_tests, get_or-map-range_with_len, take
 use Rattle.mwc_gather.proofs.Imports.{IsStrictlyIncreasing, times_in, slices_from, slices_held_by, slices_by_worker}
 use Rattle.std.proofs.{Common.add-one, Common.length-take-le, lemmas.List.FromFn.length-map-range_with_len, lemmas.List.Sums.sum_by-set}
 use Rattle.mwc_gather.specs.Inner.Holders.{AscendsFrom}
-use Rattle.council_base.proofs.Shared.Ranges.{sum_by-range-more}
+use Rattle.council_game.proofs.Shared.Ranges.{sum_by-range-more}
 
 cons_if : (b : Bool) (j : ℕ) (x a c : List ℕ) → x ≡ a ++ c → cond b (j ∷ x) x ≡ cond b (j ∷ a) a ++ c
 cons_if true j x a c e = ap (λ (w : List ℕ). j ∷ w) e

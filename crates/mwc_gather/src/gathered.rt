@@ -1,7 +1,7 @@
 //! The parts of all workers.
 ghost use Rattle.std.specs.Prelude.{◌≡◌, ℕ, ◌<◌, List, All, IfOk, map};
 ghost use Rattle.std.specs.List.{flat_map, range_with_len};
-ghost use Rattle.council_base.specs.Lists.{joined};
+ghost use Rattle.council_game.specs.Lists.{joined};
 ghost use Rattle.mwc_gather.specs.Parts.{HasPieces, HasEachSliceOnce};
 
 use crate::part::Part;

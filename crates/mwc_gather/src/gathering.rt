@@ -2,7 +2,7 @@
 ghost use Rattle.std.specs.Prelude.{◌≡◌, ◌≢◌, ◌<◌, ◌≤◌, ◌^◌, All, List, ℕ, Option, Some, None, IfOk, IfErr, length, vec_len};
 ghost use Rattle.std.specs.Option.{is_some};
 ghost use Rattle.std.specs.List.{AllZip};
-ghost use Rattle.council_base.specs.declared.limits.TheConstants.{BITS, WORKERS, COALITIONS};
+ghost use Rattle.council_game.specs.declared.limits.TheConstants.{BITS, WORKERS, COALITIONS};
 ghost use Rattle.council_game.specs.Votes.{minimal_coalitions};
 ghost use Rattle.council_game.specs.Game.{votes_of};
 ghost use Rattle.mwc_gather.specs.Inner.Scheduling.{IsFresh};
@@ -23,7 +23,7 @@ use crate::part::{Part, fits};
 use crate::scheduler::Scheduler;
 use crate::waiting::Wakers;
 use crate::worker_handle::WorkerHandle;
-use council_base::Gate;
+use council_game::Gate;
 use mwc_walk::slice_count;
 use std::alloc::Global;
 use std::sync::Wait;

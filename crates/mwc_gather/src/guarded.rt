@@ -2,8 +2,7 @@
 ghost use Rattle.std.specs.Prelude.{◌≡◌};
 
 use crate::observer::SliceObserver;
-use council_base::Gate;
-use council_game::Game;
+use council_game::{Game, Gate};
 use mwc_walk::Informed;
 use std::marker::Model;
 use std::snapshot::Snapshot;

@@ -1,6 +1,6 @@
 //! What the workers do.
 ghost use Rattle.std.specs.Prelude.{◌≡◌, ◌≤◌, length};
-ghost use Rattle.council_base.specs.declared.limits.TheConstants.{BITS, COALITIONS};
+ghost use Rattle.council_game.specs.declared.limits.TheConstants.{BITS, COALITIONS};
 
 use crate::guarded::Guarded;
 use crate::promise::GivenJob;

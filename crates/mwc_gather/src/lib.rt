@@ -27,7 +27,7 @@ mod word_buffer;
 mod worker;
 mod worker_handle;
 
-pub use council_base::{Gate, NoGate};
+pub use council_game::{Gate, NoGate};
 pub use fault::GatherFault;
 pub use gathered::Gathered;
 pub use gathering::gather;

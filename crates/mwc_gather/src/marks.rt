@@ -1,9 +1,9 @@
 //! Which slice was given to which worker.
 ghost use Rattle.std.specs.Prelude.{◌≡◌, ℕ, ◌<◌, ◌≤◌, ◌↔◌, List, length, take, replicate, IsTrue, IsSome, All, MatchOption, slice_index_or, slice_set, if◌then◌else◌};
-ghost use Rattle.council_base.specs.declared.limits.TheConstants.{SLICES, WORKERS};
+ghost use Rattle.council_game.specs.declared.limits.TheConstants.{SLICES, WORKERS};
 ghost use Rattle.mwc_gather.specs.Table.{IsFirstFree};
 
-use council_base::limits;
+use council_game::limits;
 use std::marker::Model;
 
 /// Which slice was given to which worker: a fixed table for up to 1024 slices.
@@ -17,7 +17,7 @@ pub struct Marks {
 
 impl Model for Marks {
     ghost use Rattle.std.specs.Prelude.{ℕ, ◌≤◌, List, Option, take};
-    ghost use Rattle.council_base.specs.declared.limits.TheConstants.{SLICES};
+    ghost use Rattle.council_game.specs.declared.limits.TheConstants.{SLICES};
 
     ghost Value = { List (Option ℕ) };
 

@@ -1,7 +1,7 @@
 //! A gate, as the one function that passes it sees it.
 ghost use Rattle.std.specs.Prelude.{ℕ, ⊤};
 
-use council_base::Gate;
+use council_game::Gate;
 use mwc_walk::Informed;
 
 /// Whoever is informed of the slices that workers examine.

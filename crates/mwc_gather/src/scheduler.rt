@@ -1,7 +1,7 @@
 //! The code that hands out slices to the workers while they run.
 ghost use Rattle.std.specs.Prelude.{◌≡◌, ◌<◌, ◌≤◌, ◌^◌, ◌++◌, List, All, length, replicate, true, false};
 ghost use Rattle.std.specs.List.{list_any};
-ghost use Rattle.council_base.specs.declared.limits.TheConstants.{WORKERS};
+ghost use Rattle.council_game.specs.declared.limits.TheConstants.{WORKERS};
 ghost use Rattle.mwc_pipe.specs.declared.word.Word.{Word};
 ghost use Rattle.mwc_gather.specs.Inner.Sending.{is_done};
 ghost use Rattle.mwc_gather.specs.Inner.Scheduling.{TakesTurn, IsFresh};

@@ -1,6 +1,6 @@
 //! Sending the words of a slice.
 ghost use Rattle.std.specs.Prelude.{◌≡◌, ◌<◌, ◌≤◌, ◌^◌, ◌++◌, ◌∷◌, [], IsTrue, IsFalse, true, length, ◌+◌};
-ghost use Rattle.council_base.specs.declared.limits.TheConstants.{BITS, WORKERS, COALITIONS};
+ghost use Rattle.council_game.specs.declared.limits.TheConstants.{BITS, WORKERS, COALITIONS};
 ghost use Rattle.mwc_gather.specs.Slicing.{slicing};
 ghost use Rattle.mwc_gather.specs.Sending.{Sends, BreaksOnlyIfRefused};
 ghost use Rattle.mwc_gather.specs.Inner.Sending.{SendsFirst, SendsSome};
@@ -11,7 +11,7 @@ use crate::putting::{PutsRows, RowByRow, WordByWord};
 use crate::sent::Sent;
 use crate::waiting::{Backoff, Waker, WakerPair};
 use crate::word_buffer::{SHORT_ROW, WordBuffer};
-use council_base::Gate;
+use council_game::Gate;
 use mwc_pipe::{PipeIn, RingIn, Word};
 use mwc_walk::{SliceProgress, Walk};
 use std::sync::Wait;

@@ -6,7 +6,7 @@
 //! other side: a wake-up for each costs a tenth of the time of one worker. No contract depends on
 //! this; `tests/waiting.sh` tests it. A lost wake-up costs one millisecond, the longest sleep.
 ghost use Rattle.std.specs.Prelude.{◌<◌};
-ghost use Rattle.council_base.specs.declared.limits.TheConstants.{WORKERS};
+ghost use Rattle.council_game.specs.declared.limits.TheConstants.{WORKERS};
 
 use council_game::limits;
 use std::sync::Wait;

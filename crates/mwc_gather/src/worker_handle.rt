@@ -1,7 +1,7 @@
 //! The gatherer's side of one worker.
 ghost use Rattle.std.specs.Prelude.{◌≡◌, ℕ, ◌||◌, ◌+◌, ◌<◌, ◌≤◌, ◌^◌, ◌++◌, ◌∷◌, [], List, All, IfOk, IfErr, if◌then◌else◌, IsTrue, IsFalse, true, false, count_by, length, take, vec_len, vec_capacity};
 ghost use Rattle.std.specs.List.{list_any};
-ghost use Rattle.council_base.specs.declared.limits.TheConstants.{WORKERS};
+ghost use Rattle.council_game.specs.declared.limits.TheConstants.{WORKERS};
 ghost use Rattle.mwc_pipe.specs.declared.word.Word.{Word};
 ghost use Rattle.mwc_gather.specs.Slicing.{Slicing};
 ghost use Rattle.mwc_gather.specs.Wording.{open_words};

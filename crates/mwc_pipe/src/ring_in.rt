@@ -5,14 +5,14 @@ ghost use Rattle.mwc_pipe.specs.History.{Event};
 ghost use Rattle.mwc_pipe.specs.RowSteps.{AreAnswered, IsSeenByIn, puts_of};
 ghost use Rattle.mwc_pipe.specs.Refusal.{PutsIn};
 ghost use Rattle.mwc_pipe.specs.RingName.{RingName};
-ghost use Rattle.council_base.specs.declared.limits.TheConstants.{CAPACITY};
+ghost use Rattle.council_game.specs.declared.limits.TheConstants.{CAPACITY};
 
 use crate::closed::{Closed, Unfinished};
 use crate::pipe_in::PipeIn;
 use crate::ring_out::RingOut;
 use crate::step::Refused;
 use crate::word::Word;
-use council_base::Memory;
+use council_game::Memory;
 use rtrb::{Producer, PushError, RingBuffer};
 use std::alloc::Global;
 use std::marker::Model;

@@ -8,7 +8,7 @@ ghost use Rattle.mwc_pipe.specs.Laws.{NothingEntersAfterClose};
 
 use crate::pipe::Pipe;
 use crate::step::{Refused, Reply, Step, Taken};
-use council_base::Memory;
+use council_game::Memory;
 use std::alloc::Global;
 
 /// What a pipe made of a list of steps.

@@ -1,5 +1,5 @@
 //! The words that go through a pipe.
-use council_base::Coalition;
+use council_game::Coalition;
 
 /// A word of a worker to the gatherer, or of the gatherer to a worker.
 #[derive(Clone, Copy, Debug, Eq, PartialEq)]

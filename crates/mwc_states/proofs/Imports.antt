@@ -1,5 +1,5 @@
 -- The words of other libraries and of the definitions that two or more files of these proofs take.
-pub use Rattle.council_base.specs.{Coalitions.has, Coalitions.size, declared.limits.TheConstants.RULES}
+pub use Rattle.council_game.specs.{Coalitions.has, Coalitions.size, declared.limits.TheConstants.RULES}
 pub use Rattle.council_game.specs.Game.{votes_of}
 pub use Rattle.mwc_states.specs.Inner.Counting.{IsWithin, count_at, with_fewer, with_later, worth}
 pub use Rattle.mwc_states.specs.declared.{choices.Choices.Choices, state.What.TheVariants.Minimal, state.What.TheVariants.Winning}

@@ -4,7 +4,7 @@ use Rattle.mwc_states.proofs.Imports.{refl, subst, arith, min, MOST, RULES, weig
 use Rattle.mwc_states.proofs.Imports.{get_or-set_other, cases_lt, meets, AreSums, AddsMember, AreLowered}
 use Rattle.std.proofs.{Common.replicate, Common.ltb-true, lemmas.List.get_or_read}
 use Rattle.mwc_states.specs.Inner.Sums.{AreListed, HasSum}
-use Rattle.council_base.proofs.Shared.Lists.{get_or-zeros}
+use Rattle.council_game.proofs.Shared.Sums.{get_or-zeros}
 use Rattle.mwc_states.proofs.Meeting.{weigh-nil, reach, reached}
 
 -- ---- one member more

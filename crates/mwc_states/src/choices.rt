@@ -1,11 +1,11 @@
 //! Choices of the first members, by their size and the row that they lead to.
 ghost use Rattle.std.specs.Prelude.{◌≡◌, ℕ, ◌+◌, ◌*◌, ◌/◌, ◌<◌, ◌≤◌, ◌^◌, All, IfOk, OnOk, length, slice_index};
-ghost use Rattle.council_base.specs.declared.limits.TheConstants.{MEMBERS};
+ghost use Rattle.council_game.specs.declared.limits.TheConstants.{MEMBERS};
 ghost use Rattle.mwc_states.specs.Inner.Counting.{AreLeading, IsWithin, worth};
 ghost use Rattle.mwc_states.specs.Inner.Links.{IsGraph, link_at, lists};
 
 use crate::graph::{Links, link_at};
-use council_base::Memory;
+use council_game::Memory;
 use std::alloc::Global;
 
 /// How many choices of one size lead to a row.

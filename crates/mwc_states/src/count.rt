@@ -10,8 +10,7 @@ use crate::graph::build;
 use crate::row::{Row, ZERO};
 use crate::set_counts::{SetCounts, count};
 use crate::state::What;
-use council_base::{Gate, Memory};
-use council_game::Game;
+use council_game::{Game, Gate, Memory};
 use power_index::{Counts, Swings};
 use std::alloc::Global;
 

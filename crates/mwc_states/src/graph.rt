@@ -1,6 +1,6 @@
 //! The graph of states, level by level.
 ghost use Rattle.std.specs.Prelude.{◌≡◌, ◌+◌, ◌*◌, ◌<◌, ◌≤◌, ◌^◌, [], true, IfOk, IfSome, length, map};
-ghost use Rattle.council_base.specs.declared.limits.TheConstants.{MEMBERS, RULES};
+ghost use Rattle.council_game.specs.declared.limits.TheConstants.{MEMBERS, RULES};
 ghost use Rattle.mwc_states.specs.Inner.Graphs.{IsGraphOf};
 ghost use Rattle.mwc_states.specs.Inner.Links.{link_at};
 ghost use Rattle.mwc_states.specs.Inner.Tables.{AreDecided, IsLevel};
@@ -9,7 +9,7 @@ use crate::later::Later;
 use crate::row::Row;
 use crate::state::{What, decide};
 use crate::table::Table;
-use council_base::{Gate, Memory};
+use council_game::{Gate, Memory};
 use std::alloc::Global;
 
 /// Where each state of a level leads without its member, and then with it.

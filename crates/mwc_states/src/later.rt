@@ -1,7 +1,7 @@
 //! The later members.
 ghost use Rattle.std.specs.Prelude.{◌≡◌, ◌≤◌, ◌&&◌, true, false, not, Bool, List, IfOk, OnOk};
 ghost use Rattle.std.specs.List.{All};
-ghost use Rattle.council_base.specs.declared.limits.TheConstants.{RULES};
+ghost use Rattle.council_game.specs.declared.limits.TheConstants.{RULES};
 ghost use Rattle.mwc_states.specs.Inner.Sets.{weigh, meets};
 ghost use Rattle.mwc_states.specs.Inner.Sums.{AreSums};
 ghost use Rattle.mwc_states.specs.Inner.Later.{IsTotal, is_able};
@@ -9,7 +9,7 @@ ghost use Rattle.mwc_states.specs.Inner.States.{fits, misses_all};
 
 use crate::row::{self, Row, ZERO};
 use crate::sums::Sums;
-use council_base::{Memory, limits};
+use council_game::{Memory, limits};
 use std::alloc::Global;
 
 /// Returns whether a member may be in a minimal set that meets a need and this row too.

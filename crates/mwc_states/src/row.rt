@@ -5,7 +5,7 @@ ghost use Rattle.mwc_states.specs.Inner.Sets.{MOST, meets};
 ghost use Rattle.mwc_states.specs.Inner.Later.{IsTotal};
 ghost use Rattle.mwc_states.specs.Inner.States.{misses_all};
 
-use council_base::{Memory, limits};
+use council_game::{Memory, limits};
 
 /// A number under each rule; 0 under the rules that a game does not have.
 pub(crate) type Row = [u64; limits::RULES];

@@ -1,13 +1,13 @@
 //! Counts of the sets that a graph accepts.
 ghost use Rattle.std.specs.Prelude.{◌≡◌, ℕ, ◌+◌, ◌/◌, ◌<◌, ◌≤◌, ◌^◌, [], true, false, All, IfOk, OnOk, length, slice_index, slice_index_or};
-ghost use Rattle.council_base.specs.declared.limits.TheConstants.{SIZES};
+ghost use Rattle.council_game.specs.declared.limits.TheConstants.{SIZES};
 ghost use Rattle.mwc_states.specs.Inner.Counting.{AreCompleting, AreLeading, count_at, later, with_later, worth};
 ghost use Rattle.mwc_states.specs.Inner.Links.{AreSizesOf, IsGraph, link_at, lists};
 ghost use Rattle.mwc_states.specs.Inner.Sets.{has};
 
 use crate::choices::{Choices, decide_all};
 use crate::graph::{Links, link_at};
-use council_base::{Memory, limits};
+use council_game::{Memory, limits};
 use power_index::SizeCounts;
 use std::alloc::Global;
 

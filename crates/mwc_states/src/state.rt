@@ -8,7 +8,7 @@ ghost use Rattle.mwc_states.specs.declared.state.What.TheVariants.{Minimal};
 
 use crate::later::Later;
 use crate::row::{self, Row};
-use council_base::Memory;
+use council_game::Memory;
 
 /// The coalitions that are counted.
 #[derive(Clone, Copy)]

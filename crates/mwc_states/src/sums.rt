@@ -1,11 +1,11 @@
 //! Sums of the subsets of some members.
 ghost use Rattle.std.specs.Prelude.{◌≡◌, ◌<◌, ◌≤◌, ℕ, true, [], Bool, List, length, slice_index, IfOk, OnOk};
-ghost use Rattle.council_base.specs.declared.limits.TheConstants.{RULES};
+ghost use Rattle.council_game.specs.declared.limits.TheConstants.{RULES};
 ghost use Rattle.mwc_states.specs.Inner.Sets.{weigh, meets};
 ghost use Rattle.mwc_states.specs.Inner.Sums.{IsAscending, AddsSum, AddsMember, AreListed, AreLowered, AreSums};
 
 use crate::row::{self, Row, ZERO};
-use council_base::Memory;
+use council_game::Memory;
 use std::alloc::Global;
 
 /// Adds a sum that is at least as great as the others under a rule.

@@ -11,7 +11,7 @@ use Rattle.mwc_walk.specs.Slices.{slice}
 use Rattle.mwc_walk.proofs.Shared.{Joined.slices-joined, One.slice-short}
 use Rattle.power_index.specs.Tables.{Tables, AreTallies, AreCounts, table_total}
 use Rattle.power_index.proofs.Shared.{Minimal.minimal-are-coalitions, Minimal.minimal-few, Sound.total-is, Sound.tallies-are_counts}
-use Rattle.council_base.proofs.Shared.Ranges.{range-more, sum_by-range-more, sum_by-range-le}
+use Rattle.council_game.proofs.Shared.Ranges.{range-more, sum_by-range-more, sum_by-range-le}
 use Rattle.mwc_tally.specs.Inner.SliceCounts.{CountedUpTo, CountSlices, CountWhole, AreThreadCounts, slice_of}
 use Rattle.mwc_tally.specs.declared.{thread_counts.ThreadCounts.ThreadCounts, sliced_game.SlicedGame.SlicedGame}
 

@@ -1,14 +1,13 @@
 //! The counts of one slice.
 ghost use Rattle.std.specs.Prelude.{◌≤◌, ◌<◌, ◌^◌, length};
-ghost use Rattle.council_base.specs.declared.limits.TheConstants.{BITS};
+ghost use Rattle.council_game.specs.declared.limits.TheConstants.{BITS};
 ghost use Rattle.council_game.specs.Game.{votes_of};
 ghost use Rattle.mwc_walk.specs.Slices.{slice};
 ghost use Rattle.power_index.specs.Tables.{AreTallies};
 ghost use Rattle.mwc_tally.specs.Inner.SliceCounts.{slice_of};
 
 use crate::sliced_game::SlicedGame;
-use council_base::{Gate, NoGate};
-use council_game::Game;
+use council_game::{Game, Gate, NoGate};
 use mwc_walk::{SliceProgress, Walk};
 use power_index::Counts;
 

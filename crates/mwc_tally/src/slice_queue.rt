@@ -5,8 +5,7 @@ ghost use Rattle.mwc_tally.specs.Inner.SliceCounts.{AreThreadCounts};
 use crate::slice::count_slice;
 use crate::sliced_game::SlicedGame;
 use crate::thread_counts::ThreadCounts;
-use council_base::Gate;
-use council_game::Memory;
+use council_game::{Gate, Memory};
 use std::alloc::Global;
 use std::sync::atomic::{AtomicU64, Ordering};
 

@@ -1,6 +1,6 @@
 //! A game cut into slices.
 ghost use Rattle.std.specs.Prelude.{◌≡◌, ◌≤◌, ◌^◌, length};
-ghost use Rattle.council_base.specs.declared.limits.TheConstants.{BITS};
+ghost use Rattle.council_game.specs.declared.limits.TheConstants.{BITS};
 
 use crate::thread_counts::ThreadCounts;
 use council_game::{Game, Memory};

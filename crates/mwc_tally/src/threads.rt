@@ -1,6 +1,6 @@
 //! The counts of all slices, by threads.
 ghost use Rattle.std.specs.Prelude.{◌≡◌, ◌≤◌, All, length, IfOk, MatchOption, ⊤};
-ghost use Rattle.council_base.specs.declared.limits.TheConstants.{BITS, WORKERS};
+ghost use Rattle.council_game.specs.declared.limits.TheConstants.{BITS, WORKERS};
 ghost use Rattle.power_index.specs.Tables.{AreCountsOfGame};
 ghost use Rattle.mwc_tally.specs.Inner.SliceCounts.{AreThreadCounts, AreThreadCountsAt, CountWhole};
 
@@ -9,8 +9,7 @@ use crate::slice::count_slice;
 use crate::slice_queue::SliceQueue;
 use crate::sliced_game::SlicedGame;
 use crate::thread_counts::ThreadCounts;
-use council_base::Gate;
-use council_game::{Game, Memory};
+use council_game::{Game, Gate, Memory};
 use power_index::Counts;
 use std::alloc::Global;
 use std::sync::Wait;

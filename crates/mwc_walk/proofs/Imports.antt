@@ -1,5 +1,5 @@
 -- The words of other libraries and of the definitions that two or more files of these proofs take.
-pub use Rattle.council_base.proofs.Shared.Digits.{has-none, lowest-place}
+pub use Rattle.council_game.proofs.Shared.Digits.{has-none, lowest-place}
 pub use Rattle.council_game.proofs.Shared.{Listing.listing-is, Meanings.needs-each-member, Weights.weight-le, Weights.weight-without}
 pub use Rattle.council_game.specs.Game.{votes_of}
 pub use Rattle.council_game.specs.Votes.{IsRanked, IsRule, IsVotes, RuleView, Votes, rule_at, weight}

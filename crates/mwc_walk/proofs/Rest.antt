@@ -6,7 +6,7 @@ use Rattle.mwc_walk.proofs.Imports.{without, minimal, minimal_coalitions, minima
 use Rattle.mwc_walk.proofs.Imports.{◌≡◌, ℕ, zero, suc, ◌+◌, ◌*◌, ◌/◌, ◌^◌, ◌<◌, ◌≤◌, Bool, true, false, eqb, List, [], ◌∷◌, ◌++◌, ◌∙◌}
 use Rattle.mwc_walk.proofs.Imports.{arith, filter, append-nil, filter-append, pow_pos, down}
 use Rattle.std.proofs.{Common.zero-add, Common.ne_eqb, Math.Bool.and-true, Math.Nat.lt-div-mul-add, lemmas.Bool.and_right}
-use Rattle.council_base.proofs.Shared.Lists.{filter-both}
+use Rattle.council_game.proofs.Shared.Sums.{filter-both}
 use Rattle.mwc_walk.proofs.Rules.{wins-below, loses-below}
 
 -- the numbers from low on, as many as there are more

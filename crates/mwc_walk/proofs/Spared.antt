@@ -6,7 +6,7 @@ use Rattle.mwc_walk.proofs.Imports.{◌≤◌, true, List, [], length, ◌∙◌
 use Rattle.mwc_walk.proofs.Imports.{wins, minimal, needs-each-member, Lane, eq-eqb, ExcessIs, weight-le, ◌≡◌, ℕ, ◌+◌, ◌-◌, ◌*◌, ◌/◌, ◌^◌}
 use Rattle.std.proofs.lemmas.{Bool.and_parts, Bool.and_from, Nat.and_le_l, Nat.Bits.bit_at_and}
 use Rattle.std.proofs.Common.{◌&&◌, bit_and}
-use Rattle.council_base.proofs.Shared.Digits.{has-kept, has-gone, without-less}
+use Rattle.council_game.proofs.Shared.Digits.{has-kept, has-gone, without-less}
 use Rattle.council_game.proofs.Shared.WinningByPlaces.{sum-without, rule-is}
 use Rattle.mwc_walk.specs.Inner.{Places.AreExcesses, Places.CanSpare, Spared.NoneSpared}
 use Rattle.mwc_walk.proofs.{Shared.One.place-before, Shared.One.in-slice, Steps.enter-short, Steps.lane-here, Steps.sum-here}

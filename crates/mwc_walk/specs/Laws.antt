@@ -1,7 +1,7 @@
 -- What the laws say of every game.
 use Rattle.std.specs.Prelude.{ℕ, ◌^◌, ◌≡◌, ◌≤◌, All, Contains, List}
 use Rattle.std.specs.List.{flat_map, range_with_len}
-use Rattle.council_base.specs.declared.limits.TheConstants.{BITS}
+use Rattle.council_game.specs.declared.limits.TheConstants.{BITS}
 use Rattle.council_game.specs.Votes.{Votes, minimal_coalitions}
 use Rattle.mwc_walk.specs.Slices.{slice}
 

@@ -1,7 +1,7 @@
 //! How far a walk has come, and its steps.
 ghost use Rattle.std.specs.Prelude.{◌≡◌, ◌≢◌, ℕ, ◌*◌, ◌+◌, ◌-◌, ◌^◌, ◌<◌, ◌≤◌, false, true, bit_and, length};
 ghost use Rattle.std.specs.Prelude.{IfSome, MatchOption};
-ghost use Rattle.council_base.specs.declared.limits.TheConstants.{BITS, MEMBERS};
+ghost use Rattle.council_game.specs.declared.limits.TheConstants.{BITS, MEMBERS};
 ghost use Rattle.council_game.specs.Game.{votes_of};
 ghost use Rattle.council_game.specs.Votes.{has, without};
 ghost use Rattle.mwc_walk.specs.Inner.Places.{reaches, wins_at, NothingBelow, AreExcesses, CanSpare};

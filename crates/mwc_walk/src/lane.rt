@@ -2,7 +2,7 @@
 //! straight to its lane, which saves a fifth of the time of a walk.
 ghost use Rattle.std.specs.Prelude.{◌≡◌, ◌==◌, ◌+◌, ◌-◌, ◌^◌, ◌<◌, ◌≤◌, ℕ, length, take, drop, map, slice_index};
 ghost use Rattle.std.specs.List.{list_all, All, sum};
-ghost use Rattle.council_base.specs.declared.limits.TheConstants.{MEMBERS, RULES};
+ghost use Rattle.council_game.specs.declared.limits.TheConstants.{MEMBERS, RULES};
 ghost use Rattle.council_game.specs.Game.{votes_of};
 ghost use Rattle.council_game.specs.Votes.{rule_at, has, weight};
 ghost use Rattle.mwc_walk.specs.Inner.Places.{LaneIs, LanesStand};

@@ -1,10 +1,9 @@
 //! How far the walk over a slice has come.
 ghost use Rattle.std.specs.Prelude.{◌≡◌, ◌<◌, ◌+◌, ◌-◌, ◌∷◌, [], MatchOption};
-ghost use Rattle.council_base.specs.declared.gate.TheConstants.{INFORM_EVERY};
+ghost use Rattle.council_game.specs.declared.gate.TheConstants.{INFORM_EVERY};
 
 use crate::{Seek, Walk};
-use council_base::{Gate, INFORM_EVERY};
-use council_game::Coalition;
+use council_game::{Coalition, Gate, INFORM_EVERY};
 
 /// Whoever is informed of progress inside a slice.
 pub trait Informed {

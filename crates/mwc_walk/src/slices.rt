@@ -1,6 +1,6 @@
 //! The slices of a game: how many there are, and one as a list.
 ghost use Rattle.std.specs.Prelude.{◌≡◌, ◌≤◌, ◌<◌, ◌^◌, length, take, drop, IfOk, OnOk, IfSome, IfNone};
-ghost use Rattle.council_base.specs.declared.limits.TheConstants.{BITS};
+ghost use Rattle.council_game.specs.declared.limits.TheConstants.{BITS};
 ghost use Rattle.council_game.specs.Game.{votes_of};
 ghost use Rattle.mwc_walk.specs.Slices.{slice};
 ghost use Rattle.council_game.specs.Votes.{minimal_coalitions};

@@ -1,6 +1,6 @@
 //! A walk over the minimal winning coalitions of a slice.
 ghost use Rattle.std.specs.Prelude.{◌≡◌, ◌+◌, ◌-◌, ◌*◌, ◌^◌, ◌<◌, ◌≤◌, ◌≢◌, [], ◌∷◌, ◌++◌, drop, length, IfSome, MatchOption};
-ghost use Rattle.council_base.specs.declared.limits.TheConstants.{BITS};
+ghost use Rattle.council_game.specs.declared.limits.TheConstants.{BITS};
 ghost use Rattle.council_game.specs.Game.{votes_of};
 ghost use Rattle.mwc_walk.specs.Listed.{IsListed};
 ghost use Rattle.mwc_walk.specs.Slices.{slice};

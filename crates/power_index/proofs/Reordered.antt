@@ -2,7 +2,7 @@
 use Rattle.power_index.proofs.Imports.{◌≡◌, ◌∙◌, ◌==◌, ◌&&◌, ℕ, ◌*◌, ◌/◌, ◌<◌, List, length, Bool, true, refl, sym, ap, arith, sum_by, range_with_len}
 use Rattle.power_index.proofs.Imports.{GameView, IsGame, Tables, SameFraction, contains, size_of, count_of_member, members, denominator, weighted_sum}
 use Rattle.power_index.proofs.Imports.{sizes_of_member, unit_sum, lowest_terms, deegan_packel, public_good, votes-are}
-use Rattle.council_base.proofs.Shared.Lists.{filter-all}
+use Rattle.council_game.proofs.Shared.Sums.{filter-all}
 use Rattle.council_game.specs.{Game.votes_of, Renaming.AreSymmetric, Renaming.IsRenaming, Renaming.exchanged, Votes.minimal_coalitions}
 use Rattle.council_game.proofs.Shared.Renamed.{renamed-alike, same, same-renaming, sum-renamed, first-exchanged, symmetric-renaming}
 use Rattle.power_index.specs.{Counting.count_of_member_size, MemberIndices.indices_of_member, Renaming.HaveRenamedCounts, Tables.AreCountsOfGame}

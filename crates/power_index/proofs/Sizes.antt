@@ -2,7 +2,7 @@
 use Rattle.power_index.proofs.Imports.{◌≡◌, ◌∙◌, ◌==◌, ◌&&◌, ℕ, ◌+◌, ◌*◌, ◌<◌, ◌≤◌, List, length, get_or, Bool, sym, refl, arith, filter}
 use Rattle.power_index.proofs.Imports.{sum_by, range_with_len, size, total_of_sizes, AreSizeCounts}
 use Rattle.std.proofs.lemmas.List.Recursion.{is_sum_by}
-use Rattle.council_base.proofs.Shared.Ranges.{sum_by-range-more, sum_by-range-le}
+use Rattle.council_game.proofs.Shared.Ranges.{sum_by-range-more, sum_by-range-le}
 use Rattle.power_index.proofs.Shared.{Members.size-le, Sums.sum-range, Sums.sum-by_size, Sums.length-filter-le}
 
 -- none of them is greater than the list is long

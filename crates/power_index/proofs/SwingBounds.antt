@@ -4,8 +4,8 @@ use Rattle.std.proofs.Common.{refl, ap, arith, w64, inl, inr}
 use Rattle.std.specs.{List.range_with_len, Int.trailing_zeros}
 use Rattle.std.proofs.lemmas.{Bool.Decides.nat_tests, Bool.cases_eq, List.Sums.sum_by-cons, List.Sums.length-filter, List.Elements.Contains-get_or, List.Sums.get_or-le-sum_by}
 use Rattle.std.proofs.lemmas.List.FromFn.{length-range_with_len}
-use Rattle.council_base.specs.Coalitions.{has}
-use Rattle.council_base.proofs.Shared.Digits.{lowest-place}
+use Rattle.council_game.specs.Coalitions.{has}
+use Rattle.council_game.proofs.Shared.Digits.{lowest-place}
 use Rattle.council_game.specs.{Game.GameView, Game.IsGame, Game.votes_of, Votes.down, Votes.minimal_coalitions, Ranks.member_at}
 use Rattle.council_game.proofs.Shared.{Games.few-members, Making.ranks-are, Rankings.places-at, Sets.count-both, Sets.double-pow, Listing.listed-is, Sets.needs-members}
 use Rattle.power_index.proofs.Shared.{Minimal.minimal-are-coalitions, Minimal.minimal-some}

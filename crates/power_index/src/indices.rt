@@ -2,7 +2,7 @@
 ghost use Rattle.council_game.specs.Game.{GameView};
 ghost use Rattle.power_index.specs.Fractions.{IsIndex, IsLowestOf, lowest_terms, pair_of};
 ghost use Rattle.power_index.specs.Indices.{deegan_packel, public_good};
-ghost use Rattle.council_base.specs.declared.limits.TheConstants.{MEMBERS};
+ghost use Rattle.council_game.specs.declared.limits.TheConstants.{MEMBERS};
 ghost use Rattle.power_index.specs.declared.indices.TheConstants.{DENOMINATOR};
 ghost use Rattle.power_index.specs.Tables.{AreCounts, table_deegan_packel, table_public_good, table_total};
 ghost use Rattle.power_index.specs.Tables.{table_of_member_size, weighted_sum};

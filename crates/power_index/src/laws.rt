@@ -1,6 +1,6 @@
 //! Laws of the definitions, with nothing to run: each index adds up to 1, what lowest terms are,
 //! and that two indices which are the same number are equal.
-ghost use Rattle.council_base.specs.declared.limits.TheConstants.{MEMBERS};
+ghost use Rattle.council_game.specs.declared.limits.TheConstants.{MEMBERS};
 ghost use Rattle.council_game.specs.Game.{GameView, IsGame, votes_of, AreNonemptyCoalitions};
 ghost use Rattle.council_game.specs.Renaming.{AreSymmetric, IsRenaming};
 ghost use Rattle.council_game.specs.Votes.{minimal_coalitions};

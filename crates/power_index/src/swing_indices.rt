@@ -1,5 +1,5 @@
 //! The indices and measures that rest on swings.
-ghost use Rattle.council_base.specs.declared.limits.TheConstants.{MEMBERS};
+ghost use Rattle.council_game.specs.declared.limits.TheConstants.{MEMBERS};
 ghost use Rattle.council_game.specs.Game.{GameView, IsGame};
 ghost use Rattle.power_index.specs.Fractions.{IsIndex, lowest_terms, pair_of};
 ghost use Rattle.std.specs.Prelude.{◌≡◌, ◌<◌, ◌≤◌, ◌^◌};

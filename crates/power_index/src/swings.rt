@@ -1,5 +1,5 @@
 //! The swings of the members of a game.
-ghost use Rattle.council_base.specs.declared.limits.TheConstants.{MEMBERS};
+ghost use Rattle.council_game.specs.declared.limits.TheConstants.{MEMBERS};
 ghost use Rattle.council_game.specs.Game.{GameView, IsGame};
 ghost use Rattle.std.specs.Prelude.{◌≡◌, ◌*◌, ◌<◌, ◌≤◌, ◌^◌, length};
 ghost use Rattle.power_index.specs.Swings.{AreOfSomeGame, AreWinningCounts, all_swings, swings, swings_of_size, winning_coalitions};

@@ -5,7 +5,7 @@ mod refusals;
 mod texts;
 
 ghost use Rattle.std.specs.Prelude.{◌≤◌};
-ghost use Rattle.council_base.specs.declared.limits.TheConstants.{BITS, WORKERS};
+ghost use Rattle.council_game.specs.declared.limits.TheConstants.{BITS, WORKERS};
 
 use crate::helpers::assert_same;
 use council_game::GameFault;

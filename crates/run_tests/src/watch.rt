@@ -1,5 +1,5 @@
 //! A gate for the tests of threads.
-use council_base::{Gate, INFORM_EVERY};
+use council_game::{Gate, INFORM_EVERY};
 use std::sync::atomic::{AtomicU64, Ordering};
 use std::{array, thread};
 

@@ -5,7 +5,7 @@ use Rattle.council_game.proofs.Imports.{cases_eq, cases_Bool, inl, inr, recursio
 use Rattle.council_game.proofs.Imports.{GameView, IsGame, votes_of, RuleView, rule_by_rank, without, weight, wins, minimal, minimal_coalitions}
 use Rattle.std.proofs.Common.{◌&&◌}
 use Rattle.std.specs.List.{AllZip}
-use Rattle.council_base.proofs.Shared.Ranges.{sum_by-range-more}
+use Rattle.council_game.proofs.Shared.Ranges.{sum_by-range-more}
 use Rattle.council_game.specs.{Laws.IsSameByMembers, Members.contains, Members.size_of, Votes.down}
 use Rattle.council_game.specs.Renaming.{AreInverse, HaveRenamedMembers, IsRenaming, AreAlike, IsRenamedRule, HaveRenamedRules}
 use Rattle.council_game.specs.Renaming.{exchanged, AreSymmetric, HaveEqualWeights}

@@ -8,8 +8,8 @@ use Rattle.std.proofs.Common.{◌/◌, ◌%◌, ◌&&◌}
 use Rattle.std.proofs.lemmas.Nat.Bits.{bit_at_cat_low, bit_at_cat_high, bit_at_above}
 use Rattle.std.proofs.lemmas.List.Sums.{length-filter}
 use native.Mathlib.Numerals.{unary_clauses}
-use Rattle.council_base.proofs.Shared.Digits.{has-kept, has-gone, same-places}
-use Rattle.council_base.proofs.Shared.Lists.{sum-swap, filter-both, sum-zero}
+use Rattle.council_game.proofs.Shared.Digits.{has-kept, has-gone, same-places}
+use Rattle.council_game.proofs.Shared.Sums.{sum-swap, filter-both, sum-zero}
 use Rattle.council_game.specs.{Laws.HasEachSet, Laws.NeedsEachMemberOf, Laws.ProperSubsetsOfLose, Members.HaveSameMembers, Members.IsSubsetOf, Members.contains, Members.size_of, Votes.down}
 use Rattle.council_game.proofs.Shared.{Making.ranks-are, Rankings.length-weights_by_rank}
 use Rattle.council_game.proofs.Shared.{RankPlaces.game-rank_places, RankPlaces.by-member, Meanings.needs-each-member, Rankings.by_rank-at}

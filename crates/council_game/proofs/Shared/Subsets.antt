@@ -5,7 +5,7 @@ use Rattle.council_game.proofs.Imports.{not, zero, suc, sym, ◌≡◌, ℕ, ◌
 use Rattle.council_game.proofs.Imports.{minimal, places_of, digit-kept, has-none}
 use Rattle.std.proofs.lemmas.Nat.Bits.{same_from_bits_below}
 use Rattle.council_game.specs.Laws.{ProperSubsetsLose}
-use Rattle.council_base.proofs.Shared.Digits.{has-kept, without-less}
+use Rattle.council_game.proofs.Shared.Digits.{has-kept, without-less}
 use Rattle.council_game.proofs.{Monotone.weight-mono, Places.spare-place, Shared.Meanings.needs-each-member}
 
 -- if a set wins, each set wins that has all its places

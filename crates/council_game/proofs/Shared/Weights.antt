@@ -5,7 +5,7 @@ use Rattle.council_game.proofs.Imports.{weight, digit-kept}
 use Rattle.std.proofs.Common.{drop, div-add-mod', length-append, take-append-drop, length-drop}
 use Rattle.std.proofs.lemmas.Nat.{mod_below, div-mul-add, mod-mul-add, Bits.bit_at_cat_low, Bits.bit_at_cat_high, Bits.bit_at-zero}
 use Rattle.std.proofs.lemmas.List.{take_more}
-use Rattle.council_base.proofs.Shared.Digits.{digit-gone}
+use Rattle.council_game.proofs.Shared.Digits.{digit-gone}
 use Rattle.council_game.proofs.{Monotone.weight-mono, Shared.WeightByDigits.weight-nil, Shared.WeightByDigits.weight-cons}
 
 -- coalitions with the same digits at the places of ws weigh the same

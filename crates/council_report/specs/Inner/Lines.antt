@@ -2,7 +2,7 @@
 use Rattle.std.specs.Prelude.{ℕ, List, [], ◌∷◌, ◌++◌, if◌then◌else◌, decimal, length}
 use Rattle.std.specs.List.{flat_map, range_with_len}
 use Rattle.std.specs.Option.{option_map_or}
-use Rattle.council_base.specs.declared.report_lines.ReportLines.{ReportLines}
+use Rattle.council_game.specs.declared.report_lines.ReportLines.{ReportLines}
 use Rattle.council_game.specs.Game.{GameView}
 use Rattle.power_index.specs.Fractions.{lowest_terms}
 use Rattle.power_index.specs.Tables.{Tables, table_of_size, table_of_member, table_of_member_size, table_deegan_packel}

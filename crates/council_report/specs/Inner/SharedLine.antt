@@ -2,7 +2,7 @@
 use Rattle.std.specs.Prelude.{◌≡◌, ◌≤◌, ◌<◌, ◌^◌, ℕ, List, false, length, map, slice_index, slice_index_or}
 use Rattle.std.specs.List.{filter, flat_map, sum, range_with_len}
 use Rattle.std.specs.Vec.{vec_capacity}
-use Rattle.council_base.specs.declared.limits.TheConstants.{MEMBERS, SIZES, RULES}
+use Rattle.council_game.specs.declared.limits.TheConstants.{MEMBERS, SIZES, RULES}
 use Rattle.council_game.specs.Votes.{has, rule_at}
 use Rattle.council_game.specs.Ranks.{member_at}
 use Rattle.council_game.specs.Game.{GameView, IsGame, votes_of}

@@ -1,6 +1,6 @@
 -- How a run ends.
 use Rattle.std.proofs.Common.{◌≡◌, ℕ, List, Option, Result, Ok, Err, Some, ap, false, refl, subst, sym}
-use Rattle.council_base.specs.declared.report_lines.ReportLines.{ReportLines}
+use Rattle.council_game.specs.declared.report_lines.ReportLines.{ReportLines}
 use Rattle.council_game.specs.Game.{GameView}
 use Rattle.council_game.specs.declared.fault.GameFault.{GameFault}
 use Rattle.council_report.specs.declared.fault.ReportFault.{ReportFault}
@@ -15,7 +15,7 @@ use Rattle.council_run.specs.declared.fault.Cause.{Cause}
 use Rattle.council_run.specs.declared.fault.Cause.TheVariants as cause
 use Rattle.council_run.specs.declared.fault.RunFault.{RunFault}
 use Rattle.council_run.specs.declared.found.Found.{Found}
-use Rattle.council_base.specs.declared.plan.Plan.TheVariants as plan
+use Rattle.council_game.specs.declared.plan.Plan.TheVariants as plan
 
 -- a fault of the report is not that there are too many
 pub is-not-many : (why : ReportFault) (e : RunFault) → (why ≡ report.Memory → e ≡ record { cause = cause.Memory; written = 0 })

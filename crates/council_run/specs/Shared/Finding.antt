@@ -1,6 +1,6 @@
 -- All that a report is made from, or why it was not found.
 use Rattle.std.specs.Prelude.{◌≡◌, ℕ, Option, Result, Ok, Err}
-use Rattle.council_base.specs.declared.report_lines.ReportLines.{ReportLines}
+use Rattle.council_game.specs.declared.report_lines.ReportLines.{ReportLines}
 use Rattle.council_game.specs.Game.{GameView}
 use Rattle.council_run.specs.Columns.{ShowsSwings}
 use Rattle.council_run.specs.Findings.{AreFindings, columns_of}

@@ -1,7 +1,7 @@
 //! The call that takes memory. `tests/call_allocations.sh` refuses the allocations between the line
 //! `call` and the line of the answer.
 use crate::helpers::{assert_same, game_of_rules, print_line};
-use council_base::NoGate;
+use council_game::NoGate;
 use mwc_states::count_by_states;
 use std::alloc::Global;
 use std::io::Print;

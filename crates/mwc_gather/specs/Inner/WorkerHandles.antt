@@ -14,7 +14,7 @@ use Rattle.mwc_gather.specs.declared.worker_handle.WorkerHandle.{WorkerHandle}
 use Rattle.mwc_gather.specs.declared.scheduler.Scheduler.{Scheduler}
 use Rattle.mwc_gather.specs.declared.job.Job.{Job}
 use Rattle.mwc_gather.specs.Inner.Gathering.{slices_of}
-use Rattle.council_base.specs.declared.limits.TheConstants.{WORKERS}
+use Rattle.council_game.specs.declared.limits.TheConstants.{WORKERS}
 
 -- the slices of the game that the worker was given
 abbrev pub handle_slicing : WorkerHandle → Slicing

@@ -1,7 +1,7 @@
 -- A game's members and quotas as rows, the members by rank place; and which coalitions are counted.
 use Rattle.std.specs.Prelude.{ℕ, ◌≡◌, ◌<◌, ◌≤◌, ◌^◌, Bool, true, List, [], length, slice_index, slice_index_or}
 use Rattle.std.specs.List.{filter}
-use Rattle.council_base.specs.declared.limits.TheConstants.{MEMBERS}
+use Rattle.council_game.specs.declared.limits.TheConstants.{MEMBERS}
 use Rattle.council_game.specs.Votes.{RuleView, Votes, down, has, minimal, rule_at, wins}
 use Rattle.council_game.specs.Game.{AreNonemptyCoalitions, GameView}
 use Rattle.power_index.specs.Tables.{AreSizeCounts}

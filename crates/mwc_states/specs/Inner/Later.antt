@@ -2,7 +2,7 @@
 use Rattle.std.specs.Prelude.{ℕ, ◌≡◌, ◌-◌, Bool, true, not, ◌&&◌, min, nat_lt, List, ◌∷◌, slice_index, sum_by}
 use Rattle.std.specs.Prelude.{if◌then◌else◌}
 use Rattle.std.specs.List.{list_any, range_with_len}
-use Rattle.council_base.specs.declared.limits.TheConstants.{RULES}
+use Rattle.council_game.specs.declared.limits.TheConstants.{RULES}
 use Rattle.mwc_states.specs.Inner.Sets.{MOST, weigh, meets}
 use Rattle.mwc_states.specs.Inner.States.{misses_all}
 

@@ -2,7 +2,7 @@
 use Rattle.std.specs.Prelude.{ℕ, nat_eq, ◌+◌, ◌*◌, ◌/◌, ◌<◌, ◌≤◌, ◌^◌, ◌≡◌, ◌&&◌, Bool, false, List, [], ◌∷◌, length, slice_index, slice_index_or}
 use Rattle.std.specs.Prelude.{if◌then◌else◌, map, Vec}
 use Rattle.std.specs.Global.{Global}
-use Rattle.council_base.specs.declared.limits.TheConstants.{MEMBERS, SIZES}
+use Rattle.council_game.specs.declared.limits.TheConstants.{MEMBERS, SIZES}
 use Rattle.mwc_states.specs.Inner.Sets.{count_sets}
 
 -- the links of each level

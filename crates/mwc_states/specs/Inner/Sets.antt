@@ -3,7 +3,7 @@
 use Rattle.std.specs.Prelude.{ℕ, zero, suc, ◌+◌, ◌-◌, ◌^◌, Bool, true, false, nat_le, List, [], ◌∷◌, map, slice_index, slice_index_or}
 use Rattle.std.specs.Prelude.{if◌then◌else◌}
 use Rattle.std.specs.List.{list_all, range_with_len}
-use Rattle.council_base.specs.declared.limits.TheConstants.{RULES}
+use Rattle.council_game.specs.declared.limits.TheConstants.{RULES}
 
 -- the greatest number of 64 bits
 abbrev pub MOST : ℕ

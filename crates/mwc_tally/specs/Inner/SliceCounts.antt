@@ -1,7 +1,7 @@
 -- What a thread counted of a game's slices.
 use Rattle.std.specs.Prelude.{ℕ, ◌≡◌, ◌+◌, ◌^◌, ◌≤◌, ◌++◌, List}
 use Rattle.std.specs.List.{flat_map}
-use Rattle.council_base.specs.declared.limits.TheConstants.{MEMBERS}
+use Rattle.council_game.specs.declared.limits.TheConstants.{MEMBERS}
 use Rattle.council_game.specs.Game.{GameView, votes_of}
 use Rattle.mwc_walk.specs.Slices.{slice}
 use Rattle.power_index.specs.Tables.{Tables, AreTallies, AreCountsOfGame, table_total}

@@ -7,7 +7,7 @@ use Rattle.power_index.proofs.Imports.{AreAdded, with_one}
 use Rattle.std.proofs.lemmas.List.{get_or-replicate, Elements.All-append, Elements.All-cons, Elements.All-nil, Elements.filter-append, Sums.sum_by_push}
 use Rattle.std.proofs.Common.{length-set}
 use Rattle.power_index.specs.Inner.Tables.{AreOfSomeList, AreKept}
-use Rattle.council_base.proofs.Shared.Lists.{bumped, filter-all}
+use Rattle.council_game.proofs.Shared.Sums.{bumped, filter-all}
 use Rattle.power_index.proofs.{Sizes.sizes-total, Sizes.sizes-few, Weights.weight-light, Weights.memberships-are}
 use Rattle.power_index.proofs.Shared.Sums.{length-filter-le}
 use Rattle.power_index.proofs.Shared.Members.{few-members, memberships, sizes-some, size-le}

@@ -1,7 +1,7 @@
 -- Tables of counts, and when they hold the counts of a list of coalitions: what only proofs and
 -- private functions need.
 use Rattle.std.specs.Prelude.{ℕ, ◌≡◌, ◌+◌, ◌^◌, ◌≤◌, ◌<◌, List, [], length, slice_index, slice_index_or, slice_set}
-use Rattle.council_base.specs.declared.limits.TheConstants.{MEMBERS, SIZES}
+use Rattle.council_game.specs.declared.limits.TheConstants.{MEMBERS, SIZES}
 use Rattle.council_game.specs.Game.{GameView, AreNonemptyCoalitions}
 use Rattle.power_index.specs.Tables.{Tables, AreTallies, AreSound}
 

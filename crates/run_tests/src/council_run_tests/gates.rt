@@ -1,6 +1,6 @@
 //! The slices and workers of runs and tallies.
 ghost use Rattle.std.specs.Prelude.{◌≤◌};
-ghost use Rattle.council_base.specs.declared.limits.TheConstants.{BITS, WORKERS};
+ghost use Rattle.council_game.specs.declared.limits.TheConstants.{BITS, WORKERS};
 
 use super::*;
 use crate::helpers::game_of_rules;

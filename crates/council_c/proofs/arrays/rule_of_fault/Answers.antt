@@ -1,6 +1,6 @@
 use Rattle.std.proofs.Common.{ℕ, ◌∙◌, ◌+◌, Bool, Option, ap, sym, position, nat_lt, slice_index, ◌-◌}
 use Rattle.std.specs.Option.{option_map_or}
-use Rattle.council_base.specs.declared.limits.TheConstants.{WEIGHT}
+use Rattle.council_game.specs.declared.limits.TheConstants.{WEIGHT}
 use Rattle.council_game.specs.{Game.has_bad_quota, Rules.rule_view, Votes.RuleView}
 use Rattle.council_game.proofs.Shared.Lists.{position_map}
 use Rattle.council_c.proofs.arrays.rule_of_fault.Goals as goal

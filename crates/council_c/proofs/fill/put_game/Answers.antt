@@ -1,7 +1,7 @@
 use Rattle.std.proofs.Common.{◌≡◌, ◌∙◌, ap, length, subst}
 use Rattle.std.proofs.lemmas.Result.{err_from_is_err_and}
-use Rattle.council_base.specs.declared.report_lines.ReportLines.{ReportLines}
-use Rattle.council_base.specs.Options.{lines_of}
+use Rattle.council_game.specs.declared.report_lines.ReportLines.{ReportLines}
+use Rattle.council_game.specs.Options.{lines_of}
 use Rattle.council_run.specs.Columns.{limit_with, report_of}
 use Rattle.council_run.specs.Plans.{is_cause_many}
 use Rattle.council_run.specs.declared.columns.Columns.{Columns}

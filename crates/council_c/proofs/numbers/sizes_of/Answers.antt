@@ -1,5 +1,5 @@
 use Rattle.std.proofs.Common.{arith, refl}
-use Rattle.council_base.proofs.Shared.Lists.{get_or-zeros}
+use Rattle.council_game.proofs.Shared.Sums.{get_or-zeros}
 use Rattle.council_c.proofs.numbers.sizes_of.Goals as goal
 
 pub loop-size-init : goal.loop-size-init

@@ -1,4 +1,4 @@
-use Rattle.council_base.specs.Lists.{joined}
+use Rattle.council_game.specs.Lists.{joined}
 use Rattle.council_report.proofs.Imports.{◌+◌, ◌++◌, ◌∙◌, List, [], arith, coalition_lines, lines_of, ℕ}
 use Rattle.council_report.specs.{Inner.Lines.lines_of_members, Inner.Lines.lines_of_sizes, Sending.Sending}
 use Rattle.council_report.proofs.Bounds.{lines-count}

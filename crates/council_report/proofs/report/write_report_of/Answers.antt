@@ -1,4 +1,4 @@
-use Rattle.council_base.specs.Lists.{joined}
+use Rattle.council_game.specs.Lists.{joined}
 use Rattle.council_report.specs.Outcome.{Writes}
 use Rattle.council_report.proofs.FromCounts.{report-same}
 use Rattle.council_report.proofs.Imports.{Some, lines_of, refl, subst}

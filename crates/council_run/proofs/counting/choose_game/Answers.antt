@@ -1,6 +1,6 @@
 use Rattle.std.proofs.Common.{Option, true, refl, sym, ap, subst, ◌∙◌, ◌≡◌}
 use Rattle.std.specs.Option.{IfSome}
-use Rattle.council_base.proofs.Shared.Lists.{filter-all}
+use Rattle.council_game.proofs.Shared.Sums.{filter-all}
 use Rattle.council_game.specs.{Contribution.by_contribution, Game.GameView, Game.votes_of, Votes.minimal_coalitions}
 use Rattle.council_run.proofs.counting.choose_game.Goals as goal
 

@@ -1,6 +1,6 @@
 use Rattle.std.proofs.Common.{◌≡◌, Bool, Err, List, Ok, Option, Result, ap, false, refl, subst, sym, ℕ}
 use Rattle.std.proofs.lemmas.Result.{err_from_is_err_and}
-use Rattle.council_base.specs.declared.report_lines.ReportLines.{ReportLines}
+use Rattle.council_game.specs.declared.report_lines.ReportLines.{ReportLines}
 use Rattle.council_game.specs.Game.{GameView}
 use Rattle.council_game.specs.declared.fault.GameFault.{GameFault}
 use Rattle.council_report.specs.Outcome.{Writes}

@@ -1,4 +1,4 @@
-use Rattle.council_base.proofs.Shared.Digits.{same-places}
+use Rattle.council_game.proofs.Shared.Digits.{same-places}
 use Rattle.council_game.proofs.Shared.Sets.{set-one}
 use Rattle.game_calls.proofs.laws.same_members_are_one_coalition.Goals as goal
 

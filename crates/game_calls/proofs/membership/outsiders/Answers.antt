@@ -1,6 +1,6 @@
 use Rattle.std.proofs.Common.{◌∙◌, length, get_or, ap, arith, pow_pos}
 use Rattle.council_game.specs.Votes.{has}
-use Rattle.council_base.proofs.Shared.Digits.{has-none}
+use Rattle.council_game.proofs.Shared.Digits.{has-none}
 use Rattle.game_calls.proofs.membership.outsiders.Goals as goal
 
 pub loop-member-init : goal.loop-member-init

@@ -1,6 +1,6 @@
 use Rattle.std.proofs.Common.{◌∙◌, List, ℕ, length, get_or, sym, ap, arith, Bor, pow_pos}
 use Rattle.council_game.specs.Votes.{has}
-use Rattle.council_base.proofs.Shared.Digits.{has-none}
+use Rattle.council_game.proofs.Shared.Digits.{has-none}
 use Rattle.game_calls.proofs.names.coalition_of_names.Goals.{in-Some, in_default}
 use Rattle.game_calls.proofs.Others.{named, unnamed}
 use Rattle.game_calls.proofs.names.coalition_of_names.Goals as goal

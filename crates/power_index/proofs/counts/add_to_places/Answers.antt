@@ -1,7 +1,7 @@
 use Rattle.council_game.specs.Votes.{without}
 use Rattle.power_index.proofs.Imports.{nat_tests, cases_eq, common_steps, arith, get_or, lowest-place}
 use Rattle.std.proofs.{Common.get_or-set_same, lemmas.Bool.both_ways, lemmas.Bool.cond-true}
-use Rattle.council_base.proofs.Shared.Digits.{lowest-cleared, has-gone, has-kept, has-none}
+use Rattle.council_game.proofs.Shared.Digits.{lowest-cleared, has-gone, has-kept, has-none}
 use Rattle.power_index.proofs.counts.add_to_places.Goals as goal
 
 pub overflow_sub-place-in-loop-rest : goal.overflow_sub-place-in-loop-rest

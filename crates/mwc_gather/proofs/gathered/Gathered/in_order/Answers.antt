@@ -1,6 +1,6 @@
 use Rattle.mwc_gather.proofs.Imports.{flat_map_more, range_with_len}
 use Rattle.std.proofs.Common.{zero-add, []}
-use Rattle.council_base.proofs.Shared.Ranges.{range-more}
+use Rattle.council_game.proofs.Shared.Ranges.{range-more}
 use Rattle.mwc_gather.proofs.gathered.Gathered.in_order.Goals as goal
 
 pub loop-j-preserved : goal.loop-j-preserved

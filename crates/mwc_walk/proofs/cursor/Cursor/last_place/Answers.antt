@@ -1,5 +1,5 @@
 use Rattle.mwc_walk.proofs.{Imports.arith, Imports.lowest-place}
-use Rattle.council_base.proofs.Shared.Digits.{lowest-cleared}
+use Rattle.council_game.proofs.Shared.Digits.{lowest-cleared}
 use Rattle.mwc_walk.proofs.cursor.Cursor.last_place.Goals as goal
 
 pub overflow_sub-result-2 : goal.overflow_sub-result-2

@@ -1,5 +1,5 @@
 use Rattle.power_index.proofs.Imports.{arith, [], refl, replicate, AreTallies}
-use Rattle.council_base.proofs.Shared.Lists.{get_or-zeros}
+use Rattle.council_game.proofs.Shared.Sums.{get_or-zeros}
 use Rattle.power_index.proofs.Shared.Sound.{kept, none-hold, none-some, tallies-are_counts}
 use Rattle.power_index.proofs.counts.Counts.none.Goals as goal
 

@@ -1,5 +1,5 @@
 use Rattle.std.proofs.Common.{arith}
-use Rattle.council_base.proofs.Shared.Ranges.{sum_by-range-more}
+use Rattle.council_game.proofs.Shared.Ranges.{sum_by-range-more}
 use Rattle.power_index.proofs.swings.Swings.all.Goals as goal
 
 pub loop-member-preserved : goal.loop-member-preserved

@@ -1,2 +1,0 @@
-pub mod Shared
-mod Sets

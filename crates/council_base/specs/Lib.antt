@@ -1,3 +1,0 @@
-pub mod Coalitions
-pub mod Lists
-pub mod Options
