@@ -5,7 +5,7 @@ use Rattle.std.proofs.lemmas.{Bool.Decides.nat_tests, List.Elements.All-filter, 
 use Rattle.std.proofs.lemmas.List.Sums.{length-filter, sum_by-le-sum_by}
 use Rattle.std.proofs.lemmas.Bool.{and_from, and_parts, both_ways, cases_eq, true_from_ne_false}
 use Rattle.council_game.specs.Coalitions.{without}
-use Rattle.council_game.proofs.Shared.{Digits.has-gone, Lists.filter-both}
+use Rattle.council_game.proofs.Shared.{Digits.has-gone, Sums.filter-both}
 use Rattle.council_game.specs.{Game.GameView, Game.IsGame, Game.votes_of, Members.contains, Votes.down, Votes.minimal, Votes.minimal_coalitions, Votes.wins}
 use Rattle.council_game.proofs.Shared.{Listing.down-below, Listing.listed-is, Sets.needs-members, Sets.sum-down, Sets.sum-one, Sets.without-contains}
 use Rattle.power_index.specs.Counting.{count_of_member}

@@ -7,7 +7,7 @@ use Rattle.std.proofs.lemmas.List.Sums.{length-filter, sum-map, sum_by-cons, sum
 use Rattle.std.proofs.lemmas.List.Elements.{recursion_from_All}
 use Rattle.std.proofs.lemmas.Bool.{both_ways, cases_Bool, false_from_ne_true}
 use Rattle.council_game.specs.Coalitions.{has, without}
-use Rattle.council_game.proofs.Shared.{Digits.has-gone, Lists.sum-plus}
+use Rattle.council_game.proofs.Shared.{Digits.has-gone, Sums.sum-plus}
 use Rattle.council_game.specs.Game.{GameView, IsGame, has_low_quota, has_low_quotas, total, votes_of}
 use Rattle.council_game.specs.{Members.contains, Ranks.members_by_rank, Ranks.rule_by_rank, Renaming.exchanged}
 use Rattle.council_game.specs.Votes.{RuleView, down, rule_at, weight, wins}

@@ -10,7 +10,7 @@ use Rattle.std.proofs.lemmas.Bool.{and_from, not_from_false}
 use Rattle.council_game.specs.Votes.{rule_at, Votes, IsVotes, wins, minimal}
 use Rattle.mwc_states.specs.Inner.{Games.counted_coalitions, Games.is_counted, Links.AreSizesOf}
 use Rattle.council_game.specs.Coalitions.{without}
-use Rattle.council_game.proofs.Shared.{Digits.has-kept, Digits.has-gone, Lists.filter-both}
+use Rattle.council_game.proofs.Shared.{Digits.has-kept, Digits.has-gone, Sums.filter-both}
 use Rattle.council_game.proofs.Shared.{Lists.all-at, Lists.all-of, Lists.all-rules, Meanings.needs-each-member, WinningByPlaces.rule-is}
 use Rattle.council_game.specs.Game.{GameView, IsGame, AreNonemptyCoalitions}
 use Rattle.power_index.specs.Tables.{AreSizeCounts}

@@ -5,7 +5,7 @@ use Rattle.std.specs.List.{range_with_len}
 use Rattle.std.proofs.lemmas.{Bool.Decides.nat_tests, Bool.cases_eq, Bool.cases_Bool, Bool.cases_lt, List.Sums.length-filter, List.Sums.sum_by-cons}
 use Rattle.std.proofs.Math.Nat.{div-eq_of_lt}
 use Rattle.council_game.specs.Coalitions.{has, size, with_member, without}
-use Rattle.council_game.proofs.Shared.{Digits.added-below, Digits.digit-added, Digits.out-digit, Digits.has-gone, Digits.has-kept, Lists.sum-plus, Lists.sum-zero}
+use Rattle.council_game.proofs.Shared.{Digits.added-below, Digits.digit-added, Digits.out-digit, Digits.has-gone, Digits.has-kept, Sums.sum-plus, Sums.sum-zero}
 use Rattle.council_game.specs.Votes.{down}
 use Rattle.council_game.proofs.Shared.Sets.{sum-down, sum-moved, sum-range}
 

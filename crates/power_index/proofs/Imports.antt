@@ -1,5 +1,5 @@
 -- The words of other libraries and of the definitions that two or more files of these proofs take.
-pub use Rattle.council_game.proofs.Shared.{Digits.lowest-place, Lists.sum-swap}
+pub use Rattle.council_game.proofs.Shared.{Digits.lowest-place, Sums.sum-swap}
 pub use Rattle.council_game.proofs.Shared.{Games.votes-are, Making.ranks-are}
 pub use Rattle.council_game.specs.{Game.AreNonemptyCoalitions, Game.GameView, Game.IsGame, Votes.size}
 pub use Rattle.power_index.specs.Counting.{contains, count_of_member, members, size_of}

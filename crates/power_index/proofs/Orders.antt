@@ -5,7 +5,7 @@ use Rattle.std.specs.List.{range_with_len}
 use Rattle.std.proofs.lemmas.{Bool.Decides.nat_tests, Bool.cases_eq, Bool.cases_Bool, List.Sums.length-filter, List.Sums.sum_by-cons, List.Sums.get_or-le-sum_by, List.Elements.Contains-get_or}
 use Rattle.std.proofs.lemmas.List.FromFn.{length-range_with_len}
 use Rattle.council_game.specs.Coalitions.{has, size, with_member, without}
-use Rattle.council_game.proofs.Shared.{Digits.same-places, Lists.sum-plus, Lists.sum-zero, Lists.filter-both}
+use Rattle.council_game.proofs.Shared.{Digits.same-places, Sums.sum-plus, Sums.sum-zero, Sums.filter-both}
 use Rattle.council_game.specs.{Game.GameView, Game.IsGame, Game.votes_of, Votes.down, Votes.wins, Votes.minimal_coalitions, Members.members, Members.contains, Members.size_of}
 use Rattle.council_game.proofs.Shared.{Games.few-members, Games.votes-are, Listing.listed-is, Meanings.needs-each-member, Rankings.places-at, Sets.count-both}
 use Rattle.council_game.proofs.Shared.{Sets.mask_of, Sets.mask-below, Sets.mask-has, Sets.sum-one, Sets.sum-none, Sets.sum-range, Subsets.digits-less, Subsets.wins-mono}

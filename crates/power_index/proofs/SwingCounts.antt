@@ -4,7 +4,7 @@ use Rattle.std.proofs.Common.{◌≡◌, ◌∙◌, ℕ, ◌+◌, ◌-◌, ◌*�
 use Rattle.std.proofs.Common.{sym, ap, arith, inl, inr}
 use Rattle.std.proofs.lemmas.{Bool.Decides.nat_tests, Bool.cases_eq, Bool.cases_Bool, List.Sums.length-filter}
 use Rattle.council_game.specs.Coalitions.{has, size, without}
-use Rattle.council_game.proofs.Shared.{Digits.has-kept, Lists.sum-zero}
+use Rattle.council_game.proofs.Shared.{Digits.has-kept, Sums.sum-zero}
 use Rattle.council_game.specs.{Game.GameView, Game.IsGame, Game.votes_of, Votes.down, Votes.wins}
 use Rattle.council_game.proofs.Shared.{Games.votes-are, Making.ranks-are, Sets.count-both, Subsets.digits-less, Subsets.wins-mono}
 use Rattle.power_index.specs.Counting.{contains, count_of_member, count_of_member_size, count_of_size, size_of}
