@@ -81,11 +81,12 @@ impl Explanation<'_> {
         }
         match fault {
             GameFault::QuotaRange => {
-                self.explain_range(format_args!("the quota is {}", number_in(quota)), total);
+                self.explain_range("the quota", number_in(quota), total);
             }
             GameFault::Members => {
                 let count = weights.split(',').count();
-                self.line(format_args!("the text has {count} weights: at most 40 are allowed"));
+                let wanted = "at most 40 are allowed";
+                self.line_of("the text has ", count, " weights: ", wanted);
             }
             _ => self.line("the greatest weight is 1000000000000"),
         }

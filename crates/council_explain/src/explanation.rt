@@ -63,6 +63,11 @@ impl<'a> Explanation<'a> {
         }
     }
 
+    /// Adds a line of words, a value of the file or a number, and further words.
+    pub fn line_of(&mut self, before: &str, what: impl Display + Drop, after: &str, wanted: &str) {
+        self.line(format_args!("{before}{}{after}{wanted}", short(what)));
+    }
+
     /// Returns whether a front of the file has a key already.
     ///
     /// It is one of the member if there is one, or the member itself if there is no key.
@@ -134,10 +139,9 @@ impl<'a> Explanation<'a> {
 
     /// Says what helps against a sign that is not of a game file, after the front of its line.
     fn explain_sign(&mut self, offset: usize, front: &str) {
-        let text = self.text;
-        match text.as_bytes().get(offset) {
+        match self.text.as_bytes().get(offset) {
             Some(b'%' | b'/') => self.line(GUIDE),
-            Some(b'.') if front.trim_start() == "[0" && text.matches('.').count() == 1 => {
+            Some(b'.') if front.trim_start() == "[0" && self.text.matches('.').count() == 1 => {
                 self.line("a share of the total: write how many votes that is");
             }
             Some(b'.') => self.explain_factor('.'),

@@ -5,9 +5,6 @@ use crate::numbers::DIGITS;
 use crate::values::MEMBERS;
 use toml::de::Error;
 
-/// What stands between the columns of a table, as a spreadsheet writes it.
-const COLUMNS: &[(char, &str)] = &[('\t', "TABs"), (';', "semicolons"), (',', "commas")];
-
 /// What separates thousands or decimals somewhere: blanks too, of any width.
 const SEPARATORS: &[char] = &[
     ',', '.', ' ', '\'', '\u{2019}', '\u{A0}', '\u{2009}', '\u{202F}',
@@ -42,13 +39,15 @@ const UNITS: &[char] = &['%', '/', ';', '_'];
 
 /// Returns what separates the columns of a line, if it has several.
 fn columns_of(line: &str) -> Option<&'static str> {
-    let (_, name) = COLUMNS.iter().find(|column| line.contains(column.0))?;
-    Some(name)
-}
-
-/// Returns whether each part between two separators has three digits.
-fn are_thousands(parts: &str) -> bool {
-    parts.split(SEPARATORS).all(|part| part.len() == 3)
+    if line.contains('\t') {
+        Some("TABs")
+    } else if line.contains(';') {
+        Some("semicolons")
+    } else if line.contains(',') {
+        Some("commas")
+    } else {
+        None
+    }
 }
 
 impl Explanation<'_> {
@@ -63,9 +62,9 @@ impl Explanation<'_> {
             if let Some(name) = columns_of(line) {
                 let number = index.saturating_add(1);
                 self.line(format_args!("line {number}: {}", short(line)));
-                self.line(format_args!(
-                    "that looks like a table, with {name} between its columns: council-tools from-table makes a game file of it"
-                ));
+                let columns = " between its columns: ";
+                let wanted = "council-tools from-table makes a game file of it";
+                self.line_of("that looks like a table, with ", name, columns, wanted);
                 return true;
             }
         }
@@ -80,7 +79,7 @@ impl Explanation<'_> {
         if matches!(skip_text(text), Ok("")) {
             self.line("a byte order mark stands before the bracket: save the file without one");
         } else if matches!(skip_rule(inside.trim()), Ok("")) {
-            self.line(format_args!("write it in square brackets: [{}]", short(inside)));
+            self.line_of("write it in square brackets: [", inside, "]", "");
         } else if text.trim_start_matches('[').trim_start().starts_with('{') {
             self.line(
                 "that looks like JSON: write lines such as quota = 51, and for each member [[member]], name = \"A\", weight = 50",
@@ -110,7 +109,7 @@ impl Explanation<'_> {
     /// Says what helps with a number that has separators.
     fn explain_separators(&mut self, number: &str) {
         let (_, rest) = number.split_once(SEPARATORS).unwrap_or((number, ""));
-        let is_thousands = are_thousands(rest);
+        let is_thousands = rest.split(SEPARATORS).all(|part| part.len() == 3);
         if number.contains(',') && !(is_thousands && rest.contains(SEPARATORS)) {
             self.line("a number may have no comma");
             let (_, last) = number.rsplit_once(',').unwrap_or(("", ""));
@@ -138,7 +137,7 @@ impl Explanation<'_> {
             && digits.len() > 1
             && digits.starts_with('0')
         {
-            self.line(format_args!("a number has no leading zero: write {whole}"));
+            self.line_of("a number has no leading zero: write ", whole, "", "");
         } else if after.starts_with(UNITS) {
             // said with the place, or by the message
         } else if digits.is_empty() {

@@ -15,16 +15,16 @@ const SHARE: &[char] = &['%', '/'];
 /// What is said of a percentage and of a fraction.
 pub const GUIDE: &str = "docs/GUIDE.md says how percentages and fractions become whole numbers";
 
-/// Returns what kind of value it is.
+/// Says what kind of value it is.
 pub fn kind(value: &Value) -> &'static str {
     match value {
-        Value::String(_) => "a text",
-        Value::Integer(_) => "a whole number",
-        Value::Float(_) => "a number with a point",
-        Value::Boolean(_) => "true or false",
-        Value::Datetime(_) => "a date or a time",
-        Value::Array(_) => "an array",
-        Value::Table(_) => "a table",
+        Value::String(_) => " is a text: ",
+        Value::Integer(_) => " is a whole number: ",
+        Value::Float(_) => " is a number with a point: ",
+        Value::Boolean(_) => " is true or false: ",
+        Value::Datetime(_) => " is a date or a time: ",
+        Value::Array(_) => " is an array: ",
+        Value::Table(_) => " is a table: ",
     }
 }
 
@@ -63,24 +63,18 @@ fn most_decimals(text: &str, sign: char) -> (usize, usize) {
 }
 
 impl Explanation<'_> {
-    /// Says what a value is, and what is wanted in its place.
-    pub fn explain_value(&mut self, value: &Value, wanted: &str) {
-        self.line(format_args!("{} is {}: {wanted}", short(value), kind(value)));
-    }
-
     /// Says what a value is that is no quota or weight, and what helps.
     pub fn explain_number(&mut self, value: &Value, wanted: &str) {
         if let Value::Integer(weight) = value {
-            return self.line(format_args!(
-                "{weight} is out of range: a weight is from 0 to 1000000000000"
-            ));
+            let range = "a weight is from 0 to 1000000000000";
+            return self.line_of("", weight, " is out of range: ", range);
         }
-        self.explain_value(value, wanted);
+        self.line_of("", value, kind(value), wanted);
         match value {
             Value::Float(number) => {
                 let is_whole = number.fract() == 0.0 && 0.0 <= *number && *number <= 1e12;
                 if is_whole && most_decimals(self.text, '.').0 == 0 {
-                    self.line(format_args!("write {}", number.abs()));
+                    self.line_of("write ", number.abs(), "", "");
                 }
                 self.explain_factor('.');
             }
@@ -98,17 +92,18 @@ impl Explanation<'_> {
         if 0 < decimals
             && let Some(factor) = "1000000000000".get(..=decimals)
         {
-            self.line(format_args!("multiply all weights and the quota by {factor}"));
+            self.line_of("multiply all weights and the quota by ", factor, "", "");
         }
         if digits == 3 {
             self.line("leave out a point or a comma that separates thousands");
         }
     }
 
-    /// Says that a quota is not within its total.
-    pub fn explain_range(&mut self, quota: impl Display + Drop, total: u64) {
+    /// Says that a quota of that name is not within its total.
+    pub fn explain_range(&mut self, name: &str, quota: impl Display + Drop, total: u64) {
         self.line(format_args!(
-            "{quota}, and the weights add up to {total}: a quota is from 1 to that total"
+            "{name} is {}, and the weights add up to {total}: a quota is from 1 to that total",
+            short(quota)
         ));
     }
 }

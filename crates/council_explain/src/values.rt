@@ -3,6 +3,7 @@ use crate::explanation::{Explanation, elements, short, value_of};
 use crate::numbers::kind;
 use council_game::limits;
 use std::num::{nearest_u64_to_f64, saturating_f64_to_u64};
+use std::slice;
 use toml::Value;
 
 /// How each member begins.
@@ -14,10 +15,14 @@ const NAME: &str = "a name is a text in quotes, of 1 to 64 bytes, on one line";
 
 const TITLE: &str = "a title is a text in quotes, of at most 200 bytes, on one line";
 
-/// The keys that a file may have at its top.
+/// The names of the only quota, and of several.
+const QUOTA: &[&str] = &["the quota"];
+
+const QUOTAS: &[&str] = &["quota 1", "quota 2", "quota 3", "quota 4"];
+
+/// The keys that a file may have at its top, and those of a member.
 const TOP_KEYS: &[&str] = &["title", "quota", "quotas", "member"];
 
-/// The keys that a member may have.
 const MEMBER_KEYS: &[&str] = &["name", "weight", "weights"];
 
 /// Returns whether a key is one of these.
@@ -43,10 +48,8 @@ impl Explanation<'_> {
         for key in self.table.keys() {
             if !is_among(key.as_str(), TOP_KEYS) {
                 self.explain_key(None, key.as_str());
-                let key = short(key);
-                return self.line(format_args!(
-                    "at the top there is no key {key}: the keys are title, quota, quotas and member"
-                ));
+                let keys = "the keys are title, quota, quotas and member";
+                return self.line_of("at the top there is no key ", key, ": ", keys);
             }
         }
         for (index, member) in elements(self.table, "member").iter().enumerate() {
@@ -58,8 +61,8 @@ impl Explanation<'_> {
                     continue;
                 }
                 self.explain_key(Some(index.saturating_add(1)), key.as_str());
-                let keys = "name, weight and weights";
-                self.line(format_args!("a member has no key {}: its keys are {keys}", short(key)));
+                let keys = "its keys are name, weight and weights";
+                self.line_of("a member has no key ", key, ": ", keys);
                 if is_among(key.as_str(), TOP_KEYS) {
                     self.line("what belongs to the game stands before the first [[member]]");
                 }
@@ -76,15 +79,15 @@ impl Explanation<'_> {
         };
         self.explain_key(member, key);
         match value_of(self.table, member, key) {
-            None => self.line(format_args!("the member has no {key}: {wanted}")),
+            None => self.line_of("the member has no ", key, ": ", wanted),
             Some(Value::String(text)) if (1..=most).contains(&text.len()) => {
-                let has = "a TAB, the end of a line or another control character";
-                self.line(format_args!("the text has {has}: {wanted}"));
+                let control = "a TAB, the end of a line or another control character";
+                self.line_of("the text has ", control, ": ", wanted);
             }
             Some(Value::String(text)) => {
-                self.line(format_args!("the text has {} bytes: {wanted}", text.len()));
+                self.line_of("the text has ", text.len(), " bytes: ", wanted);
             }
-            Some(value) => self.explain_value(value, wanted),
+            Some(value) => self.line_of("", value, kind(value), wanted),
         }
     }
 
@@ -110,7 +113,7 @@ impl Explanation<'_> {
         let key = if rules == 0 { "weight" } else { "weights" };
         self.explain_key(Some(member), key);
         match value_of(self.table, Some(member), key) {
-            None => self.line(format_args!("the member has no {key}: each member has its own")),
+            None => self.line_of("the member has no ", key, ": ", "each member has its own"),
             Some(value) if rules == 0 => self.explain_number(value, wanted),
             Some(Value::Array(weights)) if weights.len() == rules => {
                 for weight in weights.as_slice() {
@@ -126,17 +129,17 @@ impl Explanation<'_> {
     /// Says that there is no member, or too many, or that they are no tables.
     pub fn explain_members(&mut self) {
         match self.table.get("member") {
-            None => self.line(format_args!("the file has no member: {MEMBERS}")),
+            None => self.line_of("the file has no ", "member", ": ", MEMBERS),
             Some(Value::Array(members)) if (1..=limits::MEMBERS).contains(&members.len()) => {
                 self.line("a member is a table with a name and a weight");
             }
             Some(Value::Array(members)) => {
-                let count = members.len();
-                self.line(format_args!("the file has {count} members: 1 to 40 are allowed"));
+                let wanted = "1 to 40 are allowed";
+                self.line_of("the file has ", members.len(), " members: ", wanted);
             }
             Some(value) => {
                 self.explain_key(None, "member");
-                self.line(format_args!("member is {}: {MEMBERS}", kind(value)));
+                self.line_of("member", kind(value), "", MEMBERS);
             }
         }
     }
@@ -157,7 +160,7 @@ impl Explanation<'_> {
     fn explain_share(&mut self, quota: &Value, rule: usize, wanted: &str) {
         match (quota, self.total_of(rule)) {
             (Value::Float(share), Some(total)) if 0.0 < *share && *share < 1.0 && 0 < total => {
-                self.explain_value(quota, wanted);
+                self.line_of("", quota, kind(quota), wanted);
                 // 0.29 of 100 is 28.999999999999996
                 let votes = *share * nearest_u64_to_f64(total);
                 let slack = votes * 1e-15 + 1e-9;
@@ -193,18 +196,16 @@ impl Explanation<'_> {
 
     /// Says which quota of a file is not within its total.
     pub fn explain_quota_range(&mut self) {
-        if let Some(quota) = self.table.get("quota") {
-            self.explain_key(None, "quota");
-            let total = self.total_of(0).unwrap_or(0);
-            return self.explain_range(format_args!("the quota is {}", short(quota)), total);
-        }
+        self.explain_key(None, "quota");
         self.explain_key(None, "quotas");
-        for (index, quota) in elements(self.table, "quotas").iter().enumerate() {
+        let (names, quotas) = match self.table.get("quota") {
+            Some(quota) => (QUOTA, slice::from_ref(quota)),
+            None => (QUOTAS, elements(self.table, "quotas")),
+        };
+        for (index, quota) in quotas.iter().enumerate() {
             let total = self.total_of(index).unwrap_or(0);
             if !matches!(quota, Value::Integer(n) if 1 <= *n && (*n as u64) <= total) {
-                let number = index.saturating_add(1);
-                let quota = short(quota);
-                return self.explain_range(format_args!("quota {number} is {quota}"), total);
+                return self.explain_range(names.get(index).unwrap_or(&"a quota"), quota, total);
             }
         }
     }
