@@ -35,6 +35,7 @@ fn advice(cause: Cause, is_explained: bool) -> Option<&'static str> {
             Some("--tally counts any number of them, and --most takes up to 4000000")
         }
         (Cause::States, false) => Some("--tally may still count the minimal winning coalitions"),
+        // (the number is `council_run::MOST_STATES`)
         (Cause::States, true) => Some(
             "they take more than 4194304 states; --tally may still count the minimal winning coalitions",
         ),

@@ -159,6 +159,34 @@ if it has few states",
     ),
 ];
 
+/// Makes an option that takes a number.
+fn number_option<'a>(
+    argument: Arg<'a>,
+    name: &'a str,
+    value: &'a str,
+    default: &'a str,
+    least: u32,
+    greatest: u32,
+) -> Arg<'a> {
+    argument
+        .long(name)
+        .value_name(value)
+        .default_value(default)
+        .value_parser(ValueParser::Signed(i64::from(least), i64::from(greatest)))
+}
+
+/// Makes an option that takes nothing.
+fn flag<'a>(
+    argument: Arg<'a>,
+    name: &'a str,
+    others: &'a [&'a str],
+) -> Result<Arg<'a>, AllocError> {
+    argument
+        .long(name)
+        .action(ArgAction::SetTrue)
+        .conflicts_with_all(others)
+}
+
 /// Makes an argument of the command.
 fn make_argument<'a>(
     alloc: Global,
@@ -169,17 +197,10 @@ fn make_argument<'a>(
     let argument = Arg::new(alloc, name).help(help);
     match takes {
         Takes::File => Ok(argument),
-        Takes::Number(value, default, least, greatest) => Ok(
-            argument
-                .long(name)
-                .value_name(value)
-                .default_value(default)
-                .value_parser(ValueParser::Signed(i64::from(least), i64::from(greatest))),
-        ),
-        Takes::Nothing(others) => argument
-            .long(name)
-            .action(ArgAction::SetTrue)
-            .conflicts_with_all(others),
+        Takes::Number(value, default, least, greatest) => {
+            Ok(number_option(argument, name, value, default, least, greatest))
+        }
+        Takes::Nothing(others) => flag(argument, name, others),
     }
 }
 

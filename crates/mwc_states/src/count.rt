@@ -7,12 +7,13 @@ ghost use Rattle.power_index.specs.Tables.{AreCountsOfGame};
 ghost use Rattle.power_index.specs.Swings.{AreWinningCounts};
 
 use crate::graph::build;
-use crate::row::{Row, ZERO};
+use crate::row::Row;
 use crate::set_counts::{SetCounts, count};
 use crate::state::What;
 use council_game::{Game, Gate, Memory};
 use power_index::{Counts, Swings};
 use std::alloc::Global;
+use std::array;
 
 /// Returns the weights of the member of a rank place.
 fn weights_at(game: &Game, place: usize) -> Row
@@ -20,23 +21,20 @@ fn weights_at(game: &Game, place: usize) -> Row
     ensures { (r : ℕ) → slice_index result r
         ≡ slice_index (rule_at (votes_of game.now).rules r).weights place }
 {
-    let member = game.member_at(place);
-    let mut weights = ZERO;
-    for r in 0..game.rules() {
-        weights[r] = game.rule_weight(r, member);
-    }
-    weights
+    let (member, rules) = (game.member_at(place), game.rules());
+    array::from_fn(|r| if r < rules {
+        game.rule_weight(r, member)
+    } else {
+        0
+    })
 }
 
 /// Returns the quotas of a game.
 fn quotas(game: &Game) -> Row
     ensures { (r : ℕ) → slice_index result r ≡ (rule_at (votes_of game.now).rules r).quota }
 {
-    let mut quotas = ZERO;
-    for r in 0..game.rules() {
-        quotas[r] = game.rule_quota(r);
-    }
-    quotas
+    let rules = game.rules();
+    array::from_fn(|r| if r < rules { game.rule_quota(r) } else { 0 })
 }
 
 /// Lists the weights of the members by rank place.
@@ -61,7 +59,7 @@ fn count_sets<G: Gate>(
     gate: &G,
 ) -> Result<Option<SetCounts>, Memory>
     ensures { IfOk result (λ o. IfSome o (λ counts.
-        AreCountsOf game.now (counted_coalitions what (votes_of game.now)) counts.0 counts.1)) }
+        AreCountsOf game.now (counted_coalitions what (votes_of game.now)) counts)) }
 {
     game.was_checked();
     let members = members(alloc, game)?;
@@ -103,7 +101,7 @@ pub fn count_by_states<G: Gate>(
     let Some(counts) = count_sets(alloc, game, What::Minimal, room, gate)? else {
         return Ok(None);
     };
-    Ok(Some(Box::new(alloc, Counts::of_sizes(game, counts.0, counts.1))?))
+    Ok(Some(Box::new(alloc, Counts::of_sizes(game, counts.all, counts.each))?))
 }
 
 /// Counts the swings of a game's members by states.
@@ -125,6 +123,6 @@ pub fn count_swings<G: Gate>(
     let Some(counts) = count_sets(alloc, game, What::Winning, room, gate)? else {
         return Ok(None);
     };
-    let winning = Box::new(alloc, Counts::of_sizes(game, counts.0, counts.1))?;
+    let winning = Box::new(alloc, Counts::of_sizes(game, counts.all, counts.each))?;
     Ok(Some(Swings::of(game, winning)))
 }

@@ -6,6 +6,7 @@ ghost use Rattle.mwc_states.specs.Inner.Later.{IsTotal};
 ghost use Rattle.mwc_states.specs.Inner.States.{misses_all};
 
 use council_game::{Memory, limits};
+use std::array;
 
 /// A number under each rule; 0 under the rules that a game does not have.
 pub(crate) type Row = [u64; limits::RULES];
@@ -18,11 +19,7 @@ pub(crate) const ZERO: Row = [0; limits::RULES];
 pub(crate) fn add(a: &Row, b: &Row) -> Row
     ensures { (r : ℕ) → slice_index result r ≡ min (slice_index a.now r + slice_index b.now r) MOST }
 {
-    let mut sum = *a;
-    for r in 0..limits::RULES {
-        sum[r] = sum[r].saturating_add(b[r]);
-    }
-    sum
+    array::from_fn(|r| a[r].saturating_add(b[r]))
 }
 
 /// Returns the sum of some rows, up to the greatest number of 64 bits.
@@ -44,13 +41,10 @@ pub(crate) fn reduce(row: &Row, member: &Row, taken: bool) -> Row
     ensures { (r : ℕ) → slice_index result r
         ≡ slice_index row.now r - (if taken then slice_index member.now r else 0) }
 {
-    let mut left = *row;
-    if taken {
-        for r in 0..limits::RULES {
-            left[r] = left[r].saturating_sub(member[r]);
-        }
+    if !taken {
+        return *row;
     }
-    left
+    array::from_fn(|r| row[r].saturating_sub(member[r]))
 }
 
 /// Returns the greater of two numbers under each rule.
@@ -58,11 +52,7 @@ pub(crate) fn reduce(row: &Row, member: &Row, taken: bool) -> Row
 pub(crate) fn max(a: &Row, b: &Row) -> Row
     ensures { (r : ℕ) → slice_index result r ≡ max (slice_index a.now r) (slice_index b.now r) }
 {
-    let mut max = *a;
-    for r in 0..limits::RULES {
-        max[r] = max[r].max(b[r]);
-    }
-    max
+    array::from_fn(|r| a[r].max(b[r]))
 }
 
 /// Returns the lesser of two numbers under each rule.
@@ -70,11 +60,7 @@ pub(crate) fn max(a: &Row, b: &Row) -> Row
 pub(crate) fn min(a: &Row, b: &Row) -> Row
     ensures { (r : ℕ) → slice_index result r ≡ min (slice_index a.now r) (slice_index b.now r) }
 {
-    let mut min = *a;
-    for r in 0..limits::RULES {
-        min[r] = min[r].min(b[r]);
-    }
-    min
+    array::from_fn(|r| a[r].min(b[r]))
 }
 
 /// Returns whether weights are at least as great as a row under each rule.
@@ -83,12 +69,7 @@ pub(crate) fn min(a: &Row, b: &Row) -> Row
 pub(crate) fn meets(weights: &Row, row: &Row) -> bool
     ensures { result ≡ meets (slice_index weights.now) row.now }
 {
-    for r in 0..limits::RULES {
-        if weights[r] < row[r] {
-            return false;
-        }
-    }
-    true
+    (0..limits::RULES).all(|r| weights[r] >= row[r])
 }
 
 /// Lets proofs know that the numbers of a row have 64 bits.
@@ -103,12 +84,7 @@ pub(crate) fn is_row(row: &Row)
 pub(crate) fn is_implied(rows: &[Row], miss: &Row) -> bool
     ensures { result ≡ list_any (λ row. meets (slice_index miss.now) row) rows.now }
 {
-    for row in rows {
-        if meets(miss, row) {
-            return true;
-        }
-    }
-    false
+    rows.iter().any(|row| meets(miss, row))
 }
 
 /// Adds a row to the misses of a state, which are in order, and drops those that it implies.

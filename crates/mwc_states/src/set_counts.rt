@@ -12,7 +12,11 @@ use power_index::SizeCounts;
 use std::alloc::Global;
 
 /// Accepted sets by size: of all, and of those that have each member.
-pub(crate) type SetCounts = (SizeCounts, [SizeCounts; limits::MEMBERS]);
+#[derive(Clone, Copy)]
+pub(crate) struct SetCounts {
+    pub(crate) all: SizeCounts,
+    pub(crate) each: [SizeCounts; limits::MEMBERS],
+}
 
 /// Returns the count of a row, or 0 if it is not there.
 #[inline]
@@ -192,9 +196,9 @@ fn count_from(
 #[tactic(auto, using(crate::proofs::Worth::completing))]
 pub(crate) fn count(alloc: Global, levels: &[Links]) -> Result<SetCounts, Memory>
     requires { IsGraph (lists levels.now) }
-    ensures all { IfOk result (λ counts. AreSizesOf (lists levels.now) (λ set. true) counts.0) }
+    ensures all { IfOk result (λ counts. AreSizesOf (lists levels.now) (λ set. true) counts.all) }
     ensures each { IfOk result (λ counts. (i : ℕ) → i < length levels.now
-        → AreSizesOf (lists levels.now) (has i) (slice_index_or counts.1 i [])) }
+        → AreSizesOf (lists levels.now) (has i) (slice_index_or counts.each i [])) }
 {
     let root = [Choices {
         size: 0,
@@ -206,5 +210,8 @@ pub(crate) fn count(alloc: Global, levels: &[Links]) -> Result<SetCounts, Memory
     completing.push(vec![in alloc; 0, 1]?)?;
     let mut each = [[0; limits::SIZES]; limits::MEMBERS];
     count_from(alloc, levels, 0, &root, &mut completing, &mut each)?;
-    Ok((sizes_of_root(&completing), each))
+    Ok(SetCounts {
+        all: sizes_of_root(&completing),
+        each,
+    })
 }

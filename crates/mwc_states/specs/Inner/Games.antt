@@ -4,6 +4,7 @@ use Rattle.std.specs.List.{filter}
 use Rattle.council_game.specs.declared.limits.TheConstants.{MEMBERS}
 use Rattle.council_game.specs.Votes.{RuleView, Votes, down, has, minimal, rule_at, wins}
 use Rattle.council_game.specs.Game.{AreNonemptyCoalitions, GameView}
+use Rattle.mwc_states.specs.declared.set_counts.SetCounts.{SetCounts}
 use Rattle.power_index.specs.Tables.{AreSizeCounts}
 use Rattle.mwc_states.specs.declared.state.What.{What}
 use Rattle.mwc_states.specs.declared.state.What.TheVariants.{Minimal, Winning}
@@ -23,8 +24,8 @@ pub record AreRowsOf (rules : List RuleView) (rows : List (List ℕ)) (i : ℕ) 
   pub weights : (p r : ℕ) → p < i → slice_index (slice_index_or rows p []) r ≡ slice_index (rule_at rules r).weights p
 
 -- counts of a list of coalitions of a game, none of them empty: of all, and by rank place
-pub record AreCountsOf (g : GameView) (list all : List ℕ) (each : List (List ℕ)) : Type 0 where
+pub record AreCountsOf (g : GameView) (list : List ℕ) (counts : SetCounts) : Type 0 where
   pub few : length list ≤ 2 ^ MEMBERS
   pub coalitions : AreNonemptyCoalitions g list
-  pub of_all : AreSizeCounts (length g.names) (λ _. true) list all
-  pub of_each : (p : ℕ) → p < length g.names → AreSizeCounts (length g.names) (has (length g.names) p) list (slice_index_or each p [])
+  pub all : AreSizeCounts (length g.names) (λ _. true) list counts.all
+  pub each : (p : ℕ) → p < length g.names → AreSizeCounts (length g.names) (has (length g.names) p) list (slice_index_or counts.each p [])

@@ -20,9 +20,9 @@ returns g c =
     record {
       few = counted-few c.args.what c.args.game.now c.was_checked.ensures.game;
       coalitions = counted-nonempty c.args.what c.args.game.now c.was_checked.ensures.game;
-      of_all = sizes-are v members need votes rows c.quotas-need.ensures c.args.what levels (λ _. true) (λ _. true) c.in_ok-count.field-0.0 long same (λ _. refl)
+      all = sizes-are v members need votes rows c.quotas-need.ensures c.args.what levels (λ _. true) (λ _. true) c.in_ok-count.field-0.all long same (λ _. refl)
           (rw c.deref-2.ensures.value at c.in_ok-count.ensures.all);
-      of_each = λ p lt. sizes-are v members need votes rows c.quotas-need.ensures c.args.what levels (set_has p) (has v.members p) (get_or c.in_ok-count.field-0.1 p []) long
+      each = λ p lt. sizes-are v members need votes rows c.quotas-need.ensures c.args.what levels (set_has p) (has v.members p) (get_or c.in_ok-count.field-0.each p []) long
           same (λ m. set-at v.members m p lt)
           (rw c.deref-2.ensures.value at (c.in_ok-count.ensures.each p (omega (arith, lt, few, ap length c.deref-2.ensures.value))));
     }
