@@ -58,9 +58,10 @@ FILLS = 100
 MORE_LANES = 1
 # how long each proof took when it was last made from nothing
 MEASURED = f"{OUT}/seconds"
-# where that is not known: a second for this many lines of code (not of proofs and definitions), as
-# most crates take
-LINES_A_SECOND = 10
+# where that is not known: a second for this many lines of code (not of comments, contracts and
+# imports), as most crates take
+LINES_A_SECOND = 6
+NO_CODE = (b"//", b"use ", b"ghost ", b"requires ", b"ensures ")
 # how long the statements below a library are read, and how long the program is compiled and linked,
 # in seconds
 READ, COMPILED = 15, 60
@@ -117,7 +118,7 @@ def keep_measured(seconds):
     os.replace(f"{MEASURED}.new", MEASURED)
 
 
-def costs(names):
+def costs(names, lines):
     """How long the proof of each crate takes, in seconds: as measured, or guessed by its lines of code. The order of the
     proofs rests on it, and what is said of the time that is left."""
     guessed = {}
@@ -126,8 +127,15 @@ def costs(names):
         guessed[name] = COMPILED if name == PROGRAM else READ
         for file in files:
             with open(file, "rb") as it:
-                guessed[name] += it.read().count(b"\n") / LINES_A_SECOND
+                guessed[name] += sum(bool(line := text.strip()) and not line.startswith(NO_CODE) for text in it) / LINES_A_SECOND
+    # (the last library has several processors)
+    guessed[last_of(names[:-1], lines)] /= 2
     return {**guessed, **{name: took for name, took in measured().items() if name in guessed}}
+
+
+def last_of(names, lines):
+    """The library that stands on the most others."""
+    return max(names, key=lambda it: len(below(it, lines)))
 
 
 def chains(names, lines, cost):
@@ -397,7 +405,7 @@ def plan(names, lines, cost):
     """The libraries in the order in which they begin, with how far each gives way: what fills the time at the end comes
     last, and among the others the one with the longest chain above it first."""
     behind, nice = chains(names, lines, cost), {}
-    last = max(names, key=lambda it: len(below(it, lines)))
+    last = last_of(names, lines)
     for name in names:
         above = any(name in below(it, lines) for it in names)
         nice[name] = NICE if above or cost[name] > FILLS or name == last else NICE_LAST
@@ -517,7 +525,7 @@ def build(names, goal, lines, keeps, held, sources):
     """Proves the libraries, and builds the program or the library for other languages; the status. These crates are held
     until then."""
     proved = [it for it in names if (stamp := stamp_of(it)) and text_of(f"{TOP}/crates/{it}/out/rlib/stamp") == stamp]
-    told = Told(names, goal, lines, {**costs([*names, goal]), **dict.fromkeys(proved, 0)})
+    told = Told(names, goal, lines, {**costs([*names, goal], lines), **dict.fromkeys(proved, 0)})
     if not prove_all(names, lines, prove_and_keep if keeps else prove_once, told):
         return 1
     told.begin(goal)
