@@ -101,6 +101,38 @@ printed() {
     fi
 }
 
+# shows_commands PAGE [RUNS]: each line `$ COMMAND` of a page prints the lines up to the next such
+# line or the end of the block. `council` is in $temp/bin. A line without the `$` that begins with
+# one of our commands is given to the function RUNS, if one is named. It keeps how many commands
+# there were in $number.
+shows_commands() {
+    local page=$1 runs=${2:-} line command=
+    number=0
+    while IFS= read -r line || [ -n "$line" ]; do
+        case $line in
+        "\$ "* | '```'*)
+            if [ -n "$command" ]; then
+                number=$((number + 1))
+                PATH=$temp/bin:$PATH timeout "$seconds" bash -c "${command//.\/council/council}" >"$temp/out" 2>"$temp/err" </dev/null
+                status=$?
+                printed "$page, command $number" "$temp/wanted"
+            fi
+            command=
+            [ "$line" = "${line#\$ }" ] || command=${line#\$ }
+            : >"$temp/wanted"
+            ;;
+        *)
+            if [ -n "$command" ]; then
+                printf '%s\n' "$line" >>"$temp/wanted"
+            elif [ -n "$runs" ] && [[ $line =~ ^(\./council|council-tools)\  ]]; then
+                number=$((number + 1))
+                "$runs" "$page, command $number" "$line"
+            fi
+            ;;
+        esac
+    done <"$page"
+}
+
 # Whether the last run ended with the status $2, printed nothing, and wrote to standard error the
 # one line `council: $3`.
 refused() {

@@ -7,8 +7,7 @@
 
 refused/CRATE has edits of the crate CRATE, in the form of its must-fail edits. They are put into a
 copy of these crates and those below, for which `rt ci` proves only what it has not proved on this
-machine. Each line
-says `ok`, or `FAILED` or `skipped` and why.
+machine. Each line says `ok`, or `FAILED` or `skipped` and why.
 """
 import glob
 import hashlib
@@ -81,6 +80,9 @@ def main():
     names = sorted(os.path.relpath(it, EDITS)[: -len(".edit")] for it in glob.glob(f"{EDITS}/*/*.edit"))
     words = sys.argv[1:]
     bad = 0
+    if words == ["--help"]:
+        print(__doc__.strip())
+        return 0
     if words == ["--fit"]:
         for name in names:
             why = find_misfit(name)

@@ -5,31 +5,10 @@
 cd "$top" || exit 1
 page=docs/TOUR.md
 
-# Each line `$ COMMAND` prints the lines up to the next such line or the end of the block. Commands
-# that need a proof have no `$`, and are not run.
+# Commands that need a proof have no `$`, and are not run.
 mkdir "$temp/bin"
 ln -s "$program" "$temp/bin/council"
-command=
-number=0
-shows() {
-    [ -n "$command" ] || return 0
-    number=$((number + 1))
-    PATH=$temp/bin:$PATH timeout "$seconds" bash -c "${command//.\/council/council}" >"$temp/out" 2>"$temp/err" </dev/null
-    status=$?
-    printed "$page, command $number" "$temp/wanted"
-    command=
-}
-while IFS= read -r line; do
-    case $line in
-    "\$ "*)
-        shows
-        command=${line#\$ }
-        : >"$temp/wanted"
-        ;;
-    '```'*) shows ;;
-    *) [ -z "$command" ] || printf '%s\n' "$line" >>"$temp/wanted" ;;
-    esac
-done <$page
+shows_commands $page
 if [ "$number" -ge 8 ]; then ok "$page has commands"; else failed "$page has commands" "$number"; fi
 
 # A row names a call, its file and a clause: the clause is in the contract of that function.

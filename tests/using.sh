@@ -24,25 +24,12 @@ if needs python3 tests/using; then
     done
 fi
 
-# Each command of the documents prints what the document shows after it: a line `$ ./council ..` and
-# the lines up to the next such line or the end of the block. Commands without the `$` succeed, in a
-# folder that has only the program, council-tools, and examples.
-command=
-: >"$temp/wanted"
-shows() {
-    [ -n "$command" ] || return 0
-    number=$((number + 1))
-    PATH=$temp/bin:$PATH bash -c "${command//.\/council/council}" >"$temp/out" 2>"$temp/err" </dev/null
-    status=$?
-    printed "$document, command $number" "$temp/wanted"
-    command=
-}
+# Each command of the documents with a `$` prints what the document shows after it. Those of the
+# guide without it succeed, in a folder that has only the program, council-tools, and examples.
 runs() {
-    number=$((number + 1))
-    local name="$document, command $number"
-    (cd "$temp/folder" && PATH=$temp/bin:$PATH bash -c "$1") >"$temp/out" 2>"$temp/err" </dev/null
+    (cd "$temp/folder" && PATH=$temp/bin:$PATH timeout "$seconds" bash -c "$2") >"$temp/out" 2>"$temp/err" </dev/null
     status=$?
-    if succeeded "$name"; then ok "$name"; fi
+    if succeeded "$1"; then ok "$1"; fi
 }
 mkdir -p "$temp/bin" "$temp/folder"
 ln -s "$tools" "$temp/bin/council-tools"
@@ -50,24 +37,6 @@ ln -s "$program" "$temp/bin/council"
 ln -s "$program" "$temp/folder/council"
 cp -r examples "$temp/folder/examples"
 for document in README.md docs/GUIDE.md; do
-    number=0
-    while IFS= read -r line; do
-        case $line in
-        "\$ "*)
-            shows
-            command=${line#\$ }
-            : >"$temp/wanted"
-            ;;
-        '```'*) shows ;;
-        './council '* | 'council-tools '*)
-            if [ -n "$command" ]; then
-                printf '%s\n' "$line" >>"$temp/wanted"
-            elif [ "$document" != README.md ]; then
-                runs "$line"
-            fi
-            ;;
-        *) [ -z "$command" ] || printf '%s\n' "$line" >>"$temp/wanted" ;;
-        esac
-    done <$document
+    case $document in README.md) shows_commands $document ;; *) shows_commands $document runs ;; esac
     if [ "$number" -ge 2 ]; then ok "$document has commands"; else failed "$document has commands" "$number"; fi
 done

@@ -532,7 +532,7 @@ class Engines(unittest.TestCase):
                     yield top
 
     def test_where_the_program_is(self):
-        script, built, never = ["clone/council", "clone/tools/built.sh"], "clone/crates/council/out/council", "the program of TOP/clone was never built: run TOP/clone/council once, which takes 7 to 20 minutes"
+        script, built, never = ["clone/council", "clone/tools/built.sh"], "clone/crates/council/out/council", "the program of TOP/clone was never built: run TOP/clone/council once, which takes 6 to 15 minutes"
         none = "the program council was not found on the PATH"
         for files, named, more, wanted in [
             (["bin/council"], None, {}, "TOP/bin/council"), (["bin/council"], "council", {}, "TOP/bin/council"), ([], None, {}, none), ([], "it", {}, "it: no program of that name was found"),

@@ -63,7 +63,7 @@ class Package(Tests):
         for tools, path in (f"{clone}/tools/council-tools", "/usr/bin:/bin"), (f"{TEMP}/zipapp", f"{TEMP}/launcher:/usr/bin:/bin"):
             more = {"env": {**CLEAN, "PATH": path}}
             ran = run(sys.executable, tools, "sweep", f"{TOP}/examples/board.toml", **more)
-            self.assertEqual((ran.returncode, ran.stdout, ran.stderr), (1, "", f"council-tools sweep: the program of {real} was never built: run {real}/council once, which takes 7 to 20 minutes\n"))
+            self.assertEqual((ran.returncode, ran.stdout, ran.stderr), (1, "", f"council-tools sweep: the program of {real} was never built: run {real}/council once, which takes 6 to 15 minutes\n"))
             self.assertIn("this page cannot tell", run(sys.executable, tools, "page", f"{TOP}/examples/board.tsv", **more).stdout)
             self.assertEqual(run(sys.executable, tools, "sweep", f"{TOP}/examples/board.toml", "--program", PROGRAM, **more).returncode, 0)
         self.assertFalse(os.path.exists(f"{clone}/crates"))

@@ -58,7 +58,7 @@ def find_program(named: Optional[str] = None) -> str:
     if built:
         return built
     if clone:
-        raise NotFound(f"the program of {clone} was never built: run {clone}/council once, which takes 7 to 20 minutes")
+        raise NotFound(f"the program of {clone} was never built: run {clone}/council once, which takes 6 to 15 minutes")
     raise NotFound(f"{named}: no program of that name was found" if named else "the program council was not found on the PATH")
 
 

@@ -76,7 +76,7 @@ find_program <- function(program = NULL) {
   if (identical(readBin(path, "raw", 2L), charToRaw("#!")) && file.exists(file.path(top, "tools", "built.sh"))) {
     path <- file.path(top, "crates", "council", "out", "council")
     if (!file.exists(path)) {
-      stop("the program of ", top, " was never built: run ", top, "/council once, which takes 7 to 20 minutes")
+      stop("the program of ", top, " was never built: run ", top, "/council once, which takes 6 to 15 minutes")
     }
   }
   path

@@ -202,7 +202,7 @@ stopifnot(
   file.copy(real, file.path(here, "clone", "copy")), council(1, 1, program = file.path(here, "clone", "copy"))$weight == 1,
   file.symlink(launcher, file.path(here, "link")),
   said(council(1, 1, program = file.path(here, "link"))) ==
-    paste0("the program of ", here, "/clone was never built: run ", here, "/clone/council once, which takes 7 to 20 minutes"),
+    paste0("the program of ", here, "/clone was never built: run ", here, "/clone/council once, which takes 6 to 15 minutes"),
   dir.create(dirname(built), recursive = TRUE), file.symlink(real, built), council(1, 1, program = file.path(here, "link"))$weight == 1
 )
 
