@@ -21,6 +21,7 @@ import random
 import subprocess
 import sys
 import tempfile
+from collections import Counter
 
 sys.path.insert(0, os.path.dirname(os.path.abspath(__file__)))
 import oracle  # noqa: E402
@@ -185,76 +186,89 @@ def threads(rng):
     return ["--workers", str(rng.randrange(1, 17)), "--bits", str(rng.randrange(11))]
 
 
+class Comparison:
+    """What PROGRAM prints of games, compared with what it must print, by the kind of the game."""
+
+    def __init__(self, program, rng, room):
+        self.program, self.rng, self.file = program, rng, f"{room}/game"
+        self.done, self.faults = Counter(), {}
+
+    def compare(self, kind, name, got, wanted):
+        self.done[kind] += 1
+        if got != wanted:
+            self.faults.setdefault(kind, []).append(name)
+
+    def write(self, game):
+        with open(self.file, "wb") as it:
+            it.write(file_of(game))
+
+    def print(self, *words):
+        """What PROGRAM prints of the game that was written, with any workers and bits."""
+        return printed(self.program, self.file, [*words, *threads(self.rng)])
+
+    def reports(self, name, is_small, is_statute):
+        """One game, by every subset if it is small, and its reports."""
+        rng, make = self.rng, random_statute if is_statute else random_game
+        game = make(rng, 12 if is_small else 18 if is_statute else 20)
+        self.write(game)
+        found = oracle.minimal_coalitions(game)
+        flags = ["--list", "--sizes", "--notation"]
+        if is_small:
+            self.compare("oracle.py, by every subset", name, (found, oracle.swings_of(game)), by_every_subset(game))
+            only = ["--only-swings", "--notation"][: rng.randint(1, 2)]
+            self.compare("--only-swings", name, self.print(*only), report(game, only))
+            flags.append("--swings")
+        flags = [it for it in flags if rng.randrange(2)]
+        if not is_statute:
+            self.compare("reports", name, self.print(*flags), report(game, flags))
+        flags = [it for it in flags if it != "--list"]
+        kind = "--tally of statutes" if is_statute else "--tally"
+        self.compare(kind, name, self.print("--tally", *flags), report(game, flags))
+
+    def tally_and_run(self, kind, name, game):
+        self.write(game)
+        self.compare(f"--tally of {kind}, and a run", name, self.print("--tally", "--sizes"), self.print("--most", "4000000", "--sizes"))
+
+    def orders(self, name, make):
+        """Each order of the rules of one game."""
+        game = make(self.rng, 16)
+        for order in itertools.permutations(game.rules):
+            other = oracle.Game(game.title, game.names, list(order))
+            self.write(other)
+            self.compare("every order of the rules", name, self.print("--list"), report(other, ["--list"]))
+
+    def long_list(self, rules):
+        weights = [[self.rng.randrange(1, 30) for _ in range(16)] for _ in range(rules)]
+        game = oracle.Game(None, [f"a long name, number {i}" for i in range(16)], [(sum(of) // 2 + 1, of) for of in weights])
+        self.write(game)
+        wanted = report(game, ["--list"])
+        assert len(wanted) > 3 * 65536
+        self.compare("reports of more than 64 KiB", f"{rules} rules", self.print("--list"), wanted)
+
+
 def main(words):
     if len(words) != 3:
         sys.exit("usage: random_games.py PROGRAM COUNT SEED")
-    program, count, rng = os.path.abspath(words[0]), int(words[1]), random.Random(int(words[2]))
-    faults = {"oracle.py, by every subset": [], "reports": [], "--only-swings": [], "reports of more than 64 KiB": [], "--tally": [], "--tally of statutes": [], "--tally of weights with little in common, and a run": [],
-              "--tally of members of few kinds, and a run": [], "every order of the rules": []}
-    done = dict.fromkeys(faults, 0)
-
-    def compare(kind, name, got, wanted):
-        done[kind] += 1
-        if got != wanted:
-            faults[kind].append(name)
-
+    count, rng = int(words[1]), random.Random(int(words[2]))
     with tempfile.TemporaryDirectory() as room:
+        all_of = Comparison(os.path.abspath(words[0]), rng, room)
         for number in range(4 * count):
-            is_statute = number % 2 == 1
-            game = (random_statute if is_statute else random_game)(rng, 12 if number < 2 * count else 18 if is_statute else 20)
-            name = f"game {number} of seed {words[2]}"
-            file = f"{room}/{number}"
-            with open(file, "wb") as it:
-                it.write(file_of(game))
-            found = oracle.minimal_coalitions(game)
-            if number < 2 * count:
-                compare("oracle.py, by every subset", name, (found, oracle.swings_of(game)), by_every_subset(game))
-                flags = ["--only-swings", "--notation"][: rng.randint(1, 2)]
-                compare("--only-swings", name, printed(program, file, flags + threads(rng)), report(game, flags))
-            flags = [flag for flag in ("--list", "--sizes", "--notation", "--swings") if rng.randrange(2) and (flag != "--swings" or number < 2 * count)]
-            wanted = report(game, flags)
-            if not is_statute:
-                compare("reports", name, printed(program, file, flags + threads(rng)), wanted)
-                if len(wanted) > 65536:
-                    done["reports of more than 64 KiB"] += 1
-            flags = [flag for flag in flags if flag != "--list"]
-            kind = "--tally of statutes" if is_statute else "--tally"
-            compare(kind, name, printed(program, file, ["--tally", *flags, *threads(rng)]), report(game, flags))
+            all_of.reports(f"game {number} of seed {words[2]}", number < 2 * count, number % 2 == 1)
         for number in range(count):
-            file = f"{room}/rows"
-            with open(file, "wb") as it:
-                it.write(file_of(random_rows(rng)))
-            found, wanted = (printed(program, file, [*words, "--sizes", *threads(rng)]) for words in (["--tally"], ["--most", "4000000"]))
-            compare("--tally of weights with little in common, and a run", f"game {number}", found, wanted)
+            all_of.tally_and_run("weights with little in common", f"game {number}", random_rows(rng))
         for number in range(max(count, 300)):
-            file = f"{room}/kinds"
-            with open(file, "wb") as it:
-                it.write(file_of(few_kinds(rng)))
-            found, wanted = (printed(program, file, [*words, "--sizes", *threads(rng)]) for words in (["--tally"], ["--most", "4000000"]))
-            compare("--tally of members of few kinds, and a run", f"game {number}", found, wanted)
+            all_of.tally_and_run("members of few kinds", f"game {number}", few_kinds(rng))
         for number in range(count // 2):
-            game = random_statute(rng, 16) if number % 2 else random_game(rng, 16)
-            for order in itertools.permutations(game.rules):
-                other = oracle.Game(game.title, game.names, list(order))
-                file = f"{room}/order"
-                with open(file, "wb") as it:
-                    it.write(file_of(other))
-                compare("every order of the rules", f"game {number}", printed(program, file, ["--list", *threads(rng)]), report(other, ["--list"]))
+            all_of.orders(f"game {number}", random_statute if number % 2 else random_game)
         for rules in 1, 2, 4:
-            weights = [[rng.randrange(1, 30) for _ in range(16)] for _ in range(rules)]
-            game = oracle.Game(None, [f"a long name, number {i}" for i in range(16)], [(sum(of) // 2 + 1, of) for of in weights])
-            file = f"{room}/long-{rules}"
-            with open(file, "wb") as it:
-                it.write(file_of(game))
-            wanted = report(game, ["--list"])
-            assert len(wanted) > 3 * 65536
-            compare("reports of more than 64 KiB", f"{rules} rules", printed(program, file, ["--list", *threads(rng)]), wanted)
-    for kind, names in faults.items():
+            all_of.long_list(rules)
+    for kind, done in all_of.done.items():
+        names = all_of.faults.get(kind)
         if names:
-            print(f"FAILED random games, {kind}: {len(names)} of {done[kind]} differ, the first is {names[0]}")
+            print(f"FAILED random games, {kind}: {len(names)} of {done} differ, the first is {names[0]}")
         else:
-            print(f"ok random games, {kind}: {done[kind]}")
-    return 1 if any(faults.values()) else 0
+            print(f"ok random games, {kind}: {done}")
+    return 1 if all_of.faults else 0
 
 
 if __name__ == "__main__":
