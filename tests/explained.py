@@ -99,11 +99,9 @@ def member(file, pairs, wrong, escaped, after):
     return line
 
 
-def make(chance):
-    """Returns a file with a fault, and the line of the fault."""
-    file, count = File(chance), chance.randrange(1, 6)
-    bad, wrong = chance.randrange(count), chance.choice(["name", "weight", "odd", "title"])
-    line = None
+def add_head(file, wrong, several):
+    """Adds a title or none, and the quota or the quotas; returns the line of the title."""
+    chance, line = file.chance, None
     if chance.random() < 0.5:
         file.add(f"# {file.decoy()}")
         file.end()
@@ -113,9 +111,6 @@ def make(chance):
         file.add(" = ")
         file.long_text(chance.randrange(2, 4) if wrong == "title" else 1)
         file.end()
-    several = chance.random() < 0.4
-    weight = "weights" if several else "weight"
-    wrong = weight if wrong == "weight" else wrong
     file.key("quotas" if several else "quota", False)
     file.add("=")
     if several:
@@ -123,43 +118,67 @@ def make(chance):
     else:
         file.add("1")
     file.end()
+    return line
+
+
+def pairs_of(file, at, weight, wrong):
+    """The keys and values of a member, with the fault, in any order."""
+    chance, several = file.chance, weight == "weights"
+    bad = chance.choice(["1.5", '"3"', "{weight = 1}"])
+    pairs = {"name": f"{at} {file.decoy()}", weight: [str(at + 1), "1"] if several else at + 1}
+    if wrong == "name":
+        pairs["name"] = "5"
+    elif wrong == weight:
+        pairs[weight] = ["1", bad] if several else bad
+    elif wrong == "odd":
+        pairs["odd"] = chance.choice(["1", "{name = 1, odd = {weight = 2}}", '[1,\n {name = "["}]', "'''\n[[member]]\nit's'''"])
+    pairs = list(pairs.items())
+    if chance.random() < 0.5:
+        pairs.reverse()
+    return pairs
+
+
+def add_inline(file, pairs, wrong):
+    """Adds a member in braces; returns the line of the wrong key."""
+
+    def after(last):
+        file.add(file.blanks() + ("" if last else "," + file.chance.choice(["", "\n", " # , {\n"])))
+
+    file.add("{")
+    line = member(file, pairs, wrong, True, after)
+    file.add("}," + file.chance.choice(["", "\n"]))
+    return line
+
+
+def add_member(file, pairs, wrong):
+    """Adds a member under a header; returns the line of the wrong key, or of its own header if it is a table."""
+    weight = wrong if wrong in ("weight", "weights") and file.chance.random() < 0.3 else None
+    file.add(file.blanks() + "[[" + file.blanks())
+    file.key("member", True)
+    file.add(file.blanks() + "]]")
+    file.end()
+    line = member(file, [it for it in pairs if it[0] != weight], wrong, True, lambda _: file.end())
+    if weight:
+        line = file.line()
+        brackets = file.chance.choice(["[]", "[]", ["[[", "]]"]])
+        file.add(f"{brackets[0]}member.{weight}{brackets[1]}\nx = 1\n")
+    return line
+
+
+def make(chance):
+    """Returns a file with a fault, and the line of the fault."""
+    file, count = File(chance), chance.randrange(1, 6)
+    weight = chance.choice(["weight", "weight", "weights"])
+    bad, wrong = chance.randrange(count), chance.choice(["name", weight, "odd", "title"])
+    line = add_head(file, wrong, weight == "weights")
     inline = chance.random() < 0.4
-    # a weight that is a table of its own, under a header
-    headed = wrong == weight and not inline and chance.random() < 0.3
     if inline:
         file.key("member", True)
         file.add(" = [" + chance.choice(["", "\n", " # [[member]] {\n"]))
     for at in range(count):
-        bad_weight = chance.choice(["1.5", '"3"', "{weight = 1}"])
-        pairs = [("name", f"{at} {file.decoy()}"), (weight, [str(at + 1), "1"] if several else at + 1)]
-        if at == bad and wrong == "name":
-            pairs[0] = "name", "5"
-        if at == bad and wrong == weight:
-            pairs[1:] = [] if headed else [(weight, ["1", bad_weight] if several else bad_weight)]
-        if at == bad and wrong == "odd":
-            pairs.append(("odd", chance.choice(["1", "{name = 1, odd = {weight = 2}}", '[1,\n {name = "["}]', "'''\n[[member]]\nit's'''"])))
-        if chance.random() < 0.5:
-            pairs.reverse()
-
-        def after_inline(last):
-            file.add(file.blanks() + ("" if last else "," + chance.choice(["", "\n", " # , {\n"])))
-
         here = wrong if at == bad else None
-        if inline:
-            file.add("{")
-            found = member(file, pairs, here, True, after_inline)
-            file.add("}," + chance.choice(["", "\n"]))
-        else:
-            file.add(file.blanks() + "[[" + file.blanks())
-            file.key("member", True)
-            file.add(file.blanks() + "]]")
-            file.end()
-            found = member(file, pairs, here, True, lambda _: file.end())
-            if headed and at == bad:
-                found = file.line()
-                brackets = chance.choice(["[]", "[]", ["[[", "]]"]])
-                file.add(f"{brackets[0]}member.{weight}{brackets[1]}\nx = 1\n")
-        if at == bad and wrong != "title":
+        found = (add_inline if inline else add_member)(file, pairs_of(file, at, weight, here), here)
+        if here and wrong != "title":
             line = found
     if inline:
         file.add("]\n")

@@ -206,50 +206,51 @@ def decimals(it):
     return f"{millionths // 1000000}.{millionths % 1000000:06}"
 
 
+def with_slashes(values):
+    return "/".join(str(value) for value in values)
+
+
 def report(game, with_list=False, with_sizes=False, with_notation=False, by_polynomials=False, with_swings=False, only_swings=False):
     """The report's lines."""
-    members = range(len(game.names))
     found = [] if by_polynomials or only_swings else minimal_coalitions(game)
     sizes, counts = counted(game) if by_polynomials else enumerated(game, found)
-    minimal = sum(sizes)
     winning, swings = swings_of(game) if with_swings or only_swings else (0, [])
-
-    def joined(values):
-        return "/".join(str(value) for value in values)
-
     if game.title is not None:
         yield f"title\t{game.title}"
     yield f"members\t{len(game.names)}"
-    yield f"quota\t{joined(quota for quota, _ in game.rules)}"
-    yield f"total\t{joined(sum(of) for _, of in game.rules)}"
+    yield f"quota\t{with_slashes(quota for quota, _ in game.rules)}"
+    yield f"total\t{with_slashes(sum(of) for _, of in game.rules)}"
     if with_notation:
         for quota, of in game.rules:
             yield f"notation\t[{quota}; {', '.join(str(weight) for weight in of)}]"
     if not only_swings:
-        yield f"minimal\t{minimal}"
+        yield f"minimal\t{sum(sizes)}"
     if swings:
         yield f"winning\t{winning}"
     if with_list:
         for c in found:
-            weight = joined(sum(of[game.ranked[p]] for p in c) for _, of in game.rules)
+            weight = with_slashes(sum(of[game.ranked[p]] for p in c) for _, of in game.rules)
             names = "\t".join(game.names[game.ranked[p]] for p in c)
             yield f"coalition\t{len(c)}\t{weight}\t{names}"
-
     if with_sizes:
         for size, number in enumerate(sizes):
             if number:
-                fields = "\t".join(str(counts[i][size]) for i in members)
+                fields = "\t".join(str(of[size]) for of in counts)
                 yield f"size\t{size}\t{number}\t{fields}"
+    yield from member_lines(game, [] if only_swings else sizes, counts, swings)
 
+
+def member_lines(game, sizes, counts, swings):
+    """The line of each member, with its indices by minimal winning coalitions or swings that were counted."""
     seats = sum(size * number for size, number in enumerate(sizes))
     by_swings = list(swing_indices(swings))
     indices = []
-    for i in members:
-        fields = [game.names[i], joined(of[i] for _, of in game.rules)]
+    for i, name in enumerate(game.names):
+        fields = [name, with_slashes(of[i] for _, of in game.rules)]
         groups = []
-        if not only_swings:
+        if sizes:
             shares = sum((Fraction(counts[i][s], s) for s in range(1, len(sizes))), Fraction(0))
-            groups.append((sum(counts[i]), (shares / minimal, Fraction(sum(counts[i]), seats))))
+            groups.append((sum(counts[i]), (shares / sum(sizes), Fraction(sum(counts[i]), seats))))
         if swings:
             groups.append((sum(swings[i]), by_swings[i]))
         for number, its in groups:
