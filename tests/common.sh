@@ -101,11 +101,11 @@ printed() {
     fi
 }
 
-# shows_commands PAGE [RUNS]: each line `$ COMMAND` of a page prints the lines up to the next such
+# check_commands PAGE [RUNS]: each line `$ COMMAND` of a page prints the lines up to the next such
 # line or the end of the block. `council` is in $temp/bin. A line without the `$` that begins with
 # one of our commands is given to the function RUNS, if one is named. It keeps how many commands
 # there were in $number.
-shows_commands() {
+check_commands() {
     local page=$1 runs=${2:-} line command=
     number=0
     while IFS= read -r line || [ -n "$line" ]; do

@@ -99,7 +99,7 @@ def member(file, pairs, wrong, escaped, after):
     return line
 
 
-def add_head(file, wrong, several):
+def add_top(file, wrong, several):
     """Adds a title or none, and the quota or the quotas; returns the line of the title."""
     chance, line = file.chance, None
     if chance.random() < 0.5:
@@ -121,8 +121,8 @@ def add_head(file, wrong, several):
     return line
 
 
-def pairs_of(file, at, weight, wrong):
-    """The keys and values of a member, with the fault, in any order."""
+def make_pairs(file, at, weight, wrong):
+    """Returns the keys and values of a member, with the fault, in any order."""
     chance, several = file.chance, weight == "weights"
     bad = chance.choice(["1.5", '"3"', "{weight = 1}"])
     pairs = {"name": f"{at} {file.decoy()}", weight: [str(at + 1), "1"] if several else at + 1}
@@ -170,14 +170,14 @@ def make(chance):
     file, count = File(chance), chance.randrange(1, 6)
     weight = chance.choice(["weight", "weight", "weights"])
     bad, wrong = chance.randrange(count), chance.choice(["name", weight, "odd", "title"])
-    line = add_head(file, wrong, weight == "weights")
+    line = add_top(file, wrong, weight == "weights")
     inline = chance.random() < 0.4
     if inline:
         file.key("member", True)
         file.add(" = [" + chance.choice(["", "\n", " # [[member]] {\n"]))
     for at in range(count):
         here = wrong if at == bad else None
-        found = (add_inline if inline else add_member)(file, pairs_of(file, at, weight, here), here)
+        found = (add_inline if inline else add_member)(file, make_pairs(file, at, weight, here), here)
         if here and wrong != "title":
             line = found
     if inline:

@@ -206,7 +206,7 @@ class Comparison:
         """What PROGRAM prints of the game that was written, with any workers and bits."""
         return printed(self.program, self.file, [*words, *threads(self.rng)])
 
-    def reports(self, name, is_small, is_statute):
+    def compare_reports(self, name, is_small, is_statute):
         """One game, by every subset if it is small, and its reports."""
         rng, make = self.rng, random_statute if is_statute else random_game
         game = make(rng, 12 if is_small else 18 if is_statute else 20)
@@ -225,11 +225,11 @@ class Comparison:
         kind = "--tally of statutes" if is_statute else "--tally"
         self.compare(kind, name, self.print("--tally", *flags), report(game, flags))
 
-    def tally_and_run(self, kind, name, game):
+    def compare_tally_and_run(self, kind, name, game):
         self.write(game)
         self.compare(f"--tally of {kind}, and a run", name, self.print("--tally", "--sizes"), self.print("--most", "4000000", "--sizes"))
 
-    def orders(self, name, make):
+    def compare_orders(self, name, make):
         """Each order of the rules of one game."""
         game = make(self.rng, 16)
         for order in itertools.permutations(game.rules):
@@ -237,7 +237,7 @@ class Comparison:
             self.write(other)
             self.compare("every order of the rules", name, self.print("--list"), report(other, ["--list"]))
 
-    def long_list(self, rules):
+    def compare_long_list(self, rules):
         weights = [[self.rng.randrange(1, 30) for _ in range(16)] for _ in range(rules)]
         game = oracle.Game(None, [f"a long name, number {i}" for i in range(16)], [(sum(of) // 2 + 1, of) for of in weights])
         self.write(game)
@@ -251,24 +251,24 @@ def main(words):
         sys.exit("usage: random_games.py PROGRAM COUNT SEED")
     count, rng = int(words[1]), random.Random(int(words[2]))
     with tempfile.TemporaryDirectory() as room:
-        all_of = Comparison(os.path.abspath(words[0]), rng, room)
+        comparison = Comparison(os.path.abspath(words[0]), rng, room)
         for number in range(4 * count):
-            all_of.reports(f"game {number} of seed {words[2]}", number < 2 * count, number % 2 == 1)
+            comparison.compare_reports(f"game {number} of seed {words[2]}", number < 2 * count, number % 2 == 1)
         for number in range(count):
-            all_of.tally_and_run("weights with little in common", f"game {number}", random_rows(rng))
+            comparison.compare_tally_and_run("weights with little in common", f"game {number}", random_rows(rng))
         for number in range(max(count, 300)):
-            all_of.tally_and_run("members of few kinds", f"game {number}", few_kinds(rng))
+            comparison.compare_tally_and_run("members of few kinds", f"game {number}", few_kinds(rng))
         for number in range(count // 2):
-            all_of.orders(f"game {number}", random_statute if number % 2 else random_game)
+            comparison.compare_orders(f"game {number}", random_statute if number % 2 else random_game)
         for rules in 1, 2, 4:
-            all_of.long_list(rules)
-    for kind, done in all_of.done.items():
-        names = all_of.faults.get(kind)
+            comparison.compare_long_list(rules)
+    for kind, done in comparison.done.items():
+        names = comparison.faults.get(kind)
         if names:
             print(f"FAILED random games, {kind}: {len(names)} of {done} differ, the first is {names[0]}")
         else:
             print(f"ok random games, {kind}: {done}")
-    return 1 if all_of.faults else 0
+    return 1 if comparison.faults else 0
 
 
 if __name__ == "__main__":

@@ -8,7 +8,7 @@ page=docs/TOUR.md
 # Commands that need a proof have no `$`, and are not run.
 mkdir "$temp/bin"
 ln -s "$program" "$temp/bin/council"
-shows_commands $page
+check_commands $page
 if [ "$number" -ge 8 ]; then ok "$page has commands"; else failed "$page has commands" "$number"; fi
 
 # A row names a call, its file and a clause: the clause is in the contract of that function.

@@ -24,8 +24,8 @@ if needs python3 tests/using; then
     done
 fi
 
-# Each command of the documents with a `$` prints what the document shows after it. Those of the
-# guide without it succeed, in a folder that has only the program, council-tools, and examples.
+# Each command of the documents with a `$` prints what the document shows after it. Those without it
+# succeed, in a folder that has only the program, council-tools, and examples.
 runs() {
     (cd "$temp/folder" && PATH=$temp/bin:$PATH timeout "$seconds" bash -c "$2") >"$temp/out" 2>"$temp/err" </dev/null
     status=$?
@@ -37,6 +37,6 @@ ln -s "$program" "$temp/bin/council"
 ln -s "$program" "$temp/folder/council"
 cp -r examples "$temp/folder/examples"
 for document in README.md docs/GUIDE.md; do
-    case $document in README.md) shows_commands $document ;; *) shows_commands $document runs ;; esac
+    check_commands $document runs
     if [ "$number" -ge 2 ]; then ok "$document has commands"; else failed "$document has commands" "$number"; fi
 done

@@ -134,7 +134,7 @@ def costs(names, lines):
 
 
 def last_of(names, lines):
-    """The library that stands on the most others."""
+    """The library that uses the most others."""
     return max(names, key=lambda it: len(below(it, lines)))
 
 

@@ -23,7 +23,7 @@ from fractions import Fraction
 from pathlib import Path
 from unittest import mock
 
-import shared  # noqa: I001 (it finds the package)
+from shared import HOSTILE, LISTED, TOP  # noqa: I001 (first, since it finds the package)
 import council
 import lines
 import oracle
@@ -31,7 +31,6 @@ from council import game, members
 from council.finding import find_library
 from council.reports import Fault, Report
 from parts import Engines, Parts  # noqa: F401 (tests too)
-from shared import HOSTILE, LISTED, TOP
 
 # 40 members whose weights add up to a million in each of two rules: hours
 LONG = [[random.Random(at).randrange(10**6) for at in range(40)]]

@@ -15,7 +15,7 @@ const SHARE: &[char] = &['%', '/'];
 /// What is said of a percentage and of a fraction.
 pub const GUIDE: &str = "docs/GUIDE.md says how percentages and fractions become whole numbers";
 
-/// Says what kind of value it is.
+/// Returns how a line tells the kind of a value, after the value.
 pub fn kind(value: &Value) -> &'static str {
     match value {
         Value::String(_) => " is a text: ",

@@ -5,7 +5,7 @@ use std::fmt::{self, Display, Formatter, Write};
 use std::sync::{Mutex, Wait};
 use std::time::{Clock, Duration};
 
-/// Nothing is printed before so many seconds have passed.
+/// How many seconds pass before the line is first printed.
 const QUIET: u64 = 1;
 
 /// What the workers have done so far, as far as they have said so.
