@@ -56,15 +56,15 @@ count-map f p [] = refl
 count-map f p (x ∷ xs) =
     omega (arith, count-map f p xs, sum_by-cons (λ z. cond (p z) 1 0) (f x) (map f xs), sum_by-cons (λ z. cond (p (f z)) 1 0) x xs)
 
-module _ (h g : GameView) (is_h : IsGame h) (is_g : IsGame g) (names : g.names ≡ h.names) (rules : g.rules ≡ h.rules) where
+module _ (h g : GameView) (is_h : IsGame h) (is_g : IsGame g) (names : g.names ≡ h.names) (rules : g.rules ≡ h.rules) (ways : g.ways ≡ h.ways) where
   -- the coalition of g with the members of one of h
   abbrev pub moved : ℕ → ℕ
-  moved = there same same h g is_h is_g (same-renaming h g is_h is_g names rules)
+  moved = there same same h g is_h is_g (same-renaming h g is_h is_g names rules ways)
 
   -- a coalition with the members of another one is that one's
   pub moved-is : (c d : ℕ) → d < 2 ^ length h.names → HaveSameMembers h g c d → moved c ≡ d
   moved-is c d below alike =
-      let r = same-renaming h g is_h is_g names rules in
+      let r = same-renaming h g is_h is_g names rules ways in
       let room = ap (λ (n : ℕ). 2 ^ n) r.count in
       set-one g is_g (moved c) d (omega (arith, room, there-below same same h g is_h is_g r c)) (omega (arith, room, below))
       (λ i lt. sym (there-same same same h g is_h is_g r c i (omega (arith, r.count, lt))) ∙ alike i (omega (arith, r.count, lt)))
@@ -72,7 +72,7 @@ module _ (h g : GameView) (is_h : IsGame h) (is_g : IsGame g) (names : g.names �
   pub resorted : (list : List ℕ) → IsPermutation (map moved (minimal_coalitions (votes_of h))) list → FallsAlong list
       → list ≡ minimal_coalitions (votes_of g)
   resorted list sorted falls =
-      let alike = same-by-members h g is_h is_g names rules in
+      let alike = same-by-members h g is_h is_g names rules ways in
       let listing = listing-is (votes_of g) (votes-are g is_g) in
       same-falling list (minimal_coalitions (votes_of g)) falls
       (λ i j le lt. elim (cases_eq i j) [

@@ -3,6 +3,7 @@ pub mod Digits
 pub mod Ranges
 pub mod Sums
 pub mod Lists
+pub mod Ways
 pub mod RuleLists
 pub mod Rankings
 pub mod Games

@@ -2,7 +2,7 @@
 use Rattle.std.specs.Prelude.{ℕ, List, ◌++◌, codes, decimal}
 use Rattle.council_game.specs.declared.fault.GameFault.{GameFault}
 use Rattle.council_game.specs.declared.fault.GameFault.TheVariants.{Read, TooLong, Text, UnknownKey, Title, Quota, Members, Name, SameName}
-use Rattle.council_game.specs.declared.fault.GameFault.TheVariants.{Weight, QuotaRange, Bracket, Rules, Memory}
+use Rattle.council_game.specs.declared.fault.GameFault.TheVariants.{Weight, QuotaRange, Bracket, Rules, Memory, Ways}
 
 abbrev pub number_of : GameFault → ℕ
 number_of Read = 1
@@ -19,6 +19,7 @@ number_of QuotaRange = 11
 number_of Bracket = 12
 number_of Rules = 13
 number_of Memory = 14
+number_of Ways = 15
 
 -- what each says
 abbrev pub text_of : GameFault → List ℕ
@@ -36,3 +37,4 @@ text_of QuotaRange = codes "quota out of range"
 text_of Bracket = codes "bad bracket text"
 text_of Rules = codes "bad rules"
 text_of Memory = codes "out of memory"
+text_of Ways = codes "bad ways"

@@ -6,15 +6,17 @@ use Rattle.std.specs.Option.{option_map_or}
 use Rattle.std.specs.Cmp.Lexicographic.{pointwise}
 use Rattle.council_game.specs.declared.limits.TheConstants.{MEMBERS, RULES, WEIGHT, TITLE_BYTES, NAME_BYTES}
 use Rattle.council_game.specs.declared.fault.GameFault.{GameFault}
-use Rattle.council_game.specs.declared.fault.GameFault.TheVariants.{Title, Members, Name, SameName, Weight, QuotaRange}
+use Rattle.council_game.specs.declared.fault.GameFault.TheVariants.{Title, Ways, Members, Name, SameName, Weight, QuotaRange}
 use Rattle.council_game.specs.Fault.{◌>>=◌, refuse, refuse_at}
-use Rattle.council_game.specs.Votes.{RuleView, Votes}
+use Rattle.council_game.specs.Ways.{are_ways}
+use Rattle.council_game.specs.Votes.{RuleView, Votes, rule_at}
 use Rattle.council_game.specs.Ranks.{AreOfRanking, places, rank_places, rule_by_rank}
 
 pub record GameView : Type 0 where
   pub title : Option (List ℕ)
   pub names : List (List ℕ)
   pub rules : List RuleView
+  pub ways : List (List ℕ)
   pub ranks : List ℕ
 
 -- no byte below 0x20 and no byte 0x7F
@@ -42,27 +44,28 @@ has_bad_quota r = nat_lt r.quota 1 || nat_lt (sum r.weights) r.quota
 abbrev pub total : RuleView → ℕ
 total r = sum r.weights
 
--- a rule asks for at most half of the total of its weights
+-- a rule asks for at most half of the total of its weights; all rules of some way do
 abbrev pub has_low_quota : RuleView → Bool
 has_low_quota r = nat_le r.quota (total r / 2)
 
 abbrev pub has_low_quotas : GameView → Bool
-has_low_quotas g = list_all has_low_quota g.rules
+has_low_quotas g = list_any (list_all (λ r. has_low_quota (rule_at g.rules r))) g.ways
 
 abbrev pub first_weights : List RuleView → List ℕ
 first_weights [] = []
 first_weights (r ∷ rs) = r.weights
 
 -- the game, or the first fault
-unfoldable pub made_game : Option (List ℕ) → List (List ℕ) → List RuleView → Result GameView GameFault
-made_game title names rules = do
+unfoldable pub made_game : Option (List ℕ) → List (List ℕ) → List RuleView → List (List ℕ) → Result GameView GameFault
+made_game title names rules ways = do
   _ ← refuse (option_map_or (λ t. not (is_title t)) title false) Title
+  _ ← refuse (not (are_ways (length rules) ways)) Ways
   _ ← refuse (nat_lt (length names) 1 || nat_lt MEMBERS (length names)) Members
   _ ← refuse_at Name (position (λ name. not (is_name name)) names)
   _ ← refuse_at SameName (position (is_repeat names) (places names))
   _ ← refuse_at Weight (position (is_heavy rules) (range_with_len 0 (length names)))
   _ ← refuse (list_any has_bad_quota rules) QuotaRange
-  Ok (record { title = title; names = names; rules = rules; ranks = rank_places (first_weights rules) })
+  Ok (record { title = title; names = names; rules = rules; ways = ways; ranks = rank_places (first_weights rules) })
 
 -- the game that its first rule ranks
 abbrev pub ranked_by_first : GameView → GameView
@@ -71,7 +74,7 @@ ranked_by_first g = record g { ranks = rank_places (first_weights g.rules) }
 -- What is a game: its checks pass, it has 1 to 4 rules, each with a weight for each member, and its
 -- rank places are those of a ranking: by weight if it has one rule.
 pub record IsGame (g : GameView) : Type 0 where
-  pub made : made_game g.title g.names g.rules ≡ Ok (ranked_by_first g)
+  pub made : made_game g.title g.names g.rules g.ways ≡ Ok (ranked_by_first g)
   pub each_member : length g.ranks ≡ length g.names
   pub ranked : AreOfRanking g.ranks
   pub by_weight : length g.rules ≡ 1 → g.ranks ≡ rank_places (first_weights g.rules)
@@ -81,7 +84,7 @@ pub record IsGame (g : GameView) : Type 0 where
 
 -- the votes of a game: its rules by rank
 abbrev pub votes_of : GameView → Votes
-votes_of g = record { members = length g.names; rules = map (rule_by_rank g.ranks) g.rules }
+votes_of g = record { members = length g.names; rules = map (rule_by_rank g.ranks) g.rules; ways = g.ways }
 
 -- coalitions of a game, none of them empty; that its minimal winning coalitions are such is a law
 -- of `power_index`, `laws::minimal_coalitions_can_be_counted`

@@ -14,9 +14,9 @@ WeighsItsMembers =
 -- a coalition is minimal exactly if it wins, and loses without any one of its members
 abbrev pub NeedsEachMember : Votes → Type 0
 NeedsEachMember v =
-    (c : ℕ) → (minimal v c ≡ true) ↔ ((wins v.rules c ≡ true)
+    (c : ℕ) → (minimal v c ≡ true) ↔ ((wins v c ≡ true)
     × ((p : ℕ) → p < v.members → has v.members p c ≡ true
-    → wins v.rules (without v.members p c) ≡ false))
+    → wins v (without v.members p c) ≡ false))
 
 -- in a game of n members, each place of a is in c, and c is not a
 abbrev pub IsProperSubset : ℕ → ℕ → ℕ → Type 0
@@ -26,19 +26,19 @@ IsProperSubset n a c = ((p : ℕ) → p < n → has n p a ≡ true → has n p c
 abbrev pub ProperSubsetsLose : Votes → Type 0
 ProperSubsetsLose v =
     (a c : ℕ) → a < 2 ^ v.members → c < 2 ^ v.members
-    → minimal v c ≡ true → IsProperSubset v.members a c → wins v.rules a ≡ false
+    → minimal v c ≡ true → IsProperSubset v.members a c → wins v a ≡ false
 
 -- the same of a game, member by member
 abbrev pub NeedsEachMemberOf : GameView → Type 0
 NeedsEachMemberOf g =
-    (c : ℕ) → (minimal (votes_of g) c ≡ true) ↔ ((wins (votes_of g).rules c ≡ true)
+    (c : ℕ) → (minimal (votes_of g) c ≡ true) ↔ ((wins (votes_of g) c ≡ true)
     × ((i : ℕ) → i < length g.names → contains g i c ≡ true
-    → wins (votes_of g).rules (without (length g.names) (slice_index g.ranks i) c) ≡ false))
+    → wins (votes_of g) (without (length g.names) (slice_index g.ranks i) c) ≡ false))
 
 abbrev pub ProperSubsetsOfLose : GameView → Type 0
 ProperSubsetsOfLose g =
     (a c : ℕ) → a < 2 ^ length g.names → c < 2 ^ length g.names → minimal (votes_of g) c ≡ true
-    → IsSubsetOf g a c → a ≢ c → wins (votes_of g).rules a ≡ false
+    → IsSubsetOf g a c → a ≢ c → wins (votes_of g) a ≡ false
 
 -- the list of minimal coalitions is not empty, no longer than the game has coalitions, strictly
 -- descending, and has only coalitions of the game, none of them empty
@@ -61,7 +61,7 @@ pub record HasEachSet (g : GameView) : Type 0 where
 -- their members only.
 pub record IsSameByMembers (g h : GameView) : Type 0 where
   pub size : (c d : ℕ) → HaveSameMembers g h c d → size_of g c ≡ size_of h d
-  pub win : (c d : ℕ) → HaveSameMembers g h c d → wins (votes_of g).rules c ≡ wins (votes_of h).rules d
+  pub win : (c d : ℕ) → HaveSameMembers g h c d → wins (votes_of g) c ≡ wins (votes_of h) d
   pub minimal : (c d : ℕ) → HaveSameMembers g h c d → minimal (votes_of g) c ≡ minimal (votes_of h) d
   pub counts : (p q : ℕ → Bool)
       → ((c d : ℕ) → c < 2 ^ length g.names → d < 2 ^ length g.names → HaveSameMembers g h c d → p c ≡ q d)

@@ -3,6 +3,7 @@ pub mod Lists
 pub mod Options
 pub mod Fault
 pub mod Faults
+pub mod Ways
 pub mod Votes
 pub mod Ranks
 pub mod Game

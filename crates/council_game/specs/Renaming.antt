@@ -20,13 +20,13 @@ HaveRenamedMembers to g h c d = (i : ℕ) → i < length g.names → contains g 
 pub record IsRenaming (to from : ℕ → ℕ) (g h : GameView) : Type 0 where
   pub count : length h.names ≡ length g.names
   pub inverse : AreInverse (length g.names) to from
-  pub win : (c d : ℕ) → HaveRenamedMembers to g h c d → wins (votes_of g).rules c ≡ wins (votes_of h).rules d
+  pub win : (c d : ℕ) → HaveRenamedMembers to g h c d → wins (votes_of g) c ≡ wins (votes_of h) d
 
 -- coalitions of the renamed members are as large, win alike, and are minimal alike; so as many
 -- minimal winning coalitions pass a test that looks at their members only
 pub record AreAlike (to : ℕ → ℕ) (g h : GameView) : Type 0 where
   pub size : (c d : ℕ) → HaveRenamedMembers to g h c d → size_of g c ≡ size_of h d
-  pub win : (c d : ℕ) → HaveRenamedMembers to g h c d → wins (votes_of g).rules c ≡ wins (votes_of h).rules d
+  pub win : (c d : ℕ) → HaveRenamedMembers to g h c d → wins (votes_of g) c ≡ wins (votes_of h) d
   pub minimal : (c d : ℕ) → HaveRenamedMembers to g h c d → minimal (votes_of g) c ≡ minimal (votes_of h) d
   pub counts : (p q : ℕ → Bool)
       → ((c d : ℕ) → c < 2 ^ length g.names → d < 2 ^ length g.names → HaveRenamedMembers to g h c d → p c ≡ q d)
@@ -50,7 +50,7 @@ abbrev pub AreSymmetric : GameView → ℕ → ℕ → Type 0
 AreSymmetric g i j =
     (c d : ℕ) → contains g i c ≡ true → contains g j c ≡ false → contains g i d ≡ false → contains g j d ≡ true
     → ((k : ℕ) → k < length g.names → k ≢ i → k ≢ j → contains g k c ≡ contains g k d)
-    → wins (votes_of g).rules c ≡ wins (votes_of g).rules d
+    → wins (votes_of g) c ≡ wins (votes_of g) d
 
 -- i and j have the same weight under each rule
 abbrev pub HaveEqualWeights : GameView → ℕ → ℕ → Type 0

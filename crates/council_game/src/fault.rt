@@ -39,12 +39,14 @@ pub enum GameFault {
     /// Both `quota` and `quotas`, `quotas` that is no list of 1 to 4 integers, `weights` beside
     /// `quota`, or `weight` beside `quotas`.
     Rules,
+    /// `ways` that are no ways to win by the rules of `quotas`.
+    Ways,
     /// A growth was refused.
     Memory,
 }
 
 impl GameFault {
-    /// Returns the number of the fault, from 1 to 14, for tables and tests.
+    /// Returns the number of the fault, from 1 to 15, for tables and tests.
     ///
     /// It is not the order of the checks, and no status of the program.
     pub fn number(self) -> u8
@@ -65,6 +67,7 @@ impl GameFault {
             GameFault::Bracket => 12,
             GameFault::Rules => 13,
             GameFault::Memory => 14,
+            GameFault::Ways => 15,
         }
     }
 }
@@ -89,6 +92,7 @@ impl fmt::Display for GameFault {
             GameFault::Bracket => f.write_str("bad bracket text"),
             GameFault::Rules => f.write_str("bad rules"),
             GameFault::Memory => f.write_str("out of memory"),
+            GameFault::Ways => f.write_str("bad ways"),
         }
     }
 }

@@ -58,7 +58,7 @@ pub fn coalitions_are_sets()
 #[tactic(auto, using(crate::proofs::Searches::for_sets))]
 pub fn places_do_not_matter()
     ensures { (g h : GameView) → IsGame g → IsGame h → h.names ≡ g.names → h.rules ≡ g.rules
-        → IsSameByMembers g h }
+        → h.ways ≡ g.ways → IsSameByMembers g h }
 {}
 
 /// Games whose members have the same weights under new names are renamings.
@@ -67,7 +67,7 @@ pub fn places_do_not_matter()
 #[tactic(auto, using(crate::proofs::Searches::for_renaming))]
 pub fn renamed_rules_win_alike()
     ensures { (to from : ℕ → ℕ) (g h : GameView) → IsGame g → IsGame h → length h.names ≡ length g.names
-        → AreInverse (length g.names) to from → HaveRenamedRules to g h → IsRenaming to from g h }
+        → AreInverse (length g.names) to from → HaveRenamedRules to g h → h.ways ≡ g.ways → IsRenaming to from g h }
 {}
 
 /// Which names the members have changes nothing.

@@ -30,6 +30,7 @@ mod rule;
 mod sanitized;
 mod sink;
 mod source;
+mod way;
 mod winning;
 
 pub use checks::is_title;
@@ -48,4 +49,5 @@ pub use rule::Rule;
 pub use sanitized::{Sanitized, sanitize};
 pub use sink::Sink;
 pub use source::Source;
+pub use way::{Way, are_ways};
 pub use winning::plain_list;

@@ -1,6 +1,6 @@
 //! The limits of games and of runs, each in one place.
 ghost use Rattle.std.specs.Prelude.{◌≡◌, ◌*◌, ◌^◌, ◌+◌};
-ghost use Rattle.council_game.specs.declared.limits.TheConstants.{MEMBERS, SIZES, RULES, WEIGHT, TOTAL, TITLE_BYTES, NAME_BYTES, FILE_BYTES, BITS, SLICES, WORKERS, COALITIONS, CAPACITY, PLAIN_MEMBERS};
+ghost use Rattle.council_game.specs.declared.limits.TheConstants.{MEMBERS, SIZES, RULES, WAYS, WEIGHT, TOTAL, TITLE_BYTES, NAME_BYTES, FILE_BYTES, BITS, SLICES, WORKERS, COALITIONS, CAPACITY, PLAIN_MEMBERS};
 
 /// The most members of a game.
 pub const MEMBERS: usize = 40;
@@ -10,6 +10,9 @@ pub const SIZES: usize = 41;
 
 /// The most rules that a game can have.
 pub const RULES: usize = 4;
+
+/// The most ways to win that a game can have: of 4 rules, none with all rules of another one.
+pub const WAYS: usize = 6;
 
 /// The greatest weight of a member.
 pub const WEIGHT: u64 = 1_000_000_000_000;
@@ -49,6 +52,7 @@ pub fn are_these_numbers()
     ensures members { MEMBERS ≡ 40 }
     ensures sizes { SIZES ≡ MEMBERS + 1 }
     ensures rules { RULES ≡ 4 }
+    ensures ways { WAYS ≡ 6 }
     ensures weight { WEIGHT ≡ 10 ^ 12 }
     ensures total { TOTAL ≡ MEMBERS * WEIGHT }
     ensures title { TITLE_BYTES ≡ 200 }

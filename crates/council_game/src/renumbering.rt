@@ -14,6 +14,7 @@ impl Game {
     pub fn renumber_all(&self, list: &mut [Coalition], other: &Game)
         requires names { other.now.names ≡ self.now.names }
         requires rules { other.now.rules ≡ self.now.rules }
+        requires ways { other.now.ways ≡ self.now.ways }
         requires all { list.old ≡ minimal_coalitions (votes_of self.now) }
         ensures { list.new ≡ minimal_coalitions (votes_of other.now) }
     {

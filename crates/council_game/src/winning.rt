@@ -1,12 +1,14 @@
 //! Whether a coalition wins, and whether it is minimal.
-ghost use Rattle.std.specs.Prelude.{◌≡◌, ◌≤◌, length, sum, ◌^◌, IfOk};
+ghost use Rattle.std.specs.Prelude.{◌≡◌, ◌≤◌, length, sum, true, ◌^◌, IfOk};
 ghost use Rattle.council_game.specs.declared.limits.TheConstants.{MEMBERS, TOTAL, PLAIN_MEMBERS};
-ghost use Rattle.council_game.specs.Votes.{IsVotes, weight, wins, minimal, minimal_coalitions};
-ghost use Rattle.council_game.specs.Rules.{rule_views};
+ghost use Rattle.std.specs.List.{list_all};
+ghost use Rattle.council_game.specs.Votes.{IsVotes, meets_quota, rule_at, weight, wins, minimal, minimal_coalitions};
+ghost use Rattle.council_game.specs.Rules.{rule_views, way_view};
+ghost use Rattle.council_game.specs.Ways.{is_way};
 ghost use Rattle.council_game.specs.Inner.Held.{votes};
 ghost use Rattle.council_game.specs.Game.{votes_of};
 
-use crate::{Coalition, Game, Memory, Rule};
+use crate::{Coalition, Game, Memory, Rule, Way};
 use std::alloc::Global;
 
 /// Returns the weight of a coalition: the last place is the lowest digit.
@@ -26,13 +28,15 @@ pub(crate) fn weight_of(weights: &[u64], coalition: Coalition) -> u64
     sum
 }
 
-/// Returns whether a coalition meets each quota.
-#[tactic(auto, unfolding(crate::specs::Votes::wins))]
-pub(crate) fn wins(rules: &[Rule], members: usize, coalition: Coalition) -> bool
-    requires { IsVotes (votes members rules.now) }
-    ensures { result ≡ wins (rule_views rules.now) coalition }
+/// Returns whether a coalition meets the quota of each rule of a way.
+fn meets(rules: &[Rule], ways: &[Way], way: &Way, members: usize, coalition: Coalition) -> bool
+    requires votes { IsVotes (votes members rules.now ways.now) }
+    requires way { is_way (length rules.now) (way_view way.now) ≡ true }
+    ensures { result ≡ list_all (λ r. meets_quota coalition (rule_at (rule_views rules.now) r))
+        (way_view way.now) }
 {
-    for rule in rules {
+    for rule in &way.rules {
+        let rule = &rules[*rule];
         if weight_of(&rule.weights, coalition) < rule.quota {
             return false;
         }
@@ -40,17 +44,31 @@ pub(crate) fn wins(rules: &[Rule], members: usize, coalition: Coalition) -> bool
     true
 }
 
-/// Returns whether a coalition wins, and loses without any of its members.
-pub(crate) fn is_minimal(rules: &[Rule], members: usize, coalition: Coalition) -> bool
-    requires { IsVotes (votes members rules.now) }
-    ensures { result ≡ minimal (votes members rules.now) coalition }
+/// Returns whether a coalition meets each rule of some way.
+#[tactic(auto, using(crate::proofs::Shared::Lists::found_any), unfolding(crate::specs::Votes::wins))]
+pub(crate) fn wins(rules: &[Rule], ways: &[Way], members: usize, coalition: Coalition) -> bool
+    requires { IsVotes (votes members rules.now ways.now) }
+    ensures { result ≡ wins (votes members rules.now ways.now) coalition }
 {
-    if !wins(rules, members, coalition) {
+    for way in ways {
+        if meets(rules, ways, way, members, coalition) {
+            return true;
+        }
+    }
+    false
+}
+
+/// Returns whether a coalition wins, and loses without any of its members.
+pub(crate) fn is_minimal(rules: &[Rule], ways: &[Way], members: usize, coalition: Coalition) -> bool
+    requires { IsVotes (votes members rules.now ways.now) }
+    ensures { result ≡ minimal (votes members rules.now ways.now) coalition }
+{
+    if !wins(rules, ways, members, coalition) {
         return false;
     }
     for place in 0..members {
         if coalition.has(members, place)
-            && wins(rules, members, coalition.without(members, place))
+            && wins(rules, ways, members, coalition.without(members, place))
         {
             return false;
         }

@@ -4,44 +4,45 @@ use Rattle.council_game.proofs.Imports.{Bool, false, not, ◌||◌, List, [], �
 use Rattle.council_game.proofs.Imports.{nat_tests, cases_lt, or_parts, cond-true, RuleView, IsRule, IsVotes, places, sym, ap, ◌∙◌, subst}
 use Rattle.council_game.proofs.Imports.{length-range_with_len, length-map, get_or_default, recursion_from_All, fails_before_first, arith}
 use Rattle.council_game.proofs.Imports.{inl, inr, Option, Ok, AllByRecursion, list_any, range_with_len, votes_of, is_name, has_bad_quota}
-use Rattle.council_game.proofs.Imports.{is_repeat, is_heavy}
+use Rattle.council_game.proofs.Imports.{is_repeat, is_heavy, are_ways, not-false, true}
 use Rattle.std.proofs.Common.{None, ltb, lt-ltb, le-ltb}
 use Rattle.std.proofs.lemmas.List.{get_or_past, Sums.sum_by-le}
 use Rattle.std.specs.Option.{option_map_or}
-use Rattle.council_game.specs.declared.fault.GameFault.TheVariants.{Title, Members, Name, SameName, Weight, QuotaRange}
+use Rattle.council_game.specs.declared.fault.GameFault.TheVariants.{Title, Ways, Members, Name, SameName, Weight, QuotaRange}
 use Rattle.council_game.specs.{Fault.◌>>=◌, Fault.refuse, Fault.refuse_at, Game.is_title, Votes.IsRanked}
 use Rattle.council_game.proofs.Shared.Rankings.{ranking-sum, ranked-falls, length-weights_by_rank, length-rank_places, places-at}
 use Rattle.council_game.proofs.Shared.Rankings.{weights-at, early, length-early}
 
 -- ---- what a game that was made has passed
-checks-passed : (title count : Bool) (name repeat weight : Option ℕ) (quota : Bool) (made g : GameView)
-    → (refuse title Title >>= (λ _. refuse count Members >>= (λ _. refuse_at Name name >>=
-    (λ _. refuse_at SameName repeat >>= (λ _. refuse_at Weight weight >>= (λ _. refuse quota QuotaRange >>= (λ _. Ok made))))))) ≡ Ok g
-    → (title ≡ false) × (count ≡ false) × (name ≡ None) × (repeat ≡ None) × (weight ≡ None) × (quota ≡ false)
-checks-passed false false None None None false made g h = (refl, refl, refl, refl, refl, refl)
-checks-passed title count name repeat weight quota made g h = absurd (cc)
+checks-passed : (title ways count : Bool) (name repeat weight : Option ℕ) (quota : Bool) (made g : GameView)
+    → (refuse title Title >>= (λ _. refuse ways Ways >>= (λ _. refuse count Members >>= (λ _. refuse_at Name name >>=
+    (λ _. refuse_at SameName repeat >>= (λ _. refuse_at Weight weight >>= (λ _. refuse quota QuotaRange >>= (λ _. Ok made)))))))) ≡ Ok g
+    → (title ≡ false) × (ways ≡ false) × (count ≡ false) × (name ≡ None) × (repeat ≡ None) × (weight ≡ None) × (quota ≡ false)
+checks-passed false false false None None None false made g h = (refl, refl, refl, refl, refl, refl, refl)
+checks-passed title ways count name repeat weight quota made g h = absurd (cc)
 
 pub record Passed (g : GameView) : Type 0 where
   pub title : option_map_or (λ t. not (is_title t)) g.title false ≡ false
+  pub ways : are_ways (length g.rules) g.ways ≡ true
   pub members : (ltb (length g.names) 1 || ltb 40 (length g.names)) ≡ false
   pub names : position (λ name. not (is_name name)) g.names ≡ None
   pub repeats : position (is_repeat g.names) (places g.names) ≡ None
   pub weights : position (is_heavy g.rules) (range_with_len 0 (length g.names)) ≡ None
   pub quotas : list_any has_bad_quota g.rules ≡ false
 
-pub passed : (g : GameView) → made_game g.title g.names g.rules ≡ Ok (ranked_by_first g) → Passed g
+pub passed : (g : GameView) → made_game g.title g.names g.rules g.ways ≡ Ok (ranked_by_first g) → Passed g
 unfolding made_game
-passed g h = grind (arith, nat_tests, checks-passed)
+passed g h = grind (arith, nat_tests, checks-passed, not-false)
 
 -- what passes the checks is made
-pub makes : (title : Option (List ℕ)) (names : List (List ℕ)) (rules : List RuleView)
+pub makes : (title : Option (List ℕ)) (names : List (List ℕ)) (rules : List RuleView) (ways : List (List ℕ))
     → option_map_or (λ t. not (is_title t)) title false ≡ false
-    → (ltb (length names) 1 || ltb 40 (length names)) ≡ false → position (λ name. not (is_name name)) names ≡ None
+    → are_ways (length rules) ways ≡ true → (ltb (length names) 1 || ltb 40 (length names)) ≡ false → position (λ name. not (is_name name)) names ≡ None
     → position (is_repeat names) (places names) ≡ None → position (is_heavy rules) (range_with_len 0 (length names)) ≡ None
     → list_any has_bad_quota rules ≡ false
-    → made_game title names rules ≡ Ok (record { title = title; names = names; rules = rules; ranks = rank_places (first_weights rules) })
+    → made_game title names rules ways ≡ Ok (record { title = title; names = names; rules = rules; ways = ways; ranks = rank_places (first_weights rules) })
 unfolding made_game
-makes title names rules a b c d e f = grind (arith, nat_tests)
+makes title names rules ways a w b c d e f = grind (arith, nat_tests)
 
 -- ---- no weight is above the limit
 -- a test that finds no entry was tried on all
@@ -144,6 +145,7 @@ votes-are g game =
     let all : AllByRecursion (IsRule (length g.names)) (map (rule_by_rank g.ranks) g.rules) =
     subst (λ (ranks : List ℕ). AllByRecursion (IsRule (length g.names)) (map (rule_by_rank ranks) g.rules)) (sym game.ranked)
     (rules-votes (length g.names) (early g.ranks) g.rules few (length-early g.ranks ∙ game.each_member) full light quotas) in
+    let ways : are_ways (length (map (rule_by_rank g.ranks) g.rules)) g.ways ≡ true = rw count p.ways in
     let up : length g.rules ≡ 1 → IsRanked (map (rule_by_rank g.ranks) g.rules) =
     λ one. subst (λ (ranks : List ℕ). IsRanked (map (rule_by_rank ranks) g.rules))
     (sym (game.by_weight one)) (rules-ranked g.rules) in

@@ -1,13 +1,14 @@
 -- The list of minimal coalitions.
-use Rattle.council_game.proofs.Imports.{length, sum, refl, ap, arith, AllByRecursion, All, AllPairs, filter, pow_pos, append-nil, All-cons}
+use Rattle.council_game.proofs.Imports.{length, sum, refl, ap, arith, All, AllPairs, filter, pow_pos, append-nil, All-cons}
 use Rattle.council_game.proofs.Imports.{◌≡◌, ℕ, zero, suc, ◌-◌, ◌/◌, ◌%◌, ◌^◌, ◌<◌, ◌≤◌, Bool, true, false, not, List, [], ◌∷◌, ◌++◌}
 use Rattle.council_game.proofs.Imports.{All-nil, AllPairs-cons, sum_by-cons, and_parts, both_ways, cond-true, cond-false, nat_tests}
-use Rattle.council_game.proofs.Imports.{RuleView, Votes, IsRule, IsVotes, weight, wins, minimal, minimal_coalitions, minimal_below}
+use Rattle.council_game.proofs.Imports.{Votes, IsVotes, weight, wins, meets_quota, rule_at, cases_lt, minimal, minimal_coalitions, minimal_below}
 use Rattle.council_game.proofs.Imports.{sym, inl, inr, cases_eq, ◌≢◌, ◌∙◌}
 use Rattle.std.proofs.lemmas.List.{Elements.All-filter, Elements.filter_passes, Filters.length-filter_both, Kept.AllPairs-filter}
 use Rattle.std.proofs.lemmas.List.Elements.{All-contains, Contains-append_right}
 use Rattle.std.proofs.{Common.append_assoc, Common.Contains, Common.◌↔◌, lemmas.Bool.cond_both, lemmas.Nat.Bits.bit_at_ones}
 use Rattle.council_game.specs.{Laws.IsListing, Votes.down}
+use Rattle.council_game.proofs.Shared.{Ways.ways-all, Ways.ways-none, Ways.ways-some, WinningByPlaces.rule-is, WinningByPlaces.met-past}
 use Rattle.council_game.proofs.Shared.{Subsets.minimal-inside, WeightByDigits.weight-nil, WeightByDigits.weight-cons, Weights.weight-zero}
 
 -- a coalition that has all members weighs all
@@ -16,16 +17,24 @@ weight-full [] c all = weight-nil c
 weight-full (w ∷ ws) c all =
     grind (arith, weight-full ws c (λ i lt. all i (omega arith)), weight-cons w ws c, all (length ws) (omega arith), sum_by-cons (λ (y : ℕ). y) w ws)
 
-wins-full : (n : ℕ) (rs : List RuleView) → AllByRecursion (IsRule n) rs → wins rs (2 ^ n - 1) ≡ true
+wins-full : (v : Votes) → IsVotes v → wins v (2 ^ v.members - 1) ≡ true
 unfolding wins
-wins-full n [] all = refl
-wins-full n (r ∷ rs) all = grind (arith, nat_tests, wins-full n rs all.1, weight-full, bit_at_ones)
+wins-full v game =
+    ways-all (λ r. meets_quota (2 ^ v.members - 1) (rule_at v.rules r)) v.ways (λ r. elim (cases_lt r (length v.rules)) [
+      | inl lt ↦ let rule = rule-is v r game lt in
+          let full = weight-full (rule_at v.rules r).weights (2 ^ v.members - 1) (λ i below. bit_at_ones v.members i (omega (arith, rule.full, below))) in
+          grind (arith, nat_tests)
+      | inr past ↦ met-past v.rules r (2 ^ v.members - 1) past
+    ]) (ways-some (length v.rules) v.ways game.ways).0
 
 -- the empty coalition loses
-none-wins : (n : ℕ) (rs : List RuleView) → AllByRecursion (IsRule n) rs → 1 ≤ length rs → wins rs 0 ≡ true → ⊥
+none-wins : (v : Votes) → IsVotes v → wins v 0 ≡ true → ⊥
 unfolding wins
-none-wins n [] all some h = omega arith
-none-wins n (r ∷ rs) all some h = grind (arith, nat_tests, weight-zero r.weights)
+none-wins v game won =
+    both_ways _ (ways-none (length v.rules) (λ r. meets_quota 0 (rule_at v.rules r)) v.ways (λ r lt.
+    let rule = rule-is v r game lt in
+    let none = weight-zero (rule_at v.rules r).weights in
+    grind (arith, nat_tests)) (ways-some (length v.rules) v.ways game.ways).2) won
 
 pub down-below : (n m : ℕ) → n ≤ m → All (λ c. c < m) (down n)
 unfolding down
@@ -58,7 +67,7 @@ pub listing-is : (v : Votes) → IsVotes v → IsListing v
 unfolding minimal_coalitions minimal
 listing-is v game =
     let pos : 0 < 2 ^ v.members = pow_pos v.members in
-    let found = minimal-inside v (2 ^ v.members) (2 ^ v.members - 1) (omega arith) (wins-full v.members v.rules game.rules) in
+    let found = minimal-inside v (2 ^ v.members) (2 ^ v.members - 1) (omega arith) (wins-full v game) in
     record {
       some = (let first = down-has (minimal v) (2 ^ v.members) found.0 (omega (arith, found.1)) found.2 in omega (arith, first.1));
       few =

@@ -2,14 +2,14 @@
 use Rattle.council_game.proofs.Imports.{recursion_from_All, or_parts, Rule, RuleView, IsVotes, votes, ◌≡◌, ℕ}
 use Rattle.council_game.proofs.Imports.{rule_along, rule_view, rule_views, GameView, IsGame, made_game, first_weights, total, votes_of}
 use Rattle.council_game.proofs.Imports.{Option, Ok, AllByRecursion, length-map, member_at, rank_places, members_by_rank, rule_by_rank}
-use Rattle.council_game.proofs.Imports.{◌<◌, ◌≤◌, List, [], ◌∷◌, length, get_or, map, sum, refl, sym, ap, ◌∙◌, subst, arith, All}
-use Rattle.council_game.proofs.Imports.{string_bytes, get_or_default}
+use Rattle.council_game.proofs.Imports.{◌<◌, ◌≤◌, List, [], ◌∷◌, length, get_or, map, sum, sym, ap, ◌∙◌, subst, arith, All}
+use Rattle.council_game.proofs.Imports.{string_bytes, get_or_default, Way, way_views, rule_at}
 use Rattle.council_game.specs.Inner.Parts.{game_of_parts}
 use Rattle.std.proofs.Common.{String, Global, option_map, ltb-false}
 use Rattle.std.proofs.lemmas.List.Elements.{All-map}
 use Rattle.council_game.specs.Ranks.{AreOfRanking}
 use Rattle.council_game.proofs.Shared.Rankings.{early, length-early, length-rank_places, of-ranking}
-use Rattle.council_game.proofs.Shared.{Rankings.length-by_rank, Rankings.by_rank-at, RuleLists.held_full, WinningByPlaces.held-rule}
+use Rattle.council_game.proofs.Shared.{Rankings.length-by_rank, Rankings.by_rank-at, RuleLists.held_full, WinningByPlaces.rule-is, WinningByPlaces.rule-at}
 use Rattle.council_game.proofs.Shared.Games.{passed, votes-are, light-weights, light-sum}
 pub use Rattle.council_game.proofs.Shared.Rankings.{RanksAre, ranks-of, ranked-falls, order-below}
 
@@ -49,28 +49,31 @@ pub ranked-are : (rs xs : List RuleView) (ks os : List ℕ) → os ≡ members_b
     → xs ≡ map (rule_by_rank ks) rs
 ranked-are rs xs ks os e h = h ∙ ap (λ (l : List ℕ). map (rule_along l) rs) e
 
-pub made-game : (title : Option (String Global)) (names ns : List (String Global)) (rules rs : List Rule) (ks : List ℕ) → ns ≡ names
-    → rs ≡ rules → ks ≡ rank_places (first_weights (rule_views rules))
-    → made_game (option_map string_bytes title) (map string_bytes ns) (rule_views rs) ≡ Ok
+pub made-game : (title : Option (String Global)) (names ns : List (String Global)) (rules rs : List Rule) (ways ws : List Way) (ks : List ℕ)
+    → ns ≡ names → rs ≡ rules → ws ≡ ways → ks ≡ rank_places (first_weights (rule_views rules))
+    → made_game (option_map string_bytes title) (map string_bytes ns) (rule_views rs) (way_views ws) ≡ Ok
     (record {
       title = option_map string_bytes title;
       names = map string_bytes ns;
       rules = rule_views rs;
+      ways = way_views ws;
       ranks = rank_places (first_weights (rule_views rs));
     })
-    → made_game (option_map string_bytes title) (map string_bytes names) (rule_views rules) ≡ Ok (game_of_parts title names rules ks)
-made-game title names ns rules rs ks en er ek h = rw (ek, ← en, ← er) h
+    → made_game (option_map string_bytes title) (map string_bytes names) (rule_views rules) (way_views ways)
+    ≡ Ok (game_of_parts title names rules ways ks)
+made-game title names ns rules rs ways ws ks en er ew ek h = rw (ek, ← en, ← er, ← ew) h
 
-pub is-game : (title : Option (String Global)) (names : List (String Global)) (rules : List Rule) (ks : List ℕ) → 0 < length rules
+pub is-game : (title : Option (String Global)) (names : List (String Global)) (rules : List Rule) (ways : List Way) (ks : List ℕ) → 0 < length rules
     → length rules ≤ 4 → All (λ r. length r.weights.items ≡ length names) rules
     → ks ≡ rank_places (first_weights (rule_views rules))
-    → made_game (option_map string_bytes title) (map string_bytes names) (rule_views rules) ≡ Ok (game_of_parts title names rules ks)
-    → IsGame (game_of_parts title names rules ks)
-is-game title names rules ks some few full ranks made =
+    → made_game (option_map string_bytes title) (map string_bytes names) (rule_views rules) (way_views ways)
+    ≡ Ok (game_of_parts title names rules ways ks)
+    → IsGame (game_of_parts title names rules ways ks)
+is-game title names rules ways ks some few full ranks made =
     let count = length-map rules rule_view in
     let size = length-map names string_bytes in
     record {
-      made = made ∙ ap (λ (l : List ℕ). Ok (game_of_parts title names rules l)) ranks;
+      made = made ∙ ap (λ (l : List ℕ). Ok (game_of_parts title names rules ways l)) ranks;
       each_member =
           ap (λ (l : List ℕ). length l) ranks ∙ length-rank_places (first_weights (rule_views rules))
           ∙ first-length rules (length names) some full ∙ sym size;
@@ -87,9 +90,9 @@ ranks-are g game =
     let long = length-early g.ranks ∙ game.each_member in
     subst (λ (n : ℕ). RanksAre n g.ranks) long (subst (RanksAre (length (early g.ranks))) (sym game.ranked) (ranks-of (early g.ranks)))
 
-pub held-votes : (g : GameView) (n : ℕ) (ranked : List Rule) → IsGame g → n ≡ length g.names → rule_views ranked ≡ (votes_of g).rules
-    → IsVotes (votes n ranked)
-held-votes g n ranked game count same = rw (count, same) (votes-are g game)
+pub held-votes : (g : GameView) (n : ℕ) (ranked : List Rule) (ways : List Way) → IsGame g → n ≡ length g.names
+    → rule_views ranked ≡ (votes_of g).rules → way_views ways ≡ g.ways → IsVotes (votes n ranked ways)
+held-votes g n ranked ways game count same alike = rw (count, same, alike) (votes-are g game)
 
 -- the members by rank, as a table
 pub order-at : (g : GameView) (os : List ℕ) (p : ℕ) → RanksAre (length g.names) g.ranks → os ≡ members_by_rank g.ranks → p < length g.names
@@ -103,10 +106,14 @@ names-count names n e = e ∙ sym (length-map names string_bytes)
 pub held-weights : (g : GameView) (ranked : List Rule) (i : ℕ) (x : Rule) → IsGame g → rule_views ranked ≡ (votes_of g).rules
     → i < length g.rules → x ≡ get_or ranked i x → (length x.weights.items ≤ 40) × (sum x.weights.items ≤ 40000000000000)
 held-weights g ranked i x game same lt at =
-    let v = held-votes g (length g.names) ranked game refl same in
-    let count : length ranked ≡ length g.rules = grind (arith, length-map) in
-    let is = held-rule (length g.names) ranked i x v (omega (arith, count)) at in
-    (omega (arith, is.full, v.few), is.light)
+    let v = votes-are g game in
+    let count : length (votes_of g).rules ≡ length g.rules = length-map g.rules (rule_by_rank g.ranks) in
+    let long : length ranked ≡ length g.rules = grind (arith, length-map) in
+    let is = rule-is (votes_of g) i v (omega (arith, count, lt)) in
+    let here : rule_at (votes_of g).rules i ≡ rule_view x = ap (λ (l : List RuleView). rule_at l i) (sym same) ∙ rule-at ranked i x (omega (arith, long, lt)) at in
+    let full = ap (λ (r : RuleView). length r.weights) here in
+    let all = ap (λ (r : RuleView). sum r.weights) here in
+    (omega (arith, is.full, v.few, full), omega (arith, is.light, all))
 
 pub file-full : (g : GameView) (rules : List Rule) (i : ℕ) (x : Rule) → IsGame g → g.rules ≡ rule_views rules → i < length g.rules
     → x ≡ get_or rules i x → length x.weights.items ≡ length g.names
@@ -134,7 +141,8 @@ is-reordered g ws game several long = record {
   full = game.full;
 }
 
-pub reordered-parts : (g : GameView) (title : Option (String Global)) (names : List (String Global)) (rules : List Rule) (ks ws : List ℕ)
-    → option_map string_bytes title ≡ g.title → map string_bytes names ≡ g.names → rule_views rules ≡ g.rules → ks ≡ rank_places ws
-    → IsGame g → 1 < length g.rules → length ws ≡ length g.names → IsGame (game_of_parts title names rules ks)
-reordered-parts g title names rules ks ws a b c d game several long = rw (a, b, c, d) (is-reordered g ws game several long)
+pub reordered-parts : (g : GameView) (title : Option (String Global)) (names : List (String Global)) (rules : List Rule) (ways : List Way)
+    (ks ws : List ℕ) → option_map string_bytes title ≡ g.title → map string_bytes names ≡ g.names → rule_views rules ≡ g.rules
+    → way_views ways ≡ g.ways → ks ≡ rank_places ws
+    → IsGame g → 1 < length g.rules → length ws ≡ length g.names → IsGame (game_of_parts title names rules ways ks)
+reordered-parts g title names rules ways ks ws a b c d e game several long = rw (a, b, c, d, e) (is-reordered g ws game several long)

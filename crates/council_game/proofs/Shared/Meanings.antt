@@ -13,12 +13,12 @@ pub needs-each-member : (v : Votes) → NeedsEachMember v
 unfolding minimal
 needs-each-member v c = (
   λ min.
-      let parts = and_parts (wins v.rules c) (list_all (λ p. not (wins v.rules (without v.members p c))) (places_of v.members c)) min in (
+      let parts = and_parts (wins v c) (list_all (λ p. not (wins v (without v.members p c))) (places_of v.members c)) min in (
         parts.0,
         λ p below inside. not-true _
-            (each-place (λ i. has v.members i c) (λ i. not (wins v.rules (without v.members i c))) v.members p parts.1 below inside),
+            (each-place (λ i. has v.members i c) (λ i. not (wins v (without v.members i c))) v.members p parts.1 below inside),
       ),
-  λ both. and_from (wins v.rules c) (list_all (λ p. not (wins v.rules (without v.members p c))) (places_of v.members c)) both.0
-      (all-places (λ i. has v.members i c) (λ i. not (wins v.rules (without v.members i c))) v.members
+  λ both. and_from (wins v c) (list_all (λ p. not (wins v (without v.members p c))) (places_of v.members c)) both.0
+      (all-places (λ i. has v.members i c) (λ i. not (wins v (without v.members i c))) v.members
       (λ p below inside. not_from_false _ (both.1 p below inside))),
 )

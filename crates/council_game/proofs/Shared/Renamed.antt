@@ -1,7 +1,8 @@
 -- Games whose members are those of another one, renamed.
 use Rattle.council_game.proofs.Imports.{◌≡◌, ◌≢◌, ◌∙◌, ◌==◌, ℕ, zero, suc, ◌+◌, ◌*◌, ◌^◌, ◌<◌, Bool, true, not, cond, List, [], ◌∷◌}
 use Rattle.council_game.proofs.Imports.{length, map, sym, ap, refl, arith, sum_by, sum_by-cons, range_with_len, nat_tests, get_or}
-use Rattle.council_game.proofs.Imports.{cases_eq, cases_Bool, inl, inr, recursion_from_All, AllByRecursion}
+use Rattle.council_game.proofs.Imports.{cases_eq, cases_Bool, inl, inr, recursion_from_All, AllByRecursion, list_all, list_any, meets_quota, rule_at}
+use Rattle.council_game.proofs.Shared.WinningByPlaces.{met-past}
 use Rattle.council_game.proofs.Imports.{GameView, IsGame, votes_of, RuleView, rule_by_rank, without, weight, wins, minimal, minimal_coalitions}
 use Rattle.std.proofs.Common.{◌&&◌}
 use Rattle.std.specs.List.{AllZip}
@@ -28,34 +29,41 @@ sum-renamed f to from n r =
     ∙ sym (sum-range-down f n)
 
 -- ---- rules of renamed members
-pub wins-alike : (to from : ℕ → ℕ) (g h : GameView) → IsGame g → IsGame h → length h.names ≡ length g.names → AreInverse (length g.names) to from
-    → (c d : ℕ) → HaveRenamedMembers to g h c d → (rs ts : List RuleView) → AllZip (IsRenamedRule (length g.names) to) rs ts
-    → wins (map (rule_by_rank g.ranks) rs) c ≡ wins (map (rule_by_rank h.ranks) ts) d
-unfolding wins
-wins-alike to from g h is_g is_h count inverse c d same [] [] all = refl
-wins-alike to from g h is_g is_h count inverse c d same [] (t ∷ ts) all = absurd all
-wins-alike to from g h is_g is_h count inverse c d same (r ∷ rs) [] all = absurd all
-wins-alike to from g h is_g is_h count inverse c d same (r ∷ rs) (t ∷ ts) all =
-    let n = length g.names in
-    let own : ℕ → ℕ = λ i. cond (contains g i c) 1 0 * get_or r.weights i 0 in
-    let other : ℕ → ℕ = λ k. cond (contains h k d) 1 0 * get_or t.weights k 0 in
-    let weigh : weight (rule_by_rank g.ranks r).weights c ≡ weight (rule_by_rank h.ranks t).weights d =
-    weight-members g is_g r c
-    ∙ sum-range own (λ i. other (to i)) 0 n (λ i _ lt.
-    let b = same i (omega (arith, lt)) in
-    let w = all.0.weights i (omega (arith, lt)) in grind (arith, b, w))
-    ∙ sum-renamed other to from n inverse
-    ∙ ap (λ (k : ℕ). sum_by other (range_with_len 0 k)) (sym count)
-    ∙ sym (weight-members h is_h t d) in
-    let quota = all.0.quota in
-    grind (arith, wins-alike to from g h is_g is_h count inverse c d same rs ts all.1, weigh, quota)
+module _ (to from : ℕ → ℕ) (g h : GameView) (is_g : IsGame g) (is_h : IsGame h) (count : length h.names ≡ length g.names)
+    (inverse : AreInverse (length g.names) to from) (c d : ℕ) (same : HaveRenamedMembers to g h c d) where
+  met-alike : (rs ts : List RuleView) → AllZip (IsRenamedRule (length g.names) to) rs ts → (i : ℕ)
+      → meets_quota c (rule_at (map (rule_by_rank g.ranks) rs) i) ≡ meets_quota d (rule_at (map (rule_by_rank h.ranks) ts) i)
+  met-alike [] [] all i = met-past [] i c (omega arith) ∙ sym (met-past [] i d (omega arith))
+  met-alike [] (t ∷ ts) all i = absurd all
+  met-alike (r ∷ rs) [] all i = absurd all
+  met-alike (r ∷ rs) (t ∷ ts) all (suc i) = met-alike rs ts all.1 i
+  met-alike (r ∷ rs) (t ∷ ts) all zero =
+      let n = length g.names in
+      let own : ℕ → ℕ = λ i. cond (contains g i c) 1 0 * get_or r.weights i 0 in
+      let other : ℕ → ℕ = λ k. cond (contains h k d) 1 0 * get_or t.weights k 0 in
+      let weigh : weight (rule_by_rank g.ranks r).weights c ≡ weight (rule_by_rank h.ranks t).weights d =
+      weight-members g is_g r c
+      ∙ sum-range own (λ i. other (to i)) 0 n (λ i _ lt.
+      let b = same i (omega (arith, lt)) in
+      let w = all.0.weights i (omega (arith, lt)) in grind (arith, b, w))
+      ∙ sum-renamed other to from n inverse
+      ∙ ap (λ (k : ℕ). sum_by other (range_with_len 0 k)) (sym count)
+      ∙ sym (weight-members h is_h t d) in
+      let quota = all.0.quota in
+      grind (arith, weigh, quota)
+
+  pub wins-alike : HaveRenamedRules to g h → h.ways ≡ g.ways → wins (votes_of g) c ≡ wins (votes_of h) d
+  unfolding wins
+  wins-alike all ways =
+      (λ k. list_any (list_all (λ r. met-alike g.rules h.rules all r k)) g.ways)
+      ∙ ap (list_any (list_all (λ r. meets_quota d (rule_at (votes_of h).rules r)))) (sym ways)
 
 pub renamed-rules : (to from : ℕ → ℕ) (g h : GameView) → IsGame g → IsGame h → length h.names ≡ length g.names
-    → AreInverse (length g.names) to from → HaveRenamedRules to g h → IsRenaming to from g h
-renamed-rules to from g h is_g is_h count inverse all = record {
+    → AreInverse (length g.names) to from → HaveRenamedRules to g h → h.ways ≡ g.ways → IsRenaming to from g h
+renamed-rules to from g h is_g is_h count inverse all ways = record {
   count = count;
   inverse = inverse;
-  win = λ c d same. wins-alike to from g h is_g is_h count inverse c d same g.rules h.rules all;
+  win = λ c d same. wins-alike to from g h is_g is_h count inverse c d same all ways;
 }
 
 -- back to the first game
@@ -107,7 +115,7 @@ module _ (to from : ℕ → ℕ) (g h : GameView) (is_g : IsGame g) (is_h : IsGa
       let li = r.inverse.from_below k lk in
       let who = r.inverse.forth k lk in
       let own = same (from k) li ∙ ap (λ (j : ℕ). contains h j d) who ∙ inside in
-      ap (λ (j : ℕ). wins (votes_of h).rules (without (length h.names) (get_or h.ranks j 0) d)) (sym who)
+      ap (λ (j : ℕ). wins (votes_of h) (without (length h.names) (get_or h.ranks j 0) d)) (sym who)
       ∙ sym (r.win _ _ (fewer c d (from k) same li own)) ∙ both.1 (from k) li own)
 
   -- the coalition of h with the members of one of g
@@ -198,14 +206,15 @@ same-rules : (n : ℕ) (rs : List RuleView) → AllZip (IsRenamedRule n same) rs
 same-rules n [] = tt
 same-rules n (r ∷ rs) = (record { quota = refl; weights = λ i lt. refl }, same-rules n rs)
 
-pub same-renaming : (g h : GameView) → IsGame g → IsGame h → h.names ≡ g.names → h.rules ≡ g.rules → IsRenaming same same g h
-same-renaming g h is_g is_h names rules =
+pub same-renaming : (g h : GameView) → IsGame g → IsGame h → h.names ≡ g.names → h.rules ≡ g.rules → h.ways ≡ g.ways → IsRenaming same same g h
+same-renaming g h is_g is_h names rules ways =
     renamed-rules same same g h is_g is_h (ap (λ (l : List (List ℕ)). length l) names) (same-inverse (length g.names))
-    (rw rules (same-rules (length g.names) g.rules))
+    (rw rules (same-rules (length g.names) g.rules)) ways
 
-pub same-by-members : (g h : GameView) → IsGame g → IsGame h → h.names ≡ g.names → h.rules ≡ g.rules → IsSameByMembers g h
-same-by-members g h is_g is_h names rules =
-    let alike = renamed-alike same same g h is_g is_h (same-renaming g h is_g is_h names rules) in
+pub same-by-members : (g h : GameView) → IsGame g → IsGame h → h.names ≡ g.names → h.rules ≡ g.rules → h.ways ≡ g.ways
+    → IsSameByMembers g h
+same-by-members g h is_g is_h names rules ways =
+    let alike = renamed-alike same same g h is_g is_h (same-renaming g h is_g is_h names rules ways) in
     record { size = alike.size; win = alike.win; minimal = alike.minimal; counts = alike.counts }
 
 -- ---- two members exchanged
@@ -257,8 +266,8 @@ module _ (g : GameView) (is : IsGame g) (i j : ℕ) (li : i < length g.names) (l
   pub equal-weights : HaveEqualWeights g i j → AreSymmetric g i j
   equal-weights equal c d ic jc id jd others =
       wins-alike (exchanged i j) (exchanged i j) g g is is refl (exchange (length g.names) i j li lj) c d
-      (λ k lt. alike-exchanged i j k (λ m. contains g m c) (λ m. contains g m d) (ic ∙ sym jd) (jc ∙ sym id) (others k lt)) g.rules g.rules
-      (equal-rules g.rules (recursion_from_All (λ (r : RuleView). get_or r.weights i 0 ≡ get_or r.weights j 0) g.rules equal))
+      (λ k lt. alike-exchanged i j k (λ m. contains g m c) (λ m. contains g m d) (ic ∙ sym jd) (jc ∙ sym id) (others k lt))
+      (equal-rules g.rules (recursion_from_All (λ (r : RuleView). get_or r.weights i 0 ≡ get_or r.weights j 0) g.rules equal)) refl
 
   pub symmetric-renaming : AreSymmetric g i j → IsRenaming (exchanged i j) (exchanged i j) g g
   symmetric-renaming symmetric = record {
@@ -269,8 +278,8 @@ module _ (g : GameView) (is : IsGame g) (i j : ℕ) (li : i < length g.names) (l
         let second : contains g j c ≡ contains g i d = same j lj ∙ ap (λ (k : ℕ). contains g k d) (second-exchanged i j) in
         let others : (k : ℕ) → k < length g.names → k ≢ i → k ≢ j → contains g k c ≡ contains g k d =
         λ k lt not-i not-j. same k lt ∙ ap (λ (m : ℕ). contains g m d) (other-exchanged i j k not-i not-j) in
-        let equal : contains g i c ≡ contains g j c → wins (votes_of g).rules c ≡ wins (votes_of g).rules d =
-        λ alike. (same-renaming g g is is refl refl).win c d (λ k lt. elim (cases_eq k i) [
+        let equal : contains g i c ≡ contains g j c → wins (votes_of g) c ≡ wins (votes_of g) d =
+        λ alike. (same-renaming g g is is refl refl refl).win c d (λ k lt. elim (cases_eq k i) [
           | inl e ↦ ap (λ (m : ℕ). contains g m c) e ∙ alike ∙ second ∙ ap (λ (m : ℕ). contains g m d) (sym e)
           | inr not-i ↦ elim (cases_eq k j) [
             | inl e ↦ ap (λ (m : ℕ). contains g m c) e ∙ sym alike ∙ first ∙ ap (λ (m : ℕ). contains g m d) (sym e)

@@ -159,21 +159,21 @@ module _ (g : GameView) (is : IsGame g) where
       grind (arith, nat_tests, cases_eq j i, has-gone (length g.names) (get_or g.ranks i 0) c, kept, are.member_back j lj, are.member_back i li)
 
   -- minimal coalitions, member by member
-  pub needs-members : (c : ℕ) → minimal (votes_of g) c ≡ true → (wins (votes_of g).rules c ≡ true) × ((i : ℕ) → i < length g.names
-      → contains g i c ≡ true → wins (votes_of g).rules (without (length g.names) (get_or g.ranks i 0) c) ≡ false)
+  pub needs-members : (c : ℕ) → minimal (votes_of g) c ≡ true → (wins (votes_of g) c ≡ true) × ((i : ℕ) → i < length g.names
+      → contains g i c ≡ true → wins (votes_of g) (without (length g.names) (get_or g.ranks i 0) c) ≡ false)
   needs-members c min =
       let both = (needs-each-member (votes_of g) c).0 min in
       (both.0, λ i lt inside. both.1 (get_or g.ranks i 0) ((ranks-are g is).place_below i lt) inside)
 
-  pub from-members : (c : ℕ) → wins (votes_of g).rules c ≡ true → ((i : ℕ) → i < length g.names
-      → contains g i c ≡ true → wins (votes_of g).rules (without (length g.names) (get_or g.ranks i 0) c) ≡ false)
+  pub from-members : (c : ℕ) → wins (votes_of g) c ≡ true → ((i : ℕ) → i < length g.names
+      → contains g i c ≡ true → wins (votes_of g) (without (length g.names) (get_or g.ranks i 0) c) ≡ false)
       → minimal (votes_of g) c ≡ true
   from-members c won each =
       let are = ranks-are g is in
       (needs-each-member (votes_of g) c).1 (
         won,
         λ p lt inside.
-            ap (λ (q : ℕ). wins (votes_of g).rules (without (length g.names) q c)) (sym (are.place_back p lt))
+            ap (λ (q : ℕ). wins (votes_of g) (without (length g.names) q c)) (sym (are.place_back p lt))
             ∙ each (member_at g.ranks p) (are.member_below p lt) (ap (λ (q : ℕ). has (length g.names) q c) (are.place_back p lt) ∙ inside),
       )
 

@@ -7,7 +7,7 @@ use Rattle.council_game.specs.Rules.{rule_views}
 use Rattle.council_game.specs.Inner.Parts.{game_of_parts}
 
 abbrev pub game_view : Inside → GameView
-game_view g = game_of_parts g.title g.names.items g.rules.items g.ranks.items
+game_view g = game_of_parts g.title g.names.items g.rules.items g.ways.items g.ranks.items
 
 pub record IsInside (g : Inside) : Type 0 where
   pub game : IsGame (game_view g)

@@ -26,17 +26,17 @@ returns c =
     let all = minimal_coalitions (votes_of h) in
     let is_h = c.was_checked.ensures.game in
     let is_g = c.was_checked-2.ensures.game in
-    let go = moved h g is_h is_g c.requires.names c.requires.rules in
+    let go = moved h g is_h is_g c.requires.names c.requires.rules c.requires.ways in
     let loop = c.loop-place.invariant in
     let same : c.loop-place.list ≡ map go all =
     same_lists c.loop-place.list (map go all) (loop.long ∙ sym (length-map all go))
     (λ k d lt.
     get_or_default c.loop-place.list k d 0 lt
-    ∙ sym (moved-is h g is_h is_g c.requires.names c.requires.rules (get_or all k 0) (get_or c.loop-place.list k 0) (loop.below k lt)
+    ∙ sym (moved-is h g is_h is_g c.requires.names c.requires.rules c.requires.ways (get_or all k 0) (get_or c.loop-place.list k 0) (loop.below k lt)
     (loop.moved k (omega (arith, c.loop-place-test.false, lt))))
     ∙ sym (get_or-map go all k 0 d (omega (arith, loop.long, lt)))) in
     let falls = IsNonDecreasingBy-from_sort_by_key (λ m. 2 ^ 64 - 1 - m) _ c.sort_unstable_by_key.ensures.sorted (λ a r q k. search rules) in
-    resorted h g is_h is_g c.requires.names c.requires.rules c.sort_unstable_by_key.new.self
+    resorted h g is_h is_g c.requires.names c.requires.rules c.requires.ways c.sort_unstable_by_key.new.self
     (subst (λ (l : List ℕ). IsPermutation l c.sort_unstable_by_key.new.self) same c.sort_unstable_by_key.ensures.permutation)
     (λ i j le lt.
     let room : 2 ^ length h.names ≤ 2 ^ 40 = pow_mono (few-members h is_h) in
