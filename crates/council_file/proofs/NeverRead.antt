@@ -5,10 +5,11 @@ use Rattle.std.proofs.Common.{ok_or, if◌then◌else◌, arith}
 use Rattle.std.specs.{Option.option_map_or, Str.is_utf8}
 use Rattle.toml.specs.{Data.Data, Data.Members, Data.as_str, Parse.parse_document}
 use Rattle.council_game.specs.{Game.is_title, Game.made_game, Votes.RuleView, declared.fault.GameFault.GameFault}
-use Rattle.council_game.specs.declared.fault.GameFault.TheVariants.{Read, Text, Title, Bracket}
+use Rattle.council_game.specs.declared.fault.GameFault.TheVariants.{Read, Text, Title, Ways, Bracket}
 use Rattle.council_game.specs.Fault.{◌>>=◌, refuse, refuse_at, Gives}
 use Rattle.council_file.specs.Bracket.{counted_names, game_of_bracket, symbols, rule_of}
-use Rattle.council_file.specs.File.{game_of_tree, title_from, tree_of}
+use Rattle.council_file.specs.File.{breaks_ways, game_of_tree, title_from, tree_of, ways_of}
+use Rattle.council_game.specs.Ways.{one_way}
 
 -- a fault of the bytes
 abbrev pub IsOwn : GameFault → Type 0
@@ -43,9 +44,10 @@ no_read-if : {A : Type 0} (b : Bool) (x y : Result A GameFault) → NoRead x →
 no_read-if true x y first second = first
 no_read-if false x y first second = second
 
-made : (title : Option (List ℕ)) (names : List (List ℕ)) (rules : List RuleView) → NoRead (made_game title names rules)
+made : (title : Option (List ℕ)) (names : List (List ℕ)) (rules : List RuleView) (ways : List (List ℕ))
+    → NoRead (made_game title names rules ways)
 unfolding made_game
-made title names rules = grind (arith, step, no_read-refuse, refused_at)
+made title names rules ways = grind (arith, step, no_read-refuse, refused_at)
 
 text : (o : Option (List ℕ)) → NoRead (option_map_or (λ s. if is_title s then Ok (Some s) else Err Title) o (Err Title))
 text None = record { own = tt }
@@ -55,9 +57,12 @@ titled : (o : Option Data) → NoRead (title_from o)
 titled None = record { own = tt }
 titled (Some d) = text (as_str d)
 
+ways-read : (t : Members) → NoRead (ways_of t)
+ways-read t = step _ _ (no_read-refuse (breaks_ways t) Ways tt) (λ _. record { own = tt })
+
 pub of-tree : (t : Members) → NoRead (game_of_tree t)
 unfolding game_of_tree
-of-tree t = grind (arith, step, no_read-refuse, titled, made)
+of-tree t = grind (arith, step, no_read-refuse, titled, ways-read, made)
 
 pub to-tree : (bytes : List ℕ) → NoRead (tree_of bytes)
 unfolding tree_of
@@ -65,7 +70,7 @@ to-tree bytes = step _ _ (no_read-refuse (not (is_utf8 bytes)) Text tt) (λ _. o
 
 pub of-bracket : (bytes : List ℕ) → NoRead (game_of_bracket bytes)
 unfolding game_of_bracket
-of-bracket bytes = step _ _ (or (rule_of (symbols bytes)) Bracket tt) (λ r. made None (counted_names (length r.weights)) (r ∷ []))
+of-bracket bytes = step _ _ (or (rule_of (symbols bytes)) Bracket tt) (λ r. made None (counted_names (length r.weights)) (r ∷ []) (one_way 1))
 
 -- an answer to what has no fault Read
 pub never-read : {X Y : Type 0} (view : X → Y) (answer : Result X GameFault) (wanted : Result Y GameFault) → NoRead wanted

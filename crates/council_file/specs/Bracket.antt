@@ -14,6 +14,7 @@ use Rattle.council_game.specs.declared.fault.GameFault.{GameFault}
 use Rattle.council_game.specs.declared.fault.GameFault.TheVariants.{Bracket}
 use Rattle.council_game.specs.Fault.{◌>>=◌}
 use Rattle.council_game.specs.Votes.{RuleView}
+use Rattle.council_game.specs.Ways.{one_way}
 use Rattle.council_game.specs.Game.{GameView, made_game}
 
 -- a symbol of the text: a number by its digits, a mark, or any other byte that is not blank
@@ -79,7 +80,7 @@ counted_names n = map decimal (range_with_len 1 n)
 
 -- the game of a rule without names: no title, and members 1 to n
 abbrev pub nameless_game : RuleView → Result GameView GameFault
-nameless_game r = made_game None (counted_names (length r.weights)) (r ∷ [])
+nameless_game r = made_game None (counted_names (length r.weights)) (r ∷ []) (one_way 1)
 
 unfoldable pub game_of_bracket : List ℕ → Result GameView GameFault
 game_of_bracket bytes = ok_or (rule_of (symbols bytes)) Bracket >>= nameless_game

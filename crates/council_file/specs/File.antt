@@ -11,9 +11,10 @@ use Rattle.toml.specs.Data.{Data, Items, no_items, item, Members, no_members, me
 use Rattle.toml.specs.Data.{as_table}
 use Rattle.toml.specs.Parse.{parse_document}
 use Rattle.council_game.specs.declared.fault.GameFault.{GameFault}
-use Rattle.council_game.specs.declared.fault.GameFault.TheVariants.{TooLong, Text, UnknownKey, Title, Quota, Rules, Members as NoMembers}
+use Rattle.council_game.specs.declared.fault.GameFault.TheVariants.{TooLong, Text, UnknownKey, Title, Quota, Rules, Ways, Members as NoMembers}
 use Rattle.council_game.specs.Fault.{◌>>=◌, refuse}
 use Rattle.council_game.specs.Votes.{RuleView}
+use Rattle.council_game.specs.Ways.{are_ways, one_way}
 use Rattle.council_game.specs.Game.{GameView, is_title, made_game}
 use Rattle.council_file.specs.Bracket.{is_bracket, game_of_bracket}
 
@@ -29,7 +30,7 @@ keys (member k d ms) = k ∷ keys ms
 -- ---- what stands in the tree
 
 abbrev pub top_keys : List (List ℕ)
-top_keys = codes "title" ∷ codes "quota" ∷ codes "quotas" ∷ codes "member" ∷ []
+top_keys = codes "title" ∷ codes "quota" ∷ codes "quotas" ∷ codes "ways" ∷ codes "member" ∷ []
 
 abbrev pub member_keys : List (List ℕ)
 member_keys = codes "name" ∷ codes "weight" ∷ codes "weights" ∷ []
@@ -124,6 +125,29 @@ abbrev pub rules_of : Members → List RuleView
 rules_of t = if has_key (codes "quota") t then only_rule t ∷ []
     else (let n = length (elements_at (codes "quotas") t) in map (rule_from t n) (range_with_len 0 n))
 
+-- ---- the ways
+
+-- a rule, which counts from 1 in the file; what is no number of a rule is that of none
+unfoldable pub rule_number : Data → ℕ
+rule_number d = let n = number_or 0 (Some d) in if n == 0 then RULES else n - 1
+
+unfoldable pub way_from : Data → List ℕ
+way_from d = map rule_number (elements_of d)
+
+abbrev pub named_ways : Members → List (List ℕ)
+named_ways t = map way_from (elements_at (codes "ways") t)
+
+-- the file names ways, and these are none by its quotas
+abbrev pub breaks_ways : Members → Bool
+breaks_ways t = has_key (codes "ways") t
+    && not (has_key (codes "quotas") t && are_ways (length (elements_at (codes "quotas") t)) (named_ways t))
+
+-- the ways that the file names, or else the one of all rules
+abbrev pub ways_of : Members → Result (List (List ℕ)) GameFault
+ways_of t = do
+  _ ← refuse (breaks_ways t) Ways
+  Ok (if has_key (codes "ways") t then named_ways t else one_way (length (rules_of t)))
+
 -- ---- the whole
 
 unfoldable pub tree_of : List ℕ → Result Members GameFault
@@ -137,8 +161,9 @@ game_of_tree t = do
   title ← title_of t
   _ ← refuse (breaks_rules t) Rules
   _ ← refuse (lacks_quota t) Quota
+  ways ← ways_of t
   _ ← refuse (not (are_members (member_list t))) NoMembers
-  made_game title (map name_from (member_list t)) (rules_of t)
+  made_game title (map name_from (member_list t)) (rules_of t) ways
 
 -- a bracket text, or else a TOML document
 unfoldable pub game_of : List ℕ → Result GameView GameFault

@@ -3,6 +3,7 @@ use Rattle.std.specs.Prelude.{◌≡◌, ◌<◌, ℕ, [], ◌∷◌, length, No
 use Rattle.council_game.specs.Votes.{RuleView, rule_at}
 use Rattle.council_game.specs.Ranks.{rank_places}
 use Rattle.council_game.specs.Game.{GameView}
+use Rattle.council_game.specs.Ways.{one_way}
 use Rattle.council_file.specs.Bracket.{counted_names}
 use Rattle.council_file.specs.File.{game_of}
 use Rattle.council_game.specs.Notation.{notation}
@@ -13,6 +14,7 @@ lone_game r = record {
   title = None;
   names = counted_names (length r.weights);
   rules = r ∷ [];
+  ways = one_way 1;
   ranks = rank_places r.weights;
 }
 

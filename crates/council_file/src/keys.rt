@@ -15,7 +15,7 @@ use toml::{Table, Value};
 fn is_top_key(key: &str) -> bool
     ensures { result ≡ list_any (pointwise nat_eq key.now) top_keys }
 {
-    matches!(key, "title" | "quota" | "quotas" | "member")
+    matches!(key, "title" | "quota" | "quotas" | "ways" | "member")
 }
 
 /// Returns whether a member may have the key.

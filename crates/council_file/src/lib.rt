@@ -14,6 +14,7 @@ mod reading;
 mod rules;
 mod scanner;
 mod tree;
+mod ways;
 
 pub use council_game::write_notation;
 pub use parse::parse_game;

@@ -10,6 +10,7 @@ use crate::keys::has_unknown_key;
 use crate::members::{are_members, member_list, names_of};
 use crate::rules::{breaks_rules, lacks_quota, rules_of};
 use crate::tree::{title_of, tree_of};
+use crate::ways::ways_of;
 use council_game::{Game, GameFault, copy_title, limits};
 use std::alloc::Global;
 use toml::Table;
@@ -29,13 +30,17 @@ fn game_of_tree(alloc: Global, table: &Table) -> Result<Game, GameFault>
     if lacks_quota(table) {
         return Err(GameFault::Quota);
     }
+    let ways = ways_of(alloc, table)?;
     if !are_members(member_list(table)) {
         return Err(GameFault::Members);
     }
     let title = copy_title(alloc, title)?;
     let names = names_of(alloc, member_list(table))?;
     let rules = rules_of(alloc, table)?;
-    Game::with_rules(alloc, title, names, rules)
+    match ways {
+        Some(ways) => Game::with_ways(alloc, title, names, rules, ways),
+        None => Game::with_rules(alloc, title, names, rules),
+    }
 }
 
 /// Returns the game of the bytes of a game file, or the first fault.

@@ -44,7 +44,7 @@ pub fn lightest(game: &Game) -> Option<Coalition>
 pub fn is_blocking(game: &Game, coalition: Coalition) -> bool
     ensures { IsTrue result ↔ ((c : ℕ) →
         ((i : ℕ) → i < length game.now.names → contains game.now i c ≡ true
-        → contains game.now i coalition ≡ false) → wins (votes_of game.now).rules c ≡ false) }
+        → contains game.now i coalition ≡ false) → wins (votes_of game.now) c ≡ false) }
 {
     game.was_checked();
     larger_coalitions_win();

@@ -22,7 +22,7 @@ pub fn win_together(game: &Game, first: &str, second: &str) -> Option<bool>
         × ((k : ℕ) → k < length game.now.names →
         has (length game.now.names) (slice_index game.now.ranks k) c
         ≡ list_any (λ m. m == k) (i ∷ j ∷ []))
-        × (won ≡ wins (votes_of game.now).rules c)) }
+        × (won ≡ wins (votes_of game.now) c)) }
     ensures unnamed { IfNone result
         ((position (pointwise nat_eq first.now) game.now.names ≡ None)
         ⊎ (position (pointwise nat_eq second.now) game.now.names ≡ None)) }

@@ -47,10 +47,10 @@ collects-less g P k a lt is fails = record {
 
 -- if all others lose together, a member is a vetoer
 pub needed : (g : GameView) (i all others : ℕ) → i < length g.names
-    → ((a c : ℕ) → IsSubsetOf g a c → wins (votes_of g).rules a ≡ true → wins (votes_of g).rules c ≡ true)
+    → ((a c : ℕ) → IsSubsetOf g a c → wins (votes_of g) a ≡ true → wins (votes_of g) c ≡ true)
     → ((k : ℕ) → k < length g.names → contains g k all ≡ true)
     → ((k : ℕ) → k < length g.names → k ≢ i → contains g k others ≡ contains g k all)
-    → wins (votes_of g).rules others ≡ false → IsVetoer g i
+    → wins (votes_of g) others ≡ false → IsVetoer g i
 needed g i all others li larger everyone kept lost c below won = elim (cases_Bool (contains g i c)) [
   | inl inside ↦ inside
   | inr out ↦

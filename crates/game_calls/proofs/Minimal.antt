@@ -9,7 +9,7 @@ use Rattle.council_game.specs.{Game.GameView, Game.IsGame, Game.votes_of, Member
 unfoldable pub use Rattle.council_game.specs.Votes.{minimal}
 use Rattle.council_game.proofs.Shared.{Games.votes-are, Making.ranks-are, Sets.places-within, Sets.subset-size}
 
-pub larger_wins : (v : Votes) → IsVotes v → (a c : ℕ) → IsSubset v.members a c → wins v.rules a ≡ true → wins v.rules c ≡ true
+pub larger_wins : (v : Votes) → IsVotes v → (a c : ℕ) → IsSubset v.members a c → wins v a ≡ true → wins v c ≡ true
 larger_wins v game a c inside won = wins-mono v.members a c v.rules game.rules (digits-less v.members a c inside) won
 
 pub minimal_subsets : (v : Votes) → IsVotes v → HasMinimalSubsets v
@@ -22,11 +22,11 @@ vetoers_in_all v game p lt all c below won =
     let found = minimal_subsets v game c below won in grind (arith)
 
 -- ---- of a game, member by member
-pub larger_wins-of : (g : GameView) → IsGame g → (a c : ℕ) → IsSubsetOf g a c → wins (votes_of g).rules a ≡ true
-    → wins (votes_of g).rules c ≡ true
+pub larger_wins-of : (g : GameView) → IsGame g → (a c : ℕ) → IsSubsetOf g a c → wins (votes_of g) a ≡ true
+    → wins (votes_of g) c ≡ true
 larger_wins-of g is a c inside won = larger_wins (votes_of g) (votes-are g is) a c (places-within g is a c inside) won
 
-pub minimal_subsets-of : (g : GameView) → IsGame g → (c : ℕ) → c < 2 ^ length g.names → wins (votes_of g).rules c ≡ true
+pub minimal_subsets-of : (g : GameView) → IsGame g → (c : ℕ) → c < 2 ^ length g.names → wins (votes_of g) c ≡ true
     → HasMinimalSubsetOf g c
 minimal_subsets-of g is c below won =
     let found = minimal_subsets (votes_of g) (votes-are g is) c below won in

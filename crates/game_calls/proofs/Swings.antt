@@ -14,8 +14,8 @@ use Rattle.game_calls.specs.Winning.{IsVetoer}
 use Rattle.game_calls.proofs.Minimal.{larger_wins-of, minimal_subsets-of}
 
 -- what it is to be critical
-pub critical-is : (g : GameView) (c i : ℕ) → is_critical g c i ≡ true → (contains g i c ≡ true) × (wins (votes_of g).rules c ≡ true)
-    × (wins (votes_of g).rules (without (length g.names) (get_or g.ranks i 0) c) ≡ false)
+pub critical-is : (g : GameView) (c i : ℕ) → is_critical g c i ≡ true → (contains g i c ≡ true) × (wins (votes_of g) c ≡ true)
+    × (wins (votes_of g) (without (length g.names) (get_or g.ranks i 0) c) ≡ false)
 critical-is g c i critical = grind (arith, nat_tests)
 
 -- ---- a vetoer is critical in all that win
@@ -23,7 +23,7 @@ pub without-below : (n p c : ℕ) → c < 2 ^ n → without n p c < 2 ^ n
 unfolding without
 without-below n p c below = omega (arith, below)
 
-critical-in-all : (g : GameView) (i : ℕ) → IsVetoer g i → (c : ℕ) → c < 2 ^ length g.names → is_critical g c i ≡ wins (votes_of g).rules c
+critical-in-all : (g : GameView) (i : ℕ) → IsVetoer g i → (c : ℕ) → c < 2 ^ length g.names → is_critical g c i ≡ wins (votes_of g) c
 critical-in-all g i needed c below =
     let less : ℕ = without (length g.names) (get_or g.ranks i 0) c in
     grind (arith, nat_tests, needed c below, needed less (without-below _ _ c below), has-gone (length g.names) (get_or g.ranks i 0) c)
@@ -32,7 +32,7 @@ pub vetoer_swings : (g : GameView) (i : ℕ) → IsVetoer g i → swings g i ≡
 unfolding swings winning_coalitions
 vetoer_swings g i needed =
     let n : ℕ = length g.names in
-    let won : ℕ → Bool = wins (votes_of g).rules in
+    let won : ℕ → Bool = wins (votes_of g) in
     length-filter (λ c. is_critical g c i) (down (2 ^ n))
     ∙ sum-down (λ c. cond (is_critical g c i) 1 0) (λ c. cond (won c) 1 0) (2 ^ n)
     (λ c below. ap {B = ℕ} (λ (b : Bool). cond b 1 0) (critical-in-all g i needed c below))

@@ -75,7 +75,7 @@ module _ (g : GameView) (is : IsGame g) where
       (λ k _ lt. grind (arith, nat_tests, everyone k (omega (arith, lt)))) ∙ whole r.weights n (is.full 0 _ is.has_rule) in
       let quota = by-quota g.ranks g.rules others one in (
         λ veto.
-            let lost = false_from_ne_true (wins (votes_of g).rules others) (λ still. both_ways _ (has-gone n (get_or g.ranks i 0) all (everyone i li))
+            let lost = false_from_ne_true (wins (votes_of g) others) (λ still. both_ways _ (has-gone n (get_or g.ranks i 0) all (everyone i li))
             (veto others (without-below n (get_or g.ranks i 0) all (set-below g is (λ k. true))) still)) in
             grind (arith, nat_tests, quota, lost, weigh),
         λ short. needed g i all others li (larger_wins-of g is) everyone
@@ -149,7 +149,7 @@ module _ (g : GameView) (is : IsGame g) where
               let same : s ≡ c = set-one g is s c (swap-back c below).0 below (λ k lk. swap-has c k lk ∙ grind (arith, nat_tests, inside, both)) in
               let still = wins-by less-i less-j
               (λ r le. omega (arith, le, lighter r c i li inside, lighter r s j lj are.0, ap (weighs r) same)) g.rules each in
-              grind (arith, nat_tests, inside, are.1, are.2, still, ap (wins (votes_of g).rules) same)
+              grind (arith, nat_tests, inside, are.1, are.2, still, ap (wins (votes_of g)) same)
           | inr only ↦
               let same : less-i ≡ less-j =
               set-one g is less-i less-j (without-below n _ c below) (without-below n _ s (swap-back c below).0) (λ k lk.
@@ -158,7 +158,7 @@ module _ (g : GameView) (is : IsGame g) where
               ∙ sym (without-contains g is s j k lj lk are.0)) in
               let won = wins-by s c
               (λ r le. omega (arith, le, lighter r c i li inside, lighter r s j lj are.0, ap (weighs r) same)) g.rules each in
-              grind (arith, nat_tests, inside, are.1, are.2, won, ap (wins (votes_of g).rules) same)
+              grind (arith, nat_tests, inside, are.1, are.2, won, ap (wins (votes_of g)) same)
         ]
 
     pub no_fewer : All IsMore g.rules → swings g j ≤ swings g i

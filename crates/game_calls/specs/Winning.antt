@@ -16,13 +16,13 @@ pub record HasMinimalSubset (v : Votes) (c : ℕ) : Type 0 where
 
 -- each winning coalition has such a subset
 abbrev pub HasMinimalSubsets : Votes → Type 0
-HasMinimalSubsets v = (c : ℕ) → c < 2 ^ v.members → wins v.rules c ≡ true → HasMinimalSubset v c
+HasMinimalSubsets v = (c : ℕ) → c < 2 ^ v.members → wins v c ≡ true → HasMinimalSubset v c
 
 -- a place that is in all minimal winning coalitions is in each winning coalition
 abbrev pub HasVetoersInAll : Votes → Type 0
 HasVetoersInAll v =
     (p : ℕ) → p < v.members → All (λ m. has v.members p m ≡ true) (minimal_coalitions v)
-    → (c : ℕ) → c < 2 ^ v.members → wins v.rules c ≡ true → has v.members p c ≡ true
+    → (c : ℕ) → c < 2 ^ v.members → wins v c ≡ true → has v.members p c ≡ true
 
 -- ---- of a game, member by member
 -- some minimal winning coalition has only members of c
@@ -33,7 +33,7 @@ pub record HasMinimalSubsetOf (g : GameView) (c : ℕ) : Type 0 where
 
 -- member i is a vetoer: no coalition wins without it
 abbrev pub IsVetoer : GameView → ℕ → Type 0
-IsVetoer g i = (c : ℕ) → c < 2 ^ length g.names → wins (votes_of g).rules c ≡ true → contains g i c ≡ true
+IsVetoer g i = (c : ℕ) → c < 2 ^ length g.names → wins (votes_of g) c ≡ true → contains g i c ≡ true
 
 -- member i is in each minimal winning coalition
 abbrev pub IsInAll : GameView → ℕ → Type 0
@@ -45,4 +45,4 @@ AreDisjoint g a c = (i : ℕ) → i < length g.names → contains g i a ≡ true
 
 -- no two disjoint coalitions win
 abbrev pub IsProper : GameView → Type 0
-IsProper g = (a c : ℕ) → AreDisjoint g a c → wins (votes_of g).rules a ≡ true → wins (votes_of g).rules c ≡ false
+IsProper g = (a c : ℕ) → AreDisjoint g a c → wins (votes_of g) a ≡ true → wins (votes_of g) c ≡ false

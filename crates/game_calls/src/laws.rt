@@ -54,9 +54,9 @@ pub fn names_are_distinct()
 #[tactic(auto, using(crate::proofs::Minimal::larger))]
 pub fn larger_coalitions_win()
     ensures votes { (v : Votes) → IsVotes v → (a c : ℕ) → IsSubset v.members a c
-        → wins v.rules a ≡ true → wins v.rules c ≡ true }
+        → wins v a ≡ true → wins v c ≡ true }
     ensures members { (g : GameView) → IsGame g → (a c : ℕ) → IsSubsetOf g a c
-        → wins (votes_of g).rules a ≡ true → wins (votes_of g).rules c ≡ true }
+        → wins (votes_of g) a ≡ true → wins (votes_of g) c ≡ true }
 {}
 
 /// Each winning coalition has a subset that is a minimal winning coalition.
@@ -64,7 +64,7 @@ pub fn larger_coalitions_win()
 pub fn winning_coalitions_have_minimal_ones()
     ensures votes { (v : Votes) → IsVotes v → HasMinimalSubsets v }
     ensures members { (g : GameView) → IsGame g → (c : ℕ) → c < 2 ^ length g.names
-        → wins (votes_of g).rules c ≡ true → HasMinimalSubsetOf g c }
+        → wins (votes_of g) c ≡ true → HasMinimalSubsetOf g c }
 {}
 
 /// A member of all minimal winning coalitions is a vetoer.

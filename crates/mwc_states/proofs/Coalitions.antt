@@ -63,7 +63,7 @@ module _ (v : Votes) (members : List (List ℕ)) (need : List ℕ) (game : IsVot
   abbrev n : ℕ
   n = v.members
 
-  wins-meets : (c : ℕ) → wins v.rules c ≡ meets (weigh members (set_of n c)) need
+  wins-meets : (c : ℕ) → wins v c ≡ meets (weigh members (set_of n c)) need
   unfolding wins meets
   wins-meets c =
       let t : ℕ → Bool = λ i. leb (get_or need i 0) (weigh members (set_of n c) i) in
@@ -77,7 +77,7 @@ module _ (v : Votes) (members : List (List ℕ)) (need : List ℕ) (game : IsVot
   minimal-completes c =
       let f : List Bool → Bool = λ less. not (meets (weigh members less) need) in
       let law = needs-each-member v c in
-      let less : (p : ℕ) → p < n → has n p c ≡ true → f (set (set_of n c) p false) ≡ not (wins v.rules (without n p c)) =
+      let less : (p : ℕ) → p < n → has n p c ≡ true → f (set (set_of n c) p false) ≡ not (wins v (without n p c)) =
       λ p lt inside. ap f (set-less n c p lt inside) ∙ ap not (sym (wins-meets (without n p c))) in
       same_test _ _
       (λ min.

@@ -27,7 +27,7 @@ has-below n p x c q le below prefix in' =
 still-wins : (v : Votes) (c q : ℕ) → IsVotes v → q < v.members → has v.members q c ≡ true
     → ((i : ℕ) → i < length v.rules
     → (rule_at v.rules i).quota + get_or (rule_at v.rules i).weights q 0 ≤ weight (rule_at v.rules i).weights c)
-    → wins v.rules (without v.members q c) ≡ true
+    → wins v (without v.members q c) ≡ true
 unfolding wins
 still-wins v c q game below in' free = list_all-from_AllPass _ v.rules (λ i d lt.
     let same = get_or_default v.rules i d (record { quota = 0; weights = [] }) lt in
@@ -52,7 +52,7 @@ module _ {v : Votes} {p x rest : ℕ} {es : List ℕ} (tried : Tried v p x es re
 module _ {v : Votes} {a : Cursor} (is : CursorIs v a) where
   -- ---- what is there and what comes
   -- what a winning coalition that begins with the prefix weighs by rule i
-  module _ (i c : ℕ) (below : i < a.rules) (prefix : c / 2 ^ (v.members - a.place) ≡ a.prefix) (won : wins v.rules c ≡ true) where
+  module _ (i c : ℕ) (below : i < a.rules) (prefix : c / 2 ^ (v.members - a.place) ≡ a.prefix) (won : wins v c ≡ true) where
     pub there-and-comes : weight (rule_at v.rules i).weights c ≡ (lane_at a.lanes i).sum + weight
         (drop a.place (rule_at v.rules i).weights) c
     there-and-comes = grind (arith, weight-parts (lane-here is i below).rule a.place c is.place.to, sum-here is i below)

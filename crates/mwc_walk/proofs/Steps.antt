@@ -160,7 +160,7 @@ module _ {v : Votes} {a : Cursor} (is : CursorIs v a) where
     pub win-is : list_all lane_wins (take k a.lanes) ≡ wins_at v.rules a.place a.prefix
     unfolding wins_at
     win-is =
-        rw (← all) at (lanes-pass (λ r. leb r.quota (weight (take a.place r.weights) a.prefix)) lane_wins v.rules a.lanes
+        rw (← all) at (lanes-pass (λ r. leb r.quota (weight (take a.place r.weights) a.prefix)) lane_wins v a.lanes
         (omega (arith, is.rules, is.room)) (λ i lt.
         let own = lane-here i (omega (arith, lt, is.rules)) in
         let here = sum-here i (omega (arith, lt, is.rules)) in rw (own.quota, here) refl))

@@ -78,14 +78,14 @@ module _ (g : GameView) (game : IsGame g) where
   list = winning_coalitions g
 
   abbrev won : ℕ → Bool
-  won c = wins (votes_of g).rules c
+  won c = wins (votes_of g) c
 
   full-wins : won (full n) ≡ true
   full-wins =
       let minimal : List ℕ = minimal_coalitions (votes_of g) in
       let c : ℕ = get_or minimal 0 0 in
       let are = (listed-is (votes_of g) c).0 (Contains-get_or minimal 0 0 (minimal-some g game)) in
-      wins-mono n c (full n) (votes_of g).rules (votes-are g game).rules (digits-less n c (full n) (λ p lt _. mask-has (λ p. true) n p lt))
+      wins-mono (votes_of g) c (full n) (votes-are g game) (digits-less n c (full n) (λ p lt _. mask-has (λ p. true) n p lt))
       ((needs-each-member (votes_of g) c).0 are.1).0
 
   pub one-of-all : count_of_size g n list ≡ 1

@@ -92,10 +92,10 @@ symmetric-indices g i j is li lj symmetric =
     (renamed-counts (exchanged i j) (exchanged i j) g g is is (symmetric-renaming g is i j li lj symmetric)).indices i li
     ∙ ap (indices_of_member g (minimal_coalitions (votes_of g))) (first-exchanged i j)
 
-pub counts-reordered : (g h : GameView) (t : Tables) → IsGame g → IsGame h → h.names ≡ g.names → h.rules ≡ g.rules
+pub counts-reordered : (g h : GameView) (t : Tables) → IsGame g → IsGame h → h.names ≡ g.names → h.rules ≡ g.rules → h.ways ≡ g.ways
     → AreCountsOfGame h t → AreCountsOfGame g t
-counts-reordered g h t is_g is_h names rules are =
-    let counts = renamed-counts same same g h is_g is_h (same-renaming g h is_g is_h names rules) in
+counts-reordered g h t is_g is_h names rules ways are =
+    let counts = renamed-counts same same g h is_g is_h (same-renaming g h is_g is_h names rules ways) in
     let count : t.members ≡ length g.names = are.members ∙ ap (λ (l : List (List ℕ)). length l) names in
     record {
       members = count;

@@ -82,7 +82,7 @@ module _ (g : GameView) (game : IsGame g) where
     winning-with : 2 * count_of_member g i (winning_coalitions g) ≤ 2 ^ n
     unfolding winning_coalitions
     winning-with =
-        let won : ℕ → Bool = wins (votes_of g).rules in
+        let won : ℕ → Bool = wins (votes_of g) in
         let p : ℕ = get_or g.ranks i 0 in
         let parts = counted-split n (λ c. has n p c) (λ c. won c && has n p c) (λ c. not (won c) && has n p c) (λ c _. grind (arith, nat_tests)) in
         omega (arith, count-both won (has n p) (down (2 ^ n)), parts, half n p ((ranks-are g game).place_below i lt))

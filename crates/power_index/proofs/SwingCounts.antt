@@ -22,14 +22,14 @@ module _ (g : GameView) (game : IsGame g) (i : ℕ) (lt : i < length g.names) wh
   p = get_or g.ranks i 0
 
   abbrev won : ℕ → Bool
-  won c = wins (votes_of g).rules c
+  won c = wins (votes_of g) c
 
   place : p < n
   place = (ranks-are g game).place_below i lt
 
   larger-wins : (c : ℕ) → has n p c ≡ true → won (without n p c) ≡ true → won c ≡ true
   larger-wins c inside less =
-      wins-mono n (without n p c) c (votes_of g).rules (votes-are g game).rules
+      wins-mono (votes_of g) (without n p c) c (votes-are g game)
       (digits-less n (without n p c) c (λ q below within. elim (cases_eq q p) [
         | inl same ↦ ap (λ (k : ℕ). has n k c) same ∙ inside
         | inr other ↦ sym (has-kept n q p c below place other inside) ∙ within

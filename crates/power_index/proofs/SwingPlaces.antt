@@ -6,15 +6,15 @@ use Rattle.council_game.proofs.Shared.{Renamed.as-many, Renamed.renamed-alike, R
 use Rattle.power_index.specs.Tables.{Tables}
 use Rattle.power_index.specs.Swings.{AreWinningCounts, winning_coalitions}
 
-module _ (g h : GameView) (is_g : IsGame g) (is_h : IsGame h) (names : h.names ≡ g.names) (rules : h.rules ≡ g.rules) where
+module _ (g h : GameView) (is_g : IsGame g) (is_h : IsGame h) (names : h.names ≡ g.names) (rules : h.rules ≡ g.rules) (ways : h.ways ≡ g.ways) where
   -- as many winning coalitions pass a test of their members
   same-many : (p q : ℕ → Bool) → ((c d : ℕ) → HaveSameMembers g h c d → p c ≡ q d)
       → length (filter p (winning_coalitions g)) ≡ length (filter q (winning_coalitions h))
   unfolding winning_coalitions
   same-many p q alike =
-      let r = same-renaming g h is_g is_h names rules in
-      let won = wins (votes_of g).rules in
-      let also = wins (votes_of h).rules in
+      let r = same-renaming g h is_g is_h names rules ways in
+      let won = wins (votes_of g) in
+      let also = wins (votes_of h) in
       count-both won p (down (2 ^ length g.names))
       ∙ as-many same same g h is_g is_h r (λ c. won c && p c) (λ d. also d && q d) (λ c d lc ld m k. r.win c d m k && alike c d m k)
       ∙ sym (count-both also q (down (2 ^ length h.names)))
@@ -22,14 +22,14 @@ module _ (g h : GameView) (is_g : IsGame g) (is_h : IsGame h) (names : h.names �
   same-total : length (winning_coalitions g) ≡ length (winning_coalitions h)
   unfolding winning_coalitions
   same-total =
-      let r = same-renaming g h is_g is_h names rules in
-      length-filter (wins (votes_of g).rules) (down (2 ^ length g.names))
-      ∙ as-many same same g h is_g is_h r (wins (votes_of g).rules) (wins (votes_of h).rules) (λ c d lc ld m. r.win c d m)
-      ∙ sym (length-filter (wins (votes_of h).rules) (down (2 ^ length h.names)))
+      let r = same-renaming g h is_g is_h names rules ways in
+      length-filter (wins (votes_of g)) (down (2 ^ length g.names))
+      ∙ as-many same same g h is_g is_h r (wins (votes_of g)) (wins (votes_of h)) (λ c d lc ld m. r.win c d m)
+      ∙ sym (length-filter (wins (votes_of h)) (down (2 ^ length h.names)))
 
   pub winning-reordered : (t : Tables) → AreWinningCounts h t → AreWinningCounts g t
   winning-reordered t are =
-      let alike = renamed-alike same same g h is_g is_h (same-renaming g h is_g is_h names rules) in
+      let alike = renamed-alike same same g h is_g is_h (same-renaming g h is_g is_h names rules ways) in
       let count : t.members ≡ length g.names = are.members ∙ ap (λ (l : List (List ℕ)). length l) names in
       record {
         members = count;

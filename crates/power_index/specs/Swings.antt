@@ -12,13 +12,13 @@ coalitions g = down (2 ^ length g.names)
 
 -- those that win
 unfoldable pub winning_coalitions : GameView → List ℕ
-winning_coalitions g = filter (wins (votes_of g).rules) (coalitions g)
+winning_coalitions g = filter (wins (votes_of g)) (coalitions g)
 
 -- member i is in coalition c, which wins, and loses without it
 abbrev pub is_critical : GameView → ℕ → ℕ → Bool
 is_critical g c i =
-    (contains g i c && wins (votes_of g).rules c)
-    && not (wins (votes_of g).rules (without (length g.names) (slice_index g.ranks i) c))
+    (contains g i c && wins (votes_of g) c)
+    && not (wins (votes_of g) (without (length g.names) (slice_index g.ranks i) c))
 
 -- the swings of member i: how many coalitions it is critical in
 unfoldable pub swings : GameView → ℕ → ℕ

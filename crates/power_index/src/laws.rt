@@ -60,7 +60,7 @@ pub fn tallies_are_counts()
 ///
 /// The counts of a game are those of each game of the same members and rules.
 pub fn places_change_no_count()
-    ensures { (g h : GameView) (t : Tables) → IsGame g → IsGame h → h.names ≡ g.names → h.rules ≡ g.rules
+    ensures { (g h : GameView) (t : Tables) → IsGame g → IsGame h → h.names ≡ g.names → h.rules ≡ g.rules → h.ways ≡ g.ways
         → AreCountsOfGame h t → AreCountsOfGame g t }
 {}
 
@@ -112,6 +112,6 @@ pub fn shapley_shubik_adds_up()
 /// The counts of the winning coalitions of a game are those of each game of the same members and
 /// rules.
 pub fn places_change_no_swing()
-    ensures { (g h : GameView) (t : Tables) → IsGame g → IsGame h → h.names ≡ g.names → h.rules ≡ g.rules
+    ensures { (g h : GameView) (t : Tables) → IsGame g → IsGame h → h.names ≡ g.names → h.rules ≡ g.rules → h.ways ≡ g.ways
         → AreWinningCounts h t → AreWinningCounts g t }
 {}

@@ -1,11 +1,12 @@
 -- Ways to win, and tests of their rules.
 use Rattle.council_game.proofs.Imports.{◌≡◌, ℕ, ◌<◌, ◌≤◌, Bool, true, false, List, [], ◌∷◌, length, get_or, refl, arith, list_all, list_any}
-use Rattle.council_game.proofs.Imports.{nat_tests, and_parts, ap, range_with_len, Way, way_view, way_views}
+use Rattle.council_game.proofs.Imports.{nat_tests, and_parts, ap, range_with_len, Way, way_view, way_views, suc, inl, inr, cases_Bool, cases_eq, eq-eqb, ne_eqb, ◌||◌}
 use Rattle.council_game.specs.Ways.{are_ways, covers, has_rule, is_way}
 use Rattle.std.proofs.Common.{◌&&◌, ◌==◌, ◌∙◌, sym, count_by, leb, ltb, leb-true, ltb-true}
 use Rattle.std.proofs.Math.Bool.{or-false}
-use Rattle.std.proofs.lemmas.List.{Sums.AllPass-from_list_all, Folds.list_all-map}
-use Rattle.council_game.proofs.Shared.Lists.{all-at}
+use Rattle.std.proofs.lemmas.List.{Sums.AllPass-from_list_all, Sums.list_all-from_AllPass, Folds.list_all-map, Folds.list_any_at}
+use Rattle.std.specs.Cmp.{both_ways as same_test}
+use Rattle.council_game.proofs.Shared.Lists.{all-at, all-of}
 
 -- ---- what ways are
 -- the four parts of the test
@@ -85,3 +86,52 @@ ways-none n p ([] ∷ ways) none are = absurd cc
 ways-none n p ((r ∷ way) ∷ ways) none are =
     let below = (way-rule n (r ∷ way) (and_parts _ _ are).0).1 0 0 (omega arith) in
     grind (arith, nat_tests, none r, ways-none n p ways none)
+
+-- ---- tests of rules, way by way
+pub has-own : (way : List ℕ) (k d : ℕ) → k < length way → has_rule way (get_or way k d) ≡ true
+has-own way k d lt = list_any_at (λ s. s == get_or way k d) way k d lt (eq-eqb _ _ refl)
+
+-- a way passes a test of its rules, if each of them does
+pub way-passes : (t : ℕ → Bool) (way : List ℕ) → ((r : ℕ) → has_rule way r ≡ true → t r ≡ true) → list_all t way ≡ true
+way-passes t way each = list_all-from_AllPass t way (λ k d lt. each (get_or way k d) (has-own way k d lt))
+
+pub each-passes : (t : ℕ → Bool) (way : List ℕ) (r : ℕ) → list_all t way ≡ true → has_rule way r ≡ true → t r ≡ true
+each-passes t [] r all has = absurd cc
+each-passes t (s ∷ way) r all has =
+    let parts = and_parts (t s) (list_all t way) all in
+    elim (cases_eq s r) [
+      | inl same ↦ ap t (sym same) ∙ parts.0
+      | inr other ↦ each-passes t way r parts.1 (sym (ap (λ (b : Bool). b || has_rule way r) (ne_eqb _ _ other)) ∙ has)
+    ]
+
+-- the only way has all rules
+pub one-way-passes : (n : ℕ) (ways : List (List ℕ)) (t : ℕ → Bool) → are_ways n ways ≡ true → length ways ≡ 1
+    → list_any (list_all t) ways ≡ list_all t (range_with_len 0 n)
+one-way-passes n [] t are one = absurd (omega (arith, one))
+one-way-passes n (way ∷ other ∷ ways) t are one = absurd (omega (arith, one))
+one-way-passes n (way ∷ []) t are one =
+    let below = (way-rule n way (way-is n (way ∷ []) 0 [] are (omega arith))).1 in
+    or-false (list_all t way)
+    ∙ same_test _ _ (λ all. all-of t n (λ r lt. each-passes t way r all (only-way n way r are lt)))
+    (λ all. list_all-from_AllPass t way (λ k d lt. all-at t n (get_or way k d) (below k d lt) all))
+
+-- under one rule only this rule counts
+pub one-rule-passes : (ways : List (List ℕ)) (t : ℕ → Bool) → are_ways 1 ways ≡ true → list_any (list_all t) ways ≡ t 0
+one-rule-passes ways t are =
+    let some = ways-some 1 ways are in
+    elim (cases_Bool (t 0)) [
+      | inl passes ↦
+          let zero-passes : (r : ℕ) → r < 1 → t r ≡ true = λ r lt. ap t (let e : r ≡ 0 = omega (arith, lt) in e) ∙ passes in
+          list_any_at (list_all t) ways 0 [] some.0
+          (list_all-from_AllPass t (get_or ways 0 []) (λ k d lt. zero-passes _ ((way-rule 1 _ (way-is 1 ways 0 [] are some.0)).1 k d lt)))
+          ∙ sym passes
+      | inr fails ↦ ways-none 1 t ways (λ r lt. ap t (let e : r ≡ 0 = omega (arith, lt) in e) ∙ fails) some.2 ∙ sym fails
+    ]
+
+-- some way passes
+pub some-passes : (p : List ℕ → Bool) (ways : List (List ℕ)) → list_any p ways ≡ true → (k : ℕ) × (k < length ways) × (p (get_or ways k []) ≡ true)
+some-passes p [] any = absurd cc
+some-passes p (way ∷ ways) any = elim (cases_Bool (p way)) [
+  | inl here ↦ (0, omega arith, here)
+  | inr out ↦ let found = some-passes p ways (sym (ap (λ (b : Bool). b || list_any p ways) out) ∙ any) in (suc found.0, omega (arith, found.1), found.2)
+]

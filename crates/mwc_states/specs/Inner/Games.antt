@@ -12,7 +12,7 @@ use Rattle.mwc_states.specs.declared.state.What.TheVariants.{Minimal, Winning}
 -- a coalition is counted
 abbrev pub is_counted : What → Votes → ℕ → Bool
 is_counted Minimal v c = minimal v c
-is_counted Winning v c = wins v.rules c
+is_counted Winning v c = wins v c
 
 -- those that are
 abbrev pub counted_coalitions : What → Votes → List ℕ

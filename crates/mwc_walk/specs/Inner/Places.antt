@@ -25,7 +25,7 @@ wins_at rules p x = list_all (λ r. nat_le r.quota (weight (take p r.weights) x)
 
 -- each winning coalition that begins with the prefix passes the quota of rule i by e at least
 abbrev pub IsExcess : Votes → ℕ → ℕ → ℕ → ℕ → Type 0
-IsExcess v p x i e = (c : ℕ) → c / 2 ^ (v.members - p) ≡ x → wins v.rules c ≡ true →
+IsExcess v p x i e = (c : ℕ) → c / 2 ^ (v.members - p) ≡ x → wins v c ≡ true →
     (rule_at v.rules i).quota + e ≤ weight (rule_at v.rules i).weights c
 
 abbrev pub AreExcesses : Votes → ℕ → ℕ → List ℕ → Type 0

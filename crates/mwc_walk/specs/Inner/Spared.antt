@@ -11,7 +11,7 @@ ExcessIs v p x es = (i : ℕ) → i < length v.rules →
 -- by rule i, each winning coalition that begins with the prefix weighs at least `need` from place p
 -- on
 abbrev pub IsNeed : Votes → ℕ → ℕ → ℕ → ℕ → Type 0
-IsNeed v p x i need = (c : ℕ) → c / 2 ^ (v.members - p) ≡ x → wins v.rules c ≡ true → need ≤ weight (drop p (rule_at v.rules i).weights) c
+IsNeed v p x i need = (c : ℕ) → c / 2 ^ (v.members - p) ≡ x → wins v c ≡ true → need ≤ weight (drop p (rule_at v.rules i).weights) c
 
 -- no member of the prefix can be spared
 abbrev pub NoneSpared : Votes → ℕ → ℕ → List ℕ → Type 0

@@ -7,7 +7,7 @@ use Rattle.power_index.specs.Swings.{winning_coalitions}
 use Rattle.power_index.proofs.SwingBounds.{some-lose}
 
 module _ (g : GameView) (game : IsGame g) where
-  pub none-wins : wins (votes_of g).rules 0 ≡ true → ⊥
+  pub none-wins : wins (votes_of g) 0 ≡ true → ⊥
   none-wins empty-wins =
       let inside = minimal-inside (votes_of g) 1 0 (omega arith) empty-wins in
       let none : inside.0 ≡ 0 = omega (arith, inside.1) in
@@ -19,10 +19,10 @@ module _ (g : GameView) (game : IsGame g) where
   winning-are-coalitions k d lt =
       let n : ℕ = 2 ^ length g.names in
       let c : ℕ = get_or (winning_coalitions g) k d in
-      let won = filter_passes (wins (votes_of g).rules) (down n) k d lt in
-      let below = All-filter (wins (votes_of g).rules) (λ x. x < n) (down n) (down-below n n (omega arith)) k d lt in
+      let won = filter_passes (wins (votes_of g)) (down n) k d lt in
+      let below = All-filter (wins (votes_of g)) (λ x. x < n) (down n) (down-below n n (omega arith)) k d lt in
       elim (cases_eq c 0) [
-        | inl empty ↦ absurd (none-wins (sym (ap (wins (votes_of g).rules) empty) ∙ won))
+        | inl empty ↦ absurd (none-wins (sym (ap (wins (votes_of g)) empty) ∙ won))
         | inr some ↦ (omega (arith, some), below)
       ]
 
