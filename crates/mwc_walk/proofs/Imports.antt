@@ -19,7 +19,7 @@ pub use Rattle.std.proofs.lemmas.List.{Elements.All-get_or, Elements.filter-appe
 pub use Rattle.std.proofs.lemmas.{Grind.common_steps, Grind.get_or-set_at, List.Edits.map_over_more, Nat.mul-le, Nat.Bits.bit_at_cat_low}
 pub use Rattle.std.proofs.lemmas.Bool.Decides.{nat_tests}
 pub use Rattle.std.proofs.lemmas.List.{drop_all, get_or-append_right, get_or-replicate, get_or_default, length-map}
-pub use Rattle.std.specs.{Int.trailing_zeros, List.AllByRecursion, List.list_all}
+pub use Rattle.std.specs.{Int.trailing_zeros, List.list_all, List.list_any}
 unfoldable pub use Rattle.council_game.specs.Shared.Below.{minimal_below}
 unfoldable pub use Rattle.council_game.specs.Votes.{down, has, minimal, minimal_coalitions, wins, without}
 unfoldable pub use Rattle.mwc_walk.specs.Inner.Places.{in_slice, reaches, slice_below, wins_at}

@@ -80,7 +80,7 @@ pub next-block : (x h : ℕ) → (x + 1) * 2 ^ h ≡ x * 2 ^ h + 2 ^ h
 next-block x h = omega arith
 
 -- below a winning prefix nothing is minimal but the prefix with zeros
-above-not_minimal : (v : Votes) (p x c : ℕ) → IsVotes v → p ≤ v.members → wins_at v.rules p x ≡ true → x * 2 ^ (v.members - p) < c
+above-not_minimal : (v : Votes) (p x c : ℕ) → IsVotes v → p ≤ v.members → wins_at v p x ≡ true → x * 2 ^ (v.members - p) < c
     → c < x * 2 ^ (v.members - p) + 2 ^ (v.members - p) → minimal v c ≡ true → ⊥
 unfolding has without
 above-not_minimal v p x c game le win low high min =
@@ -93,7 +93,7 @@ above-not_minimal v p x c game le win low high min =
     grind (arith, both_ways, wins-below, needs-each-member)
 
 -- a prefix that cannot reach some quota has nothing below it
-pub dead-nothing : (v : Votes) (p x : ℕ) → IsVotes v → p ≤ v.members → reaches v.rules p x ≡ false → NothingBelow v p x
+pub dead-nothing : (v : Votes) (p x : ℕ) → IsVotes v → p ≤ v.members → reaches v p x ≡ false → NothingBelow v p x
 dead-nothing v p x game le dead = λ c prefix. unfold minimal in grind (arith, and_left, false_from_ne_true, both_ways, loses-below)
 
 -- if nothing is below a prefix, it leaves the same
@@ -103,7 +103,7 @@ unfolding slice_below minimal_below
 left-nothing v k j p x nothing = grind (arith, block-prefix, filter-down_skip, next-block)
 
 -- below a winning prefix only the prefix with zeros is left
-pub left-won : (v : Votes) (k j p x : ℕ) → IsVotes v → p ≤ v.members → wins_at v.rules p x ≡ true
+pub left-won : (v : Votes) (k j p x : ℕ) → IsVotes v → p ≤ v.members → wins_at v p x ≡ true
     → slice_below v k j ((x + 1) * 2 ^ (v.members - p)) ≡ slice_below v k j (x * 2 ^ (v.members - p) + 1)
 unfolding slice_below minimal_below
 left-won v k j p x game le win =

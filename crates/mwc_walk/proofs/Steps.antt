@@ -8,12 +8,13 @@ use Rattle.mwc_walk.proofs.Imports.{get_or_default, sum, sym, drop, length-take,
 use Rattle.std.proofs.lemmas.Nat.Bits.{bit_at-trailing_zeros, bit_at-zero}
 use Rattle.std.specs.Int.Count.{trailing_of_zero}
 use Rattle.mwc_walk.specs.Inner.{Cursor.FitVisits, Cursor.Steps, Cursor.Starts, Cursor.rest_of_slice, Lanes.no_lane, Lanes.lane_reaches, Lanes.lane_wins, Places.LanesAre}
-use Rattle.std.proofs.Common.{All, cond, ltb, pow-suc, pow-add, lt-ltb, le-ltb, mul-le-mul}
+use Rattle.std.proofs.Common.{All, Bool, cond, ltb, pow-suc, pow-add, lt-ltb, le-ltb, mul-le-mul}
 use Rattle.std.proofs.lemmas.Nat.{shl_below, shl_whole}
 use Rattle.mwc_walk.proofs.Rest.{dead-nothing, left-nothing, left-won, left-take, left-none, left-all}
 use Rattle.mwc_walk.proofs.Shared.One.{one-minimal, won-odd, empty-loses, slice-short, in-slice}
 use Rattle.mwc_walk.proofs.Visits.{fit-up, fit-out, fit-in, fit-pass, fit-start}
-use Rattle.mwc_walk.proofs.Rules.{wins-more, reaches-in, full-reach, weight-step, weight-over, weight-block, rest-step, lanes-pass}
+use Rattle.mwc_walk.proofs.Rules.{wins-more, reaches-in, full-reach, weight-step, weight-over, weight-block, rest-step, lanes-pass, one-passes}
+use Rattle.mwc_walk.specs.Inner.Places.{IsWay, can_meet, meets_at}
 
 -- one digit more
 pub short-step : (p q : ℕ) → q ≡ p + 1 → 2 ^ q ≡ 2 ^ p * 2
@@ -41,7 +42,7 @@ place-up : (v : Votes) (k j p q x y : ℕ) → IsVotes v → q ≡ p + 1 → x �
 place-up v k j p q x y game next half le is = grind (arith, half-shift, short-step, both_ways, false_from_ne_true, wins-more)
 
 -- the place after
-place-down : (v : Votes) (k j p q x y : ℕ) → q ≡ p + 1 → x ≡ y / 2 → p < v.members → wins_at v.rules p x ≡ false → IsPlace v k j p x
+place-down : (v : Votes) (k j p q x y : ℕ) → q ≡ p + 1 → x ≡ y / 2 → p < v.members → wins_at v p x ≡ false → IsPlace v k j p x
     → IsPlace v k j q y
 place-down v k j p q x y next half below lost is = grind (arith, half-shift, short-step)
 
@@ -94,8 +95,8 @@ module _ (v : Votes) (p q x y : ℕ) (below : p < v.members) (next : q ≡ p + 1
   lanes-up ls twice are = (are.0, λ i lt. are.1 i lt ∙ weight-over (are.0 i lt).rule p q x y below next twice)
 
 -- a descent takes at most a visit for each place after the fixed ones
-open-most : (v : Votes) (p x most : ℕ) → cond (reaches v.rules p x) most 0 ≤ most
-open-most v p x most = cond_both (reaches v.rules p x) most 0 (λ i. i ≤ most) (λ _. omega arith) (λ _. omega arith)
+open-most : (v : Votes) (p x most : ℕ) → cond (reaches v p x) most 0 ≤ most
+open-most v p x most = cond_both (reaches v p x) most 0 (λ i. i ≤ most) (λ _. omega arith) (λ _. omega arith)
 
 module _ {v : Votes} {a : Cursor} (is : CursorIs v a) where
   -- ---- the lanes at the place
@@ -146,36 +147,41 @@ module _ {v : Votes} {a : Cursor} (is : CursorIs v a) where
   none-left stale done = grind (arith, cond-false, left-none v a.bits a.number)
 
   -- ---- a fresh place
-  -- what the tests on the lanes say of the rules
-  module _ {k : ℕ} (all : k ≡ length v.rules) where
-    pub reach-is : list_all (lane_reaches a.place) (take k a.lanes) ≡ reaches v.rules a.place a.prefix
+  -- what a test of a lane says of its rule
+  pub lane-reaches : (i : ℕ) → i < a.rules → lane_reaches a.place (lane_at a.lanes i) ≡ can_meet a.place a.prefix (rule_at v.rules i)
+  lane-reaches i below =
+      let own = lane-here i below in
+      let here = sum-here i below in
+      rw (own.quota, here, own.rest a.place is.place.to) (grind (arith, nat_tests))
+
+  pub lane-wins : (i : ℕ) → i < a.rules → lane_wins (lane_at a.lanes i) ≡ meets_at a.place a.prefix (rule_at v.rules i)
+  lane-wins i below = let own = lane-here i below in rw (own.quota, sum-here i below) refl
+
+  -- what the tests of all lanes say of a game of one way
+  module _ {k : ℕ} (all : k ≡ length v.rules) (one : length v.ways ≡ 1) where
+    pub reach-is : list_all (lane_reaches a.place) (take k a.lanes) ≡ reaches v a.place a.prefix
     unfolding reaches
     reach-is =
-        rw (← all) at (lanes-pass (λ r. leb r.quota (weight (take a.place r.weights) a.prefix + sum (drop a.place r.weights)))
-        (lane_reaches a.place) v.rules a.lanes (omega (arith, is.rules, is.room)) (λ i lt.
-        let own = lane-here i (omega (arith, lt, is.rules)) in
-        let here = sum-here i (omega (arith, lt, is.rules)) in
-        rw (own.quota, here, own.rest a.place is.place.to) (grind (arith, nat_tests))))
+        rw (← all) at (lanes-pass (can_meet a.place a.prefix) (lane_reaches a.place) v.rules a.lanes (omega (arith, is.rules, is.room))
+        (λ i lt. lane-reaches i (omega (arith, lt, is.rules)))) ∙ sym (one-passes v is.game (can_meet a.place a.prefix) one)
 
-    pub win-is : list_all lane_wins (take k a.lanes) ≡ wins_at v.rules a.place a.prefix
+    pub win-is : list_all lane_wins (take k a.lanes) ≡ wins_at v a.place a.prefix
     unfolding wins_at
     win-is =
-        rw (← all) at (lanes-pass (λ r. leb r.quota (weight (take a.place r.weights) a.prefix)) lane_wins v a.lanes
-        (omega (arith, is.rules, is.room)) (λ i lt.
-        let own = lane-here i (omega (arith, lt, is.rules)) in
-        let here = sum-here i (omega (arith, lt, is.rules)) in rw (own.quota, here) refl))
+        rw (← all) at (lanes-pass (meets_at a.place a.prefix) lane_wins v.rules a.lanes (omega (arith, is.rules, is.room))
+        (λ i lt. lane-wins i (omega (arith, lt, is.rules)))) ∙ sym (one-passes v is.game (meets_at a.place a.prefix) one)
 
   module _ (fresh : a.fresh ≡ true) where
     -- a prefix is passed by, if nothing is left below it and no visit is owed
     pass-by : slice_below v a.bits a.number (a.prefix * 2 ^ (v.members - a.place)) ≡ slice_below v a.bits a.number
         ((a.prefix + 1) * 2 ^ (v.members - a.place))
-        → (length v.rules ≡ 1 → cond (reaches v.rules a.place a.prefix) (a.place - a.bits) 0 ≡ 0)
+        → (length v.rules ≡ 1 → cond (reaches v a.place a.prefix) (a.place - a.bits) 0 ≡ 0)
         → Steps v a NotYet (record a { fresh = false })
     pass-by same none =
         let fit = fit-pass _ _ _ _ _ _ _ a.place fresh (pow_pos (v.members - a.place)) is.place.to is.fit in grind (arith, cond-true, cond-false, pow_pos)
 
     -- a prefix that cannot reach some quota is passed by
-    pub enter-dead : reaches v.rules a.place a.prefix ≡ false → Steps v a NotYet (record a { fresh = false })
+    pub enter-dead : reaches v a.place a.prefix ≡ false → Steps v a NotYet (record a { fresh = false })
     enter-dead dead = grind (arith, cond-false, dead-nothing, left-nothing, pass-by)
 
     -- so is one with nothing below it: with one rule, at the fixed places
@@ -183,7 +189,7 @@ module _ {v : Votes} {a : Cursor} (is : CursorIs v a) where
     enter-spare nothing fixed = grind (arith, left-nothing, open-most, pass-by)
 
   -- a prefix that reaches and does not win has a place after it
-  module _ (can : reaches v.rules a.place a.prefix ≡ true) (lost : wins_at v.rules a.place a.prefix ≡ false) where
+  module _ (can : reaches v a.place a.prefix ≡ true) (lost : wins_at v a.place a.prefix ≡ false) where
     pub in-room : a.place < v.members
     in-room = grind (arith, both_ways, full-reach)
 
@@ -221,14 +227,14 @@ module _ {v : Votes} {a : Cursor} (is : CursorIs v a) where
   enter-short = (fixed-mask v.members a.place a.prefix is.place.to is.game.few is.place.short).1
 
   -- ---- a winning prefix
-  module _ (won : wins_at v.rules a.place a.prefix ≡ true) where
+  module _ (won : wins_at v a.place a.prefix ≡ true) where
     -- past the fixed places it has its last place in
     pub last-in : a.bits < a.place → a.prefix % 2 ≡ 1
-    last-in lt = won-odd v.members a.place a.prefix v.rules (omega arith) is.place.to is.game.rules won (is.place.passed lt)
+    last-in lt = won-odd v is.game a.place a.prefix (omega arith) is.place.to won (is.place.passed lt)
 
     -- and with one rule it is minimal there
     pub one-is : a.bits < a.place → length v.rules ≡ 1 → minimal v (a.prefix * 2 ^ (v.members - a.place)) ≡ true
-    one-is lt one = grind (arith, one-minimal)
+    one-is lt one = one-minimal v is.game one a.place a.prefix (omega arith) is.place.to (is.place.passed lt) won
 
     -- there was a visit for it
     won-visited : 1 ≤ cond (ltb a.bits a.place) (a.prefix % 2) a.bits
@@ -310,12 +316,13 @@ pub lanes-first : (v : Votes) (k x m : ℕ) (ls : List Lane) → k ≤ v.members
 unfolding LanesAre
 lanes-first v k x m ls le mask own sums = (own, λ i lt. sums i lt ∙ rw mask (weight-block (own i lt).rule k x le))
 
-pub starts : (v : Votes) (k j x m n fixed : ℕ) (ls : List Lane) → IsVotes v → k ≤ v.members → j < 2 ^ k → n ≡ v.members
+pub starts : (v : Votes) (k j x m n w fixed : ℕ) (ls : List Lane) (sets : List (List Bool)) → w ≡ length v.ways
+    → ((i : ℕ) → i < length v.ways → IsWay v i (get_or sets i [])) → IsVotes v → k ≤ v.members → j < 2 ^ k → n ≡ v.members
     → m ≡ length v.rules → m ≤ length ls → fixed ≡ (2 ^ k - 1 - j) * 2 ^ (v.members - k) → LanesStand v ls
     → ((i : ℕ) → i < length v.rules → (lane_at ls i).sum ≡ weight (rule_at v.rules i).weights fixed) → x ≡ 2 ^ k - 1 - j
     → Starts v k j
-    (record { lanes = ls; rules = m; members = n; bits = k; number = j; prefix = x; place = k; fresh = true; visits = k })
-starts v k j x m n fixed ls game le below members rules room mask own sums prefix =
+    (record { lanes = ls; rules = m; sets = sets; ways = w; members = n; bits = k; number = j; prefix = x; place = k; fresh = true; visits = k })
+starts v k j x m n w fixed ls sets ways are game le below members rules room mask own sums prefix =
     let whole : 2 ^ k * 2 ^ (v.members - k) ≡ 2 ^ v.members = sym (pow-add 2 k (v.members - k)) ∙ ap (λ (i : ℕ). 2 ^ i) (let e : k + (v.members - k) ≡ v.members = omega (arith, le) in e) in
     let within : (x + 1) * 2 ^ (v.members - k) ≤ 2 ^ k * 2 ^ (v.members - k) = mul-le-mul (omega (arith, prefix, below)) (omega arith) in
     let fit : FitVisits v.members k k true x (2 ^ (v.members - k)) k = fit-start _ _ _ _ (omega (arith, within, whole)) in

@@ -3,14 +3,15 @@ ghost use Rattle.std.specs.Prelude.{◌≡◌, ◌≢◌, ℕ, ◌*◌, ◌+◌,
 ghost use Rattle.std.specs.Prelude.{IfSome, MatchOption};
 ghost use Rattle.council_game.specs.declared.limits.TheConstants.{BITS, MEMBERS};
 ghost use Rattle.council_game.specs.Game.{votes_of};
-ghost use Rattle.council_game.specs.Votes.{has, without};
-ghost use Rattle.mwc_walk.specs.Inner.Places.{reaches, wins_at, NothingBelow, AreExcesses, CanSpare};
+ghost use Rattle.council_game.specs.Votes.{has, minimal, without};
+ghost use Rattle.mwc_walk.specs.Inner.Places.{reaches, wins_at, in_set, NothingBelow, NothingMeets, AreExcesses, CanSpare, IsSomeWay};
 ghost use Rattle.mwc_walk.specs.Inner.Prices.{ArePrices};
 ghost use Rattle.mwc_walk.specs.Inner.Spared.{CanPassBy, ExcessIs, IsNeed, NoneSpared, Tried};
 ghost use Rattle.mwc_walk.specs.Inner.Cursor.{CursorIs, Steps, SomeSteps, Starts};
 
 use crate::lane::{Lane, all_reach, all_win, lanes_of, leave_out, take_in};
 use crate::price::PriceTable;
+use crate::rule_set::{RuleSet, sets_of};
 use crate::seek::Seek;
 use council_game::{Coalition, Game, limits};
 
@@ -24,6 +25,9 @@ pub(crate) struct Cursor {
     /// A lane for each rule; copies of the first after them.
     pub(crate) lanes: [Lane; limits::RULES],
     pub(crate) rules: usize,
+    /// The rules of each way; copies of the first after them.
+    pub(crate) sets: [RuleSet; limits::WAYS],
+    pub(crate) ways: usize,
     pub(crate) members: usize,
     /// How many places are fixed: the walk never goes back past them.
     pub(crate) bits: usize,
@@ -75,6 +79,8 @@ impl Cursor {
         Cursor {
             lanes: lanes_of(game, fixed),
             rules,
+            sets: sets_of(game),
+            ways: game.ways(),
             members,
             bits,
             number,
@@ -222,19 +228,23 @@ impl Cursor {
         ensures steps { Steps (votes_of game.now) self.old result self.new }
         ensures few { self.new.visits ≤ self.old.visits + 1 }
     {
-        if self.fresh {
-            self.enter(game, rules, prices)
-        } else {
+        if !self.fresh {
             self.back(game, rules)
+        } else if rules > 1 && self.ways > 1 {
+            self.enter_ways(game, prices)
+        } else {
+            self.enter(game, rules, prices)
         }
     }
 
-    /// Examines a fresh prefix: passes by it if no coalition below is minimal or some quota cannot
-    /// be met any more, takes in the next member if it does not win yet, and gives it if it wins.
+    /// Examines a fresh prefix of a game of one way: passes by it if no coalition below is minimal
+    /// or some quota cannot be met any more, takes in the next member if it does not win yet, and
+    /// gives it if it wins.
     #[inline(always)]
     fn enter(&mut self, game: &Game, rules: usize, prices: Option<&PriceTable>) -> Seek
         requires is { CursorIs (votes_of game.now) self.old }
         requires rules { rules ≡ length (votes_of game.now).rules }
+        requires one { length (votes_of game.now).ways ≡ 1 }
         requires prices { IfSome prices (λ t. ArePrices (votes_of game.now) t.now) }
         requires fresh { self.old.fresh ≡ true }
         ensures steps { Steps (votes_of game.now) self.old result self.new }
@@ -246,13 +256,42 @@ impl Cursor {
             return Seek::NotYet;
         }
         if !all_win(&self.lanes[..rules]) {
-            take_in(&mut self.lanes[..rules], place);
-            self.prefix = 2 * self.prefix + 1;
-            self.place += 1;
-            self.visits = self.visits.saturating_add(1);
-            return Seek::NotYet;
+            return self.take_next(game, rules);
         }
-        let found = Coalition::of_mask(mask_of(self.prefix, place, self.members));
+        self.give(game)
+    }
+
+    /// Takes in the member of the next place.
+    #[inline(always)]
+    pub(crate) fn take_next(&mut self, game: &Game, rules: usize) -> Seek
+        requires is { CursorIs (votes_of game.now) self.old }
+        requires rules { rules ≡ length (votes_of game.now).rules }
+        requires fresh { self.old.fresh ≡ true }
+        requires can { reaches (votes_of game.now) self.old.place self.old.prefix ≡ true }
+        requires lost { wins_at (votes_of game.now) self.old.place self.old.prefix ≡ false }
+        ensures steps { Steps (votes_of game.now) self.old result self.new }
+        ensures few { self.new.visits ≤ self.old.visits + 1 }
+    {
+        let place = self.place;
+        take_in(&mut self.lanes[..rules], place);
+        self.prefix = 2 * self.prefix + 1;
+        self.place += 1;
+        self.visits = self.visits.saturating_add(1);
+        Seek::NotYet
+    }
+
+    /// Gives a prefix that is a minimal coalition.
+    #[inline(always)]
+    pub(crate) fn give(&mut self, game: &Game) -> Seek
+        requires is { CursorIs (votes_of game.now) self.old }
+        requires fresh { self.old.fresh ≡ true }
+        requires won { wins_at (votes_of game.now) self.old.place self.old.prefix ≡ true }
+        requires minimal { minimal (votes_of game.now)
+            (self.old.prefix * 2 ^ ((votes_of game.now).members - self.old.place)) ≡ true }
+        ensures steps { Steps (votes_of game.now) self.old result self.new }
+        ensures few { self.new.visits ≤ self.old.visits }
+    {
+        let found = Coalition::of_mask(mask_of(self.prefix, self.place, self.members));
         self.fresh = false;
         Seek::Found(found)
     }
@@ -264,6 +303,7 @@ impl Cursor {
     fn passes_by(&self, game: &Game, rules: usize, prices: Option<&PriceTable>) -> bool
         requires is { CursorIs (votes_of game.now) self.now }
         requires rules { rules ≡ length (votes_of game.now).rules }
+        requires one_way { length (votes_of game.now).ways ≡ 1 }
         requires prices { IfSome prices (λ t. ArePrices (votes_of game.now) t.now) }
         ensures passes { CanPassBy (votes_of game.now) self.now.place self.now.prefix result }
         ensures one { result ≡ true → rules ≡ 1 → self.now.place ≡ self.now.bits }
@@ -272,7 +312,7 @@ impl Cursor {
             return true;
         }
         match prices {
-            Some(prices) => rules > 1 && self.prunes(game, prices),
+            Some(prices) => rules > 1 && self.prunes(game, &[true; limits::RULES], prices),
             None => false,
         }
     }
@@ -284,6 +324,7 @@ impl Cursor {
     fn spares_one(&self, game: &Game, rules: usize) -> bool
         requires is { CursorIs (votes_of game.now) self.now }
         requires rules { rules ≡ length (votes_of game.now).rules }
+        requires one_way { length (votes_of game.now).ways ≡ 1 }
         ensures passes { CanPassBy (votes_of game.now) self.now.place self.now.prefix result }
         ensures one { result ≡ true → rules ≡ 1 → self.now.place ≡ self.now.bits }
     {
@@ -301,7 +342,8 @@ impl Cursor {
     /// coalition, which costs a walk a third of its time.
     #[inline(never)]
     fn spares_fixed(&self, game: &Game) -> bool
-        requires { CursorIs (votes_of game.now) self.now }
+        requires is { CursorIs (votes_of game.now) self.now }
+        requires one_way { length (votes_of game.now).ways ≡ 1 }
         ensures { CanPassBy (votes_of game.now) self.now.place self.now.prefix result }
     {
         self.spares_here(game)
@@ -310,17 +352,18 @@ impl Cursor {
     /// Returns whether the prefix has a member that each rule can spare.
     #[inline(always)]
     fn spares_here(&self, game: &Game) -> bool
-        requires { CursorIs (votes_of game.now) self.now }
+        requires is { CursorIs (votes_of game.now) self.now }
+        requires one_way { length (votes_of game.now).ways ≡ 1 }
         ensures { CanPassBy (votes_of game.now) self.now.place self.now.prefix result }
     {
-        self.has_spared(game, &self.excess(game))
+        self.has_spared(game, &[true; limits::RULES], &self.excess(game))
     }
 
     /// Returns by how much the prefix passes each rule's quota; 0 if it does not. All four at once:
     /// a loop over the rules would write the array number by number, and a copy that reads it at
     /// once waits for that.
     #[inline(always)]
-    fn excess(&self, game: &Game) -> [u64; limits::RULES]
+    pub(crate) fn excess(&self, game: &Game) -> [u64; limits::RULES]
         requires { CursorIs (votes_of game.now) self.now }
         ensures { ExcessIs (votes_of game.now) self.now.place self.now.prefix result }
     {
@@ -332,39 +375,45 @@ impl Cursor {
         ]
     }
 
-    /// Returns whether the prices show that no coalition below is minimal: some rule needs more
-    /// than can still come, or what must come lets each rule pass its quota by enough to spare a
-    /// member.
+    /// Returns whether the prices show that no coalition below which meets the rules of a way is
+    /// minimal: some rule needs more than can still come, or what must come lets each rule pass its
+    /// quota by enough to spare a member.
     #[inline(never)]
-    fn prunes(&self, game: &Game, prices: &PriceTable) -> bool
+    pub(crate) fn prunes(&self, game: &Game, set: &RuleSet, prices: &PriceTable) -> bool
         requires is { CursorIs (votes_of game.now) self.now }
+        requires way { IsSomeWay (votes_of game.now) set.now }
         requires prices { ArePrices (votes_of game.now) prices.now }
-        ensures { result ≡ true → NothingBelow (votes_of game.now) self.now.place self.now.prefix }
+        ensures { result ≡ true →
+            NothingMeets (votes_of game.now) set.now self.now.place self.now.prefix }
     {
         let mut excess = [0; limits::RULES];
         for rule in 0..self.rules {
-            let lane = &self.lanes[rule];
-            let need = self.need(game, prices, rule);
-            if need > lane.rest[self.place] {
-                return true;
+            if set[rule] {
+                let lane = &self.lanes[rule];
+                let need = self.need(game, set, prices, rule);
+                if need > lane.rest[self.place] {
+                    return true;
+                }
+                excess[rule] = lane.sum.saturating_add(need).saturating_sub(lane.quota);
             }
-            excess[rule] = lane.sum.saturating_add(need).saturating_sub(lane.quota);
         }
-        self.has_spared(game, &excess)
+        self.has_spared(game, set, &excess)
     }
 
-    /// Returns what each winning coalition below gets under a rule from the places to come, at
-    /// least: what the rule lacks, and what comes with the needs of the other rules.
-    fn need(&self, game: &Game, prices: &PriceTable, rule: usize) -> u64
+    /// Returns what each coalition below that meets the rules of a set gets under one of them from
+    /// the places to come, at least: what the rule lacks, and what comes with the needs of the
+    /// others.
+    fn need(&self, game: &Game, set: &RuleSet, prices: &PriceTable, rule: usize) -> u64
         requires is { CursorIs (votes_of game.now) self.now }
         requires prices { ArePrices (votes_of game.now) prices.now }
         requires rule { rule < self.now.rules }
-        ensures { IsNeed (votes_of game.now) self.now.place self.now.prefix rule result }
+        requires inside { in_set set.now rule ≡ true }
+        ensures { IsNeed (votes_of game.now) set.now self.now.place self.now.prefix rule result }
     {
         let mut need = self.lanes[rule].lacks();
         for other in 0..self.rules {
-            if other != rule {
-                need = need.max(self.need_via_other_rule(game, prices, rule, other));
+            if other != rule && set[other] {
+                need = need.max(self.need_via_other_rule(game, set, prices, rule, other));
             }
         }
         need
@@ -375,6 +424,7 @@ impl Cursor {
     fn need_via_other_rule(
         &self,
         game: &Game,
+        set: &RuleSet,
         prices: &PriceTable,
         rule: usize,
         other: usize,
@@ -383,40 +433,56 @@ impl Cursor {
         requires prices { ArePrices (votes_of game.now) prices.now }
         requires rule { rule < self.now.rules }
         requires other { other < self.now.rules }
-        ensures { IsNeed (votes_of game.now) self.now.place self.now.prefix rule result }
+        requires inside { in_set set.now other ≡ true }
+        ensures { IsNeed (votes_of game.now) set.now self.now.place self.now.prefix rule result }
     {
         prices.by[rule][other].from[self.place].of(self.lanes[other].lacks())
     }
 
-    /// Returns whether the prefix has a member that each rule can spare if it passes its quota by
-    /// its `excess`.
+    /// Returns whether the prefix has a member that each rule of a way can spare if it passes its
+    /// quota by its `excess`.
     #[inline(always)]
-    fn has_spared(&self, game: &Game, excess: &[u64; limits::RULES]) -> bool
-        requires { CursorIs (votes_of game.now) self.now }
+    pub(crate) fn has_spared(
+        &self,
+        game: &Game,
+        set: &RuleSet,
+        excess: &[u64; limits::RULES],
+    ) -> bool
+        requires is { CursorIs (votes_of game.now) self.now }
+        requires way { IsSomeWay (votes_of game.now) set.now }
         ensures some { result ≡ true →
-            AreExcesses (votes_of game.now) self.now.place self.now.prefix excess.now →
-            NothingBelow (votes_of game.now) self.now.place self.now.prefix }
-        ensures none { result ≡ false → NoneSpared (votes_of game.now) self.now.place self.now.prefix excess.now }
+            AreExcesses (votes_of game.now) set.now self.now.place self.now.prefix excess.now →
+            NothingMeets (votes_of game.now) set.now self.now.place self.now.prefix }
+        ensures none { result ≡ false →
+            NoneSpared (votes_of game.now) set.now self.now.place self.now.prefix excess.now }
     {
-        let few = self.may_be_spared(game, excess);
-        few != 0 && self.spares_any(game, excess, few)
+        let few = self.may_be_spared(game, set, excess);
+        few != 0 && self.spares_any(game, set, excess, few)
     }
 
-    /// Returns whether each rule can spare one of a few members. Kept out of line, since there are
-    /// seldom any.
+    /// Returns whether each rule of a way can spare one of a few members. Kept out of line, since
+    /// there are seldom any.
     #[inline(never)]
-    fn spares_any(&self, game: &Game, excess: &[u64; limits::RULES], few: u64) -> bool
+    fn spares_any(
+        &self,
+        game: &Game,
+        set: &RuleSet,
+        excess: &[u64; limits::RULES],
+        few: u64,
+    ) -> bool
         requires is { CursorIs (votes_of game.now) self.now }
-        requires tried { Tried (votes_of game.now) self.now.place self.now.prefix excess.now few }
+        requires way { IsSomeWay (votes_of game.now) set.now }
+        requires tried { Tried (votes_of game.now) set.now self.now.place self.now.prefix excess.now few }
         ensures some { result ≡ true →
-            AreExcesses (votes_of game.now) self.now.place self.now.prefix excess.now →
-            NothingBelow (votes_of game.now) self.now.place self.now.prefix }
-        ensures none { result ≡ false → NoneSpared (votes_of game.now) self.now.place self.now.prefix excess.now }
+            AreExcesses (votes_of game.now) set.now self.now.place self.now.prefix excess.now →
+            NothingMeets (votes_of game.now) set.now self.now.place self.now.prefix }
+        ensures none { result ≡ false →
+            NoneSpared (votes_of game.now) set.now self.now.place self.now.prefix excess.now }
     {
         let mut rest = few;
         while rest != 0 {
             let place = self.last_place(game, rest);
-            if self.spares(game, excess, place) {
+            if self.spares(game, set, excess, place) {
                 return true;
             }
             rest &= rest - 1;
@@ -437,34 +503,40 @@ impl Cursor {
         self.members - 1 - rest.trailing_zeros() as usize
     }
 
-    /// Returns those members of the prefix that each rule may spare: a rule that passes its quota
-    /// by less than the lightest member weighs can spare only members without weight.
+    /// Returns those members of the prefix that each rule of a set may spare: a rule that passes its
+    /// quota by less than the lightest member weighs can spare only members without weight.
     #[inline(always)]
-    fn may_be_spared(&self, game: &Game, excess: &[u64; limits::RULES]) -> u64
+    fn may_be_spared(&self, game: &Game, set: &RuleSet, excess: &[u64; limits::RULES]) -> u64
         requires { CursorIs (votes_of game.now) self.now }
-        ensures { Tried (votes_of game.now) self.now.place self.now.prefix excess.now result }
+        ensures { Tried (votes_of game.now) set.now self.now.place self.now.prefix excess.now result }
     {
         let mut few = mask_of(self.prefix, self.place, self.members);
         let last = self.place.saturating_sub(1);
         for rule in 0..self.rules {
             let lane = &self.lanes[rule];
-            if excess[rule] < lane.lightest[last] {
+            if set[rule] && excess[rule] < lane.lightest[last] {
                 few &= lane.weightless;
             }
         }
         few
     }
 
-    /// Returns whether each rule can spare the member of a place.
+    /// Returns whether each rule of a set can spare the member of a place.
     #[inline(always)]
-    fn spares(&self, game: &Game, excess: &[u64; limits::RULES], place: usize) -> bool
+    fn spares(
+        &self,
+        game: &Game,
+        set: &RuleSet,
+        excess: &[u64; limits::RULES],
+        place: usize,
+    ) -> bool
         requires is { CursorIs (votes_of game.now) self.now }
         requires place { place < self.now.members }
-        ensures all { result ≡ true → CanSpare (votes_of game.now) excess.now place }
-        ensures none { result ≡ false → CanSpare (votes_of game.now) excess.now place → ⊥ }
+        ensures all { result ≡ true → CanSpare (votes_of game.now) set.now excess.now place }
+        ensures none { result ≡ false → CanSpare (votes_of game.now) set.now excess.now place → ⊥ }
     {
         for rule in 0..self.rules {
-            if self.lanes[rule].weights[place] > excess[rule] {
+            if set[rule] && self.lanes[rule].weights[place] > excess[rule] {
                 return false;
             }
         }

@@ -48,7 +48,7 @@ impl Lane {
     }
 
     /// Returns whether the quota can still be met, by all members from a place on.
-    fn reaches(&self, place: usize) -> bool
+    pub(crate) fn reaches(&self, place: usize) -> bool
         requires { place ≤ MEMBERS }
         ensures { result ≡ lane_reaches place self.now }
     {
@@ -72,7 +72,7 @@ impl Lane {
     }
 
     /// Returns whether the quota is met.
-    fn wins(&self) -> bool
+    pub(crate) fn wins(&self) -> bool
         ensures { result ≡ lane_wins self.now }
     {
         self.quota <= self.sum

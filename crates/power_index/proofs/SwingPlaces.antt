@@ -1,5 +1,5 @@
 -- The counts of winning coalitions do not depend on the places of the members.
-use Rattle.std.proofs.Common.{◌≡◌, ◌∙◌, ◌==◌, ◌&&◌, ℕ, ◌^◌, ◌<◌, List, length, Bool, filter, sym, ap, arith, cond, sum_by}
+use Rattle.std.proofs.Common.{◌≡◌, ◌∙◌, ◌==◌, ◌&&◌, ℕ, ◌^◌, List, length, Bool, filter, sym, ap, arith}
 use Rattle.std.proofs.lemmas.List.Sums.{length-filter}
 use Rattle.council_game.specs.{Game.GameView, Game.IsGame, Game.votes_of, Members.HaveSameMembers, Members.contains, Members.size_of, Votes.down, Votes.wins}
 use Rattle.council_game.proofs.Shared.{Renamed.as-many, Renamed.renamed-alike, Renamed.same, Renamed.same-renaming, Sets.count-both}

@@ -1,8 +1,8 @@
 -- Ways to win, and tests of their rules.
 use Rattle.council_game.proofs.Imports.{◌≡◌, ℕ, ◌<◌, ◌≤◌, Bool, true, false, List, [], ◌∷◌, length, get_or, refl, arith, list_all, list_any}
-use Rattle.council_game.proofs.Imports.{nat_tests, and_parts, ap, range_with_len, Way, way_view, way_views, suc, inl, inr, cases_Bool, cases_eq, eq-eqb, ne_eqb, ◌||◌}
+use Rattle.council_game.proofs.Imports.{nat_tests, and_parts, ap, range_with_len, Way, way_view, way_views, suc, inl, inr, cases_Bool, cases_eq, eq-eqb, ne_eqb, ◌||◌, cond, sum_by-cons}
 use Rattle.council_game.specs.Ways.{are_ways, covers, has_rule, is_way}
-use Rattle.std.proofs.Common.{◌&&◌, ◌==◌, ◌∙◌, sym, count_by, leb, ltb, leb-true, ltb-true}
+use Rattle.std.proofs.Common.{◌&&◌, ◌==◌, ◌∙◌, sym, count_by, leb, ltb, leb-true, ltb-true, eqb-true}
 use Rattle.std.proofs.Math.Bool.{or-false}
 use Rattle.std.proofs.lemmas.List.{Sums.AllPass-from_list_all, Sums.list_all-from_AllPass, Folds.list_all-map, Folds.list_any_at}
 use Rattle.std.specs.Cmp.{both_ways as same_test}
@@ -135,3 +135,21 @@ some-passes p (way ∷ ways) any = elim (cases_Bool (p way)) [
   | inl here ↦ (0, omega arith, here)
   | inr out ↦ let found = some-passes p ways (sym (ap (λ (b : Bool). b || list_any p ways) out) ∙ any) in (suc found.0, omega (arith, found.1), found.2)
 ]
+
+-- under one rule there is one way
+pub one-rule-one-way : (ways : List (List ℕ)) → are_ways 1 ways ≡ true → length ways ≡ 1
+one-rule-one-way [] are = absurd (omega (arith, (ways-some 1 [] are).0))
+one-rule-one-way (way ∷ []) are = refl
+one-rule-one-way (way ∷ other ∷ ways) are =
+    let all : List (List ℕ) = way ∷ other ∷ ways in
+    let first = way-rule 1 way (way-is 1 all 0 [] are (omega arith)) in
+    let second = way-rule 1 other (way-is 1 all 1 [] are (omega arith)) in
+    let zero-in : (r : ℕ) → r < 1 → has_rule way r ≡ true = λ r lt.
+    ap (has_rule way) (let low = first.1 0 0 first.0 in let e : r ≡ get_or way 0 0 = omega (arith, lt, low) in e) ∙ has-own way 0 0 first.0 in
+    let own : covers way way ≡ true = list_all-from_AllPass (has_rule way) way (λ k d lt. zero-in (get_or way k d) (first.1 k d lt)) in
+    let also : covers way other ≡ true = list_all-from_AllPass (has_rule way) other (λ k d lt. zero-in (get_or other k d) (second.1 k d lt)) in
+    let alone = AllPass-from_list_all (λ w. count_by (covers w) all == 1) all (parts 1 all are).2 0 [] (omega arith) in
+    let one : count_by (covers way) all ≡ 1 = eqb-true _ _ alone in
+    let more = sum_by-cons (λ w. cond (covers way w) 1 0) way (other ∷ ways) in
+    let most = sum_by-cons (λ w. cond (covers way w) 1 0) other ways in
+    absurd (grind (arith, nat_tests, own, also, one, more, most))

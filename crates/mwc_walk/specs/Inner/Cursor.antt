@@ -1,11 +1,11 @@
 -- How far a walk has come, and what is left to it.
-use Rattle.std.specs.Prelude.{ℕ, ◌+◌, ◌-◌, ◌*◌, ◌/◌, ◌%◌, ◌^◌, ◌≡◌, ◌≤◌, ◌<◌, Bool, true, false, if◌then◌else◌, ltb, List, [], ◌∷◌, length}
+use Rattle.std.specs.Prelude.{ℕ, ◌+◌, ◌-◌, ◌*◌, ◌/◌, ◌%◌, ◌^◌, ◌≡◌, ◌≤◌, ◌<◌, Bool, true, false, if◌then◌else◌, ltb, List, [], ◌∷◌, length, slice_index_or}
 use Rattle.council_game.specs.Votes.{Votes, IsVotes}
 use Rattle.mwc_walk.specs.declared.cursor.Cursor.{Cursor}
 use Rattle.mwc_walk.specs.declared.seek.Seek.{Seek}
 use Rattle.mwc_walk.specs.declared.seek.Seek.TheVariants.{NotYet, Found, End}
 use Rattle.mwc_walk.specs.Slices.{slice}
-use Rattle.mwc_walk.specs.Inner.Places.{slice_below, reaches, wins_at, LanesAre}
+use Rattle.mwc_walk.specs.Inner.Places.{slice_below, reaches, wins_at, IsWay, LanesAre}
 
 -- the numbers below this one are still to be looked at
 abbrev pub bound : Votes → Cursor → ℕ
@@ -27,7 +27,7 @@ new_visit c = if c.fresh then (if ltb c.bits c.place then c.prefix % 2 else c.bi
 -- the visits on the way down to a fresh prefix that can still meet each quota: a coalition is still
 -- to be given for them
 abbrev pub open_visits : Votes → Cursor → ℕ
-open_visits v c = if c.fresh then (if reaches v.rules c.place c.prefix then c.place - c.bits else 0) else 0
+open_visits v c = if c.fresh then (if reaches v c.place c.prefix then c.place - c.bits else 0) else 0
 
 -- x is the number of the first p places, at a slice, and what was passed on the way to them did not
 -- win yet
@@ -37,7 +37,7 @@ pub record IsPlace (v : Votes) (bits number p x : ℕ) : Type 0 where
   pub number_in : number < 2 ^ bits
   pub inside : x / 2 ^ (p - bits) ≡ 2 ^ bits - 1 - number
   pub short : x < 2 ^ p
-  pub passed : bits < p → wins_at v.rules (p - 1) (x / 2) ≡ false
+  pub passed : bits < p → wins_at v (p - 1) (x / 2) ≡ false
 
 -- the bounds on the visits to a slice, of which some are new and some still await their coalition,
 -- with these coalitions to come
@@ -60,6 +60,8 @@ pub record CursorIs (v : Votes) (c : Cursor) : Type 0 where
   pub game : IsVotes v
   pub members : c.members ≡ v.members
   pub rules : c.rules ≡ length v.rules
+  pub ways : c.ways ≡ length v.ways
+  pub sets : (k : ℕ) → k < length v.ways → IsWay v k (slice_index_or c.sets k [])
   pub room : c.rules ≤ length c.lanes
   pub lanes : LanesAre v c.place c.prefix c.lanes
   pub place : IsPlace v c.bits c.number c.place c.prefix

@@ -5,7 +5,7 @@ use Rattle.mwc_walk.proofs.cursor.Cursor.spares_any.Goals as goal
 pub returns-then-spares-clause-some : goal.returns-then-spares-clause-some
 returns-then-spares-clause-some c = λ _ excess.
     let last = c.last_place-place.ensures in
-    spared-nothing c.requires.is _ c.args.excess.now last.below (c.loop-rest.invariant.inside _ last.below last.inside)
+    spared-nothing c.requires.is c.args.set.now _ c.args.excess.now c.requires.way last.below (c.loop-rest.invariant.inside _ last.below last.inside)
     (c.spares.ensures.all c.if-spares.true) excess
 
 pub loop-rest-preserved : goal.loop-rest-preserved
