@@ -7,7 +7,7 @@ use Rattle.mwc_states.specs.Inner.Later.{is_able}
 use Rattle.mwc_states.proofs.Meeting.{Reaches, reach, reached}
 
 -- without a member that is not able, the others meet the need
-spared : (need row member : List ℕ) (others : ℕ → ℕ) → is_able need row member ≡ false
+pub spared : (need row member : List ℕ) (others : ℕ → ℕ) → is_able need row member ≡ false
     → Reaches (λ r. others r + get_or member r 0) need → Reaches (λ r. others r + get_or member r 0) row → Reaches others need
 unfolding is_able
 spared need row member others not_able meets_need meets_row r lt =

@@ -1,6 +1,6 @@
 -- Levels of the graph: what the states of a table leave, and the graph, one level after the other.
 use Rattle.mwc_states.proofs.Imports.{arith, nat_tests, inl, inr, length-append, cases_lt, get_or_append_left, get_or_push, What, completes}
-use Rattle.mwc_states.proofs.Imports.{zero, suc, ◌^◌, ◌≤◌, refl, drop, drop-cons, length-drop, Minimal, Winning, accepts, rows_at, link_at}
+use Rattle.mwc_states.proofs.Imports.{zero, suc, ◌^◌, ◌≤◌, refl, drop, drop-cons, length-drop, ByWays, Minimal, Winning, accepts, rows_at, link_at}
 use Rattle.mwc_states.proofs.Imports.{IsLevel, ◌≡◌, ◌∙◌, ℕ, ◌*◌, ◌+◌, ◌<◌, Bool, true, false, cond, List, [], ◌∷◌, ◌++◌, length, get_or}
 use Rattle.mwc_states.proofs.Imports.{sym, ap, IsBuilding, IsGraphOf, meets, without_one, weigh, AreDecided, Leads}
 use Rattle.mwc_states.specs.Inner.{Graphs.Continue, Tables.AreFound, Tables.IsLast}
@@ -59,17 +59,18 @@ continues what member later table next links rest few level on = record {
         on.accept (link_at links k (cond taken 1 0)) set (level.below (2 * k + cond taken 1 0)) (omega arith) ∙ sym (level.each k taken lt set)
 
 -- no level, after the last member
-ends : (what : What) (later : Rows) (table : List Rows) → IsLast table → length later ≡ 0 → (k : ℕ) (set : List Bool) → k < 2 → length set ≡ 0
+ends : (what : What) (later : Rows) (table : List Rows) → IsLast what table → length later ≡ 0 → (k : ℕ) (set : List Bool) → k < 2 → length set ≡ 0
     → accepts [] k set ≡ completes what later (get_or table k []) set
 unfolding accepts completes meets without_one weigh
 ends what later table end none zero set lt long = rw end.dead refl
 ends Minimal [] table end none (suc zero) [] lt long = rw end.complete refl
+ends ByWays [] table end none (suc zero) [] lt long = rw end.complete refl
 ends Winning [] table end none (suc zero) [] lt long = rw end.complete refl
 ends what (member ∷ later) table end none (suc zero) set lt long = absurd (omega arith)
 ends what [] table end none (suc zero) (taken ∷ set) lt long = absurd (omega arith)
 ends what later table end none (suc (suc k)) set lt long = absurd (omega arith)
 
-at-end : (what : What) (later : Rows) (table : List Rows) → IsLast table → length later ≡ 0 → Continue what later table []
+at-end : (what : What) (later : Rows) (table : List Rows) → IsLast what table → length later ≡ 0 → Continue what later table []
 at-end what later table end none = record {
   long = omega (arith, none);
   rows = sym end.two;
@@ -78,13 +79,13 @@ at-end what later table end none = record {
   accept = λ k set lt long. ends what later table end none k set (omega (arith, lt, end.two)) (omega (arith, long, none));
 }
 
-module _ (what : What) (members : Rows) (need : List ℕ) where
-  pub built-none : (room : ℕ) → 1 ≤ length members → length members ≤ 40 → room ≤ 2 ^ 26 → IsBuilding what members need [] ((need ∷ []) ∷ []) 0 room
+module _ (what : What) (members state : Rows) where
+  pub built-none : (room : ℕ) → 1 ≤ length members → length members ≤ 40 → room ≤ 2 ^ 26 → IsBuilding what members state [] (state ∷ []) 0 room
   built-none room some few room_few = record { room_few = room_few; onward = λ rest on. grind (arith, on.accept) }
 
   pub built-more : (levels : List (List ℕ)) (table next : List Rows) (links : List ℕ) (i room less : ℕ) → i < length members
-      → IsBuilding what members need levels table i room → IsLevel what (get_or members i []) (drop (i + 1) members) table links next
-      → length table ≤ room → less ≤ room → IsBuilding what members need (levels ++ links ∷ []) next (i + 1) less
+      → IsBuilding what members state levels table i room → IsLevel what (get_or members i []) (drop (i + 1) members) table links next
+      → length table ≤ room → less ≤ room → IsBuilding what members state (levels ++ links ∷ []) next (i + 1) less
   built-more levels table next links i room less lt built level few le = record {
     room_few = omega (arith, le, built.room_few);
     onward = λ rest on.
@@ -92,8 +93,8 @@ module _ (what : What) (members : Rows) (need : List ℕ) where
         rw (append_assoc levels (links ∷ []) rest) (built.onward (links ∷ rest) (rw parts (continues what _ _ table next links rest (omega (arith, few, built.room_few)) level on)));
   }
 
-  pub built-all : (levels : List (List ℕ)) (table : List Rows) (i room : ℕ) → i ≡ length members → IsLast table → IsBuilding what members need levels table i room
-      → IsGraphOf what members need levels
+  pub built-all : (levels : List (List ℕ)) (table : List Rows) (i room : ℕ) → i ≡ length members → IsLast what table → IsBuilding what members state levels table i room
+      → IsGraphOf what members state levels
   built-all levels table i room end last built =
       rw append-nil at (built.onward [] (at-end what _ table last (omega (arith, length-drop i members, end))))
 

@@ -2,7 +2,7 @@
 pub use Rattle.council_game.specs.{Coalitions.has, Coalitions.size, declared.limits.TheConstants.RULES}
 pub use Rattle.council_game.specs.Game.{votes_of}
 pub use Rattle.mwc_states.specs.Inner.Counting.{IsWithin, count_at, with_fewer, with_later, worth}
-pub use Rattle.mwc_states.specs.declared.{choices.Choices.Choices, state.What.TheVariants.Minimal, state.What.TheVariants.Winning}
+pub use Rattle.mwc_states.specs.declared.{choices.Choices.Choices, state.What.TheVariants.ByWays, state.What.TheVariants.Minimal, state.What.TheVariants.Winning}
 pub use Rattle.mwc_states.specs.Inner.{States.fits, States.misses_all, States.needs_each, Tables.AreDecided, Tables.IsLevel, Tables.Leads}
 pub use Rattle.mwc_states.specs.Inner.{Games.AreRowsOf, Graphs.IsBuilding, Graphs.IsGraphOf, Links.link_at, Links.lists, Links.rows_at}
 pub use Rattle.mwc_states.specs.{Inner.Later.IsTotal, Inner.Later.weigh_able, Inner.Sets.MOST, declared.state.What.What}

@@ -2,7 +2,7 @@
 use Rattle.mwc_states.proofs.Imports.{and_parts, ℕ, Bool, true, not, ◌&&◌, List, [], ◌∷◌, ◌++◌, get_or, take, drop, filter, ap, sym, refl}
 use Rattle.mwc_states.proofs.Imports.{without_one, arith, list_all, nat_tests, meets, misses_all, list_all-map, What, Minimal, Winning}
 use Rattle.mwc_states.proofs.Imports.{weigh, ◌≡◌, ◌∙◌, row_at, ◌+◌, ◌-◌, ◌<◌, false, cond, length, needs_each, completes, fits, Leads}
-use Rattle.mwc_states.specs.Inner.Later.{misses_left}
+use Rattle.mwc_states.specs.Inner.Later.{AreLeft, misses_left}
 use Rattle.std.specs.List.{list_any}
 use Rattle.std.proofs.{Common.take-append-drop, lemmas.List.Folds.list_all-append, lemmas.List.Folds.list_all_more}
 use Rattle.mwc_states.proofs.Meeting.{meets-through, meets-left}
@@ -77,19 +77,24 @@ module _ (members : List (List ℕ)) (member : List ℕ) (taken : Bool) (old nee
   unfolding completes
   leads-dead left leads any set = leads set ∙ none-completes members need left set any
 
-  pub leads-winning : Leads Winning members member taken (old ∷ misses) (need ∷ [])
+  pub leads-unmet : ((set : List Bool) → meets (weigh members set) need ≡ false) → Leads Minimal members member taken (old ∷ misses) []
   unfolding completes
-  leads-winning set = sym (alike set)
-
-  pub leads-unmet : (what : What) → ((set : List Bool) → meets (weigh members set) need ≡ false)
-      → Leads what members member taken (old ∷ misses) []
-  unfolding completes
-  leads-unmet Minimal unmet set = grind (arith, nat_tests, alike set, unmet set)
-  leads-unmet Winning unmet set = grind (arith, nat_tests, alike set, unmet set)
+  leads-unmet unmet set = grind (arith, nat_tests, alike set, unmet set)
 
 pub no-state : (what : What) (members state : List (List ℕ)) (set : List Bool) → length state ≡ 0 → completes what members state set ≡ false
 unfolding completes
 no-state what members [] set none = cc
 no-state what members (row ∷ rows) set none = absurd (omega arith)
+
+-- for winning coalitions the needs are all
+pub meets-some : (members rows : List (List ℕ)) (set : List Bool) → completes Winning members rows set ≡ not (misses_all (weigh members set) rows)
+unfolding completes
+meets-some members [] set = refl
+meets-some members (row ∷ rows) set = refl
+
+pub leads-winning : (members : List (List ℕ)) (member : List ℕ) (taken : Bool) (old needs : List (List ℕ)) → AreLeft members member taken old needs
+    → Leads Winning members member taken old needs
+leads-winning members member taken old needs are set =
+    meets-some (member ∷ members) old (taken ∷ set) ∙ ap not (sym (are set)) ∙ sym (meets-some members needs set)
 
 pub ruleset missing = (nat_tests, misses_all-implied, and_parts)

@@ -7,4 +7,5 @@ mod Masks
 mod Meeting
 mod Merging
 mod Tables
+pub mod Ways
 mod Worth

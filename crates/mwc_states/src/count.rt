@@ -1,13 +1,14 @@
 //! The counts of a game.
-ghost use Rattle.std.specs.Prelude.{◌≡◌, ◌<◌, ℕ, IfOk, IfSome, length, slice_index};
+ghost use Rattle.std.specs.Prelude.{◌≡◌, ◌<◌, ℕ, [], IfOk, IfSome, length, slice_index, slice_index_or};
 ghost use Rattle.council_game.specs.Game.{votes_of};
 ghost use Rattle.council_game.specs.Votes.{rule_at};
-ghost use Rattle.mwc_states.specs.Inner.Games.{AreCountsOf, AreRowsOf, counted_coalitions};
+ghost use Rattle.mwc_states.specs.Inner.Games.{AreCountsOf, AreNeedsOf, AreRowsOf, IsNeedOf, IsStart, counted_coalitions};
+ghost use Rattle.mwc_states.specs.declared.state.What.TheVariants.{Minimal};
 ghost use Rattle.power_index.specs.Tables.{AreCountsOfGame};
 ghost use Rattle.power_index.specs.Swings.{AreWinningCounts};
 
 use crate::graph::build;
-use crate::row::Row;
+use crate::row::{Row, ZERO};
 use crate::set_counts::{SetCounts, count};
 use crate::state::What;
 use council_game::{Game, Gate, Memory};
@@ -29,12 +30,41 @@ fn weights_at(game: &Game, place: usize) -> Row
     })
 }
 
-/// Returns the quotas of a game.
-fn quotas(game: &Game) -> Row
-    ensures { (r : ℕ) → slice_index result r ≡ (rule_at (votes_of game.now).rules r).quota }
+/// Returns the need of a way: the quotas of its rules.
+fn need_of(game: &Game, way: usize) -> Row
+    requires { way < length game.now.ways }
+    ensures { IsNeedOf (votes_of game.now).rules (slice_index_or game.now.ways way []) result }
 {
-    let rules = game.rules();
-    array::from_fn(|r| if r < rules { game.rule_quota(r) } else { 0 })
+    game.was_checked();
+    let mut need = ZERO;
+    for rule in game.way(way) {
+        need[*rule] = game.rule_quota(*rule);
+    }
+    need
+}
+
+/// Lists the needs of the ways of a game.
+fn needs(alloc: Global, game: &Game) -> Result<Vec<Row>, Memory>
+    ensures { IfOk result (λ rows. AreNeedsOf (votes_of game.now) rows.items
+        (length game.now.ways)) }
+{
+    let mut rows = Vec::with_capacity(alloc, game.ways())?;
+    for way in 0..game.ways() {
+        rows.push(need_of(game, way))?;
+    }
+    Ok(rows)
+}
+
+/// Returns the state of the game in which no member is decided.
+fn start(alloc: Global, game: &Game, what: What) -> Result<Vec<Row>, Memory>
+    ensures { IfOk result (λ state. IsStart what (votes_of game.now) state.items) }
+{
+    let mut state = needs(alloc, game)?;
+    if let What::ByWays = what {
+        let head = [state.len() as u64, 0, 0, 0];
+        state.insert(0, head)?;
+    }
+    Ok(state)
 }
 
 /// Lists the weights of the members by rank place.
@@ -58,18 +88,19 @@ fn count_sets<G: Gate>(
     room: usize,
     gate: &G,
 ) -> Result<Option<SetCounts>, Memory>
+    requires { what ≡ Minimal → length game.now.ways ≡ 1 }
     ensures { IfOk result (λ o. IfSome o (λ counts.
         AreCountsOf game.now (counted_coalitions what (votes_of game.now)) counts)) }
 {
     game.was_checked();
     let members = members(alloc, game)?;
-    let need = quotas(game);
+    let state = start(alloc, game, what)?;
     let mut levels = Vec::new(alloc);
     if !build(
         alloc,
         what,
         &members,
-        &need,
+        &state,
         game.rules(),
         room,
         gate,
@@ -98,7 +129,12 @@ pub fn count_by_states<G: Gate>(
 ) -> Result<Option<Box<Counts>>, Memory>
     ensures { IfOk result (λ o. IfSome o (λ counts. AreCountsOfGame game.now counts.value)) }
 {
-    let Some(counts) = count_sets(alloc, game, What::Minimal, room, gate)? else {
+    let what = if game.ways() == 1 {
+        What::Minimal
+    } else {
+        What::ByWays
+    };
+    let Some(counts) = count_sets(alloc, game, what, room, gate)? else {
         return Ok(None);
     };
     Ok(Some(Box::new(alloc, Counts::of_sizes(game, counts.all, counts.each))?))

@@ -35,6 +35,7 @@ fn decide_states(
     rows: usize,
     next: &mut Table,
     left: &mut Vec<Row>,
+    misses: &mut Vec<Row>,
 ) -> Result<bool, Memory>
     requires { next.old ≡ [] }
     ensures { IfOk result (λ whole. whole ≡ true → AreDecided what member.now later.now.members.now
@@ -44,9 +45,10 @@ fn decide_states(
         if next.rows() > rows {
             return Ok(false);
         }
-        decide(what, table.state(place), member, false, later, left)?;
+        let state = table.state(place);
+        decide(what, state, member, false, later, left, misses)?;
         next.push(left)?;
-        decide(what, table.state(place), member, true, later, left)?;
+        decide(what, state, member, true, later, left, misses)?;
         next.push(left)?;
     }
     Ok(true)
@@ -78,6 +80,7 @@ fn decide_level(
         rows,
         &mut next,
         &mut Vec::new(alloc),
+        &mut Vec::new(alloc),
     )? {
         return Ok(None);
     }
@@ -102,15 +105,15 @@ fn rows_for(room: usize) -> usize {
     (room.saturating_mul(room) >> 12).clamp(64, 1 << 22)
 }
 
-/// Builds the graph of the sets of members that complete a need.
+/// Builds the graph of the sets of members that complete a state.
 ///
 /// Adds a level for each member, and the gate hears of it. Returns false if there are more than
-/// `room` states, or too many rows, or if no set of all members completes the need.
+/// `room` states, or too many rows, or if no set of all members completes the state.
 pub(crate) fn build<G: Gate>(
     alloc: Global,
     what: What,
     members: &[Row],
-    need: &Row,
+    state: &[Row],
     rules: usize,
     room: usize,
     gate: &G,
@@ -121,10 +124,10 @@ pub(crate) fn build<G: Gate>(
     requires rules { rules ≤ RULES }
     requires none { levels.old.items ≡ [] }
     ensures { IfOk result (λ whole. whole ≡ true →
-        IsGraphOf what members.now need.now (map (λ links. links.items) levels.new.items)) }
+        IsGraphOf what members.now state.now (map (λ links. links.items) levels.new.items)) }
 {
     let mut table = Table::new(alloc);
-    table.push(&[*need])?;
+    table.push(state)?;
     let rows = rows_for(room);
     let mut left = room.min(1 << 26);
     for level in 0..members.len() {
@@ -141,5 +144,5 @@ pub(crate) fn build<G: Gate>(
         levels.push(links)?;
         gate.decide(level as u8 + 1, members.len() as u8);
     }
-    Ok(table.is_last())
+    Ok(table.is_last(what))
 }

@@ -4,8 +4,8 @@ ghost use Rattle.std.specs.List.{All};
 ghost use Rattle.council_game.specs.declared.limits.TheConstants.{RULES};
 ghost use Rattle.mwc_states.specs.Inner.Sets.{weigh, meets};
 ghost use Rattle.mwc_states.specs.Inner.Sums.{AreSums};
-ghost use Rattle.mwc_states.specs.Inner.Later.{IsTotal, is_able};
-ghost use Rattle.mwc_states.specs.Inner.States.{fits, misses_all};
+ghost use Rattle.mwc_states.specs.Inner.Later.{IsTotal, is_able, is_able_any};
+ghost use Rattle.mwc_states.specs.Inner.States.{fits, fits_any, misses_all};
 
 use crate::row::{self, Row, ZERO};
 use crate::sums::Sums;
@@ -22,6 +22,19 @@ fn is_able(need: &Row, row: &Row, member: &Row) -> bool
     ensures { result ≡ is_able need.now row.now member.now }
 {
     (0..limits::RULES).any(|r| need[r] > 0 && row[r].saturating_sub(need[r]) < member[r])
+}
+
+/// Returns whether a member may be in a minimal set that meets one of some needs, and this row too.
+#[inline]
+fn is_able_any(needs: &[Row], row: &Row, member: &Row) -> bool
+    ensures { result ≡ is_able_any needs.now row.now member.now }
+{
+    for need in needs {
+        if row::meets(row, need) && !is_able(need, row, member) {
+            return false;
+        }
+    }
+    true
 }
 
 /// The later members, and the sums of their subsets.
@@ -104,6 +117,51 @@ impl<'m> Later<'m> {
         !row::meets(&able, row)
     }
 
+    /// Returns whether each minimal set that meets one of some needs misses a row.
+    ///
+    /// It may be no where yes is true, as for one need.
+    #[tactic(auto, using(crate::proofs::Ways::able_any))]
+    fn is_missed_any(&self, needs: &[Row], row: &Row) -> bool
+        ensures { (set : List Bool) → fits_any self.now.members.now needs.now set ≡ true
+            → result ≡ true → meets (weigh self.now.members.now set) row.now ≡ false }
+    {
+        row::is_row(row);
+        let mut able = ZERO;
+        for member in self.members {
+            if is_able_any(needs, row, member) {
+                able = row::add(&able, member);
+                if row::meets(&able, row) {
+                    return false;
+                }
+            }
+        }
+        !row::meets(&able, row)
+    }
+
+    /// Adds a row to the misses of a state with these needs, if it tells anything.
+    #[tactic(auto, using(crate::proofs::Leaving::missing))]
+    pub(crate) fn add_miss_any(
+        &self,
+        needs: &[Row],
+        miss: &Row,
+        misses: &mut Vec<Row>,
+    ) -> Result<(), Memory>
+        ensures { OnOk result ((set : List Bool) → fits_any self.now.members.now needs.now set ≡ true
+            → misses_all (weigh self.now.members.now set) misses.new.items
+            ≡ (misses_all (weigh self.now.members.now set) misses.old.items
+            && not (meets (weigh self.now.members.now set) miss.now))) }
+    {
+        let miss = self.raise(miss);
+        if !self.is_reachable(&miss) || row::is_implied(misses, &miss) {
+            return Ok(());
+        }
+        if self.is_missed_any(needs, &miss) {
+            return Ok(());
+        }
+        row::insert(misses, &miss)?;
+        Ok(())
+    }
+
     /// Returns a row that the sets that meet a need miss just if they miss another one.
     ///
     /// It is the need itself if no such set misses that one.
@@ -138,7 +196,7 @@ impl<'m> Later<'m> {
         if self.is_missed(need, &miss) {
             return Ok(());
         }
-        row::add_miss(misses, &miss)?;
+        row::insert(misses, &miss)?;
         Ok(())
     }
 }

@@ -87,8 +87,10 @@ pub(crate) fn is_implied(rows: &[Row], miss: &Row) -> bool
     rows.iter().any(|row| meets(miss, row))
 }
 
-/// Adds a row to the misses of a state, which are in order, and drops those that it implies.
-pub(crate) fn add_miss(rows: &mut Vec<Row>, miss: &Row) -> Result<(), Memory>
+/// Adds a row to some rows in order, and drops those that meet it.
+///
+/// Who misses it misses these too; so if one of the rows must be met, they are not needed.
+pub(crate) fn insert(rows: &mut Vec<Row>, miss: &Row) -> Result<(), Memory>
     ensures { OnOk result ((weights : ℕ → ℕ) → misses_all weights rows.new.items
         ≡ (misses_all weights rows.old.items && not (meets weights miss.now))) }
 {

@@ -1,19 +1,21 @@
 //! States.
 ghost use Rattle.std.specs.Prelude.{◌≡◌, List, Bool, true, [], ◌∷◌, OnOk};
 ghost use Rattle.mwc_states.specs.Inner.Sets.{meets, weigh};
-ghost use Rattle.mwc_states.specs.Inner.Later.{misses_left};
-ghost use Rattle.mwc_states.specs.Inner.States.{fits, misses_all};
+ghost use Rattle.mwc_states.specs.Inner.Later.{AreLeft, alive, misses_left, misses_left_any};
+ghost use Rattle.mwc_states.specs.Inner.States.{fits, fits_any, misses_all};
 ghost use Rattle.mwc_states.specs.Inner.Tables.{Leads};
-ghost use Rattle.mwc_states.specs.declared.state.What.TheVariants.{Minimal};
+ghost use Rattle.mwc_states.specs.declared.state.What.TheVariants.{ByWays, Minimal};
 
 use crate::later::Later;
 use crate::row::{self, Row};
 use council_game::Memory;
 
-/// The coalitions that are counted.
+/// The coalitions that are counted: minimal ones of a game of one way, or of several ways, or those
+/// that win.
 #[derive(Clone, Copy)]
 pub(crate) enum What {
     Minimal,
+    ByWays,
     Winning,
 }
 
@@ -68,18 +70,17 @@ fn leave(
     Ok(())
 }
 
-/// Decides a member in a state, and puts what is left into `left`: no row if no set completes it.
-pub(crate) fn decide(
-    what: What,
+/// Decides a member in a state of one need, and puts what is left into `left`.
+fn decide_one(
     state: &[Row],
     member: &Row,
     taken: bool,
     later: &Later,
     left: &mut Vec<Row>,
 ) -> Result<(), Memory>
-    ensures { OnOk result (Leads what later.now.members.now member.now taken state.now left.new.items) }
+    requires { left.old.items ≡ [] }
+    ensures { OnOk result (Leads Minimal later.now.members.now member.now taken state.now left.new.items) }
 {
-    left.clear();
     let Some((old_need, misses)) = state.split_first() else {
         return Ok(());
     };
@@ -87,9 +88,113 @@ pub(crate) fn decide(
     if !later.is_reachable(&need) {
         return Ok(());
     }
+    leave(old_need, misses, member, taken, later, &need, left)
+}
+
+/// Lists the needs that some needs leave once a member is decided.
+///
+/// Those that the later members cannot meet are gone, and those that meet another one.
+fn list_needs(
+    old: &[Row],
+    member: &Row,
+    taken: bool,
+    later: &Later,
+    needs: &mut Vec<Row>,
+) -> Result<(), Memory>
+    requires { needs.old.items ≡ [] }
+    ensures { OnOk result (AreLeft later.now.members.now member.now taken old.now needs.new.items) }
+{
+    for need in old {
+        let need = later.raise(&row::reduce(need, member, taken));
+        if later.is_reachable(&need) && !row::is_implied(needs, &need) {
+            row::insert(needs, &need)?;
+        }
+    }
+    Ok(())
+}
+
+/// Lists what the later members must miss once a member is decided: what was to be missed before,
+/// and the needs, if the member is taken.
+fn list_misses_any(
+    old_needs: &[Row],
+    old_misses: &[Row],
+    member: &Row,
+    taken: bool,
+    later: &Later,
+    needs: &[Row],
+    misses: &mut Vec<Row>,
+) -> Result<(), Memory>
+    requires { misses.old.items ≡ [] }
+    ensures { OnOk result ((set : List Bool) → fits_any later.now.members.now needs.now set ≡ true
+        → misses_all (weigh later.now.members.now set) misses.new.items
+        ≡ misses_left_any later.now.members.now member.now taken old_needs.now old_misses.now set) }
+{
+    for miss in old_misses {
+        later.add_miss_any(needs, &row::reduce(miss, member, taken), misses)?;
+    }
+    if taken {
+        for need in old_needs {
+            later.add_miss_any(needs, need, misses)?;
+        }
+    }
+    Ok(())
+}
+
+/// Drops the needs that meet a miss.
+fn keep_alive(needs: &mut Vec<Row>, misses: &[Row])
+    ensures { needs.new.items ≡ alive misses.now needs.old.items }
+{
+    needs.retain(|need| !row::is_implied(misses, need));
+}
+
+/// Decides a member in a state of several ways, and puts what is left into `left`.
+fn decide_by_ways(
+    state: &[Row],
+    member: &Row,
+    taken: bool,
+    later: &Later,
+    left: &mut Vec<Row>,
+    misses: &mut Vec<Row>,
+) -> Result<(), Memory>
+    requires { left.old.items ≡ [] }
+    ensures { OnOk result (Leads ByWays later.now.members.now member.now taken state.now left.new.items) }
+{
+    let Some((head, rows)) = state.split_first() else {
+        return Ok(());
+    };
+    let (old_needs, old_misses) = rows.split_at((head[0] as usize).min(rows.len()));
+    list_needs(old_needs, member, taken, later, left)?;
+    misses.clear();
+    list_misses_any(old_needs, old_misses, member, taken, later, left, misses)?;
+    keep_alive(left, misses);
+    if left.is_empty() {
+        return Ok(());
+    }
+    let head = [left.len() as u64, 0, 0, 0];
+    left.insert(0, head)?;
+    left.extend_from_slice(misses)?;
+    Ok(())
+}
+
+/// Decides a member in a state, and puts what is left into `left`: no row if no set completes it.
+///
+/// What `misses` has is dropped.
+pub(crate) fn decide(
+    what: What,
+    state: &[Row],
+    member: &Row,
+    taken: bool,
+    later: &Later,
+    left: &mut Vec<Row>,
+    misses: &mut Vec<Row>,
+) -> Result<(), Memory>
+    ensures { OnOk result (Leads what later.now.members.now member.now taken state.now left.new.items) }
+{
+    left.clear();
     match what {
-        What::Minimal => leave(old_need, misses, member, taken, later, &need, left)?,
-        What::Winning => left.push(need)?,
+        What::Minimal => decide_one(state, member, taken, later, left)?,
+        What::ByWays => decide_by_ways(state, member, taken, later, left, misses)?,
+        What::Winning => list_needs(state, member, taken, later, left)?,
     }
     Ok(())
 }

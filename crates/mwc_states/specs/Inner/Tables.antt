@@ -2,6 +2,7 @@
 use Rattle.std.specs.Prelude.{ℕ, ◌+◌, ◌*◌, ◌<◌, ◌≤◌, ◌≡◌, slice_index, Bool, List, [], ◌∷◌, length, map, take, drop, slice_index_or, if◌then◌else◌}
 use Rattle.std.specs.List.{All}
 use Rattle.mwc_states.specs.declared.state.What.{What}
+use Rattle.mwc_states.specs.declared.state.What.TheVariants.{Minimal, ByWays, Winning}
 use Rattle.mwc_states.specs.Inner.States.{completes}
 use Rattle.mwc_states.specs.Inner.Links.{link_at}
 
@@ -37,8 +38,14 @@ pub record IsLevel (what : What) (member : List ℕ) (later : List (List ℕ)) (
   pub each : (k : ℕ) (taken : Bool) → k < length table
       → Leads what later member taken (slice_index_or table k []) (slice_index_or next (link_at links k (if taken then 1 else 0)) [])
 
+-- some needs, and no misses
+abbrev pub state_of : What → List (List ℕ) → List (List ℕ)
+state_of Minimal needs = needs
+state_of ByWays needs = (length needs ∷ 0 ∷ 0 ∷ 0 ∷ []) ∷ needs
+state_of Winning needs = needs
+
 -- no set completes the first state, and only the empty set may complete the second one
-pub record IsLast (table : List (List (List ℕ))) : Type 0 where
+pub record IsLast (what : What) (table : List (List (List ℕ))) : Type 0 where
   pub two : length table ≡ 2
   pub dead : slice_index_or table 0 [] ≡ []
-  pub complete : slice_index_or table 1 [] ≡ (0 ∷ 0 ∷ 0 ∷ 0 ∷ []) ∷ []
+  pub complete : slice_index_or table 1 [] ≡ state_of what ((0 ∷ 0 ∷ 0 ∷ 0 ∷ []) ∷ [])

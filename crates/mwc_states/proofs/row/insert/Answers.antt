@@ -1,7 +1,7 @@
 use Rattle.mwc_states.proofs.Imports.{◌∙◌, ◌&&◌, not, get_or, ap, rules, meets, misses_all}
 use Rattle.std.proofs.{Common.tests, lemmas.Fn.filter_same}
 use Rattle.mwc_states.proofs.Leaving.{misses_all-filter, misses_all-insert}
-use Rattle.mwc_states.proofs.row.add_miss.Goals as goal
+use Rattle.mwc_states.proofs.row.insert.Goals as goal
 
 pub returns : goal.returns
 returns c weights =
