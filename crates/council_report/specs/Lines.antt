@@ -1,6 +1,6 @@
 -- The lines of a report, as bytes.
-use Rattle.std.specs.Prelude.{ℕ, List, [], ◌∷◌, ◌++◌, ◌==◌, if◌then◌else◌, map, length, codes, decimal, slice_index, slice_index_or}
-use Rattle.std.specs.List.{flat_map}
+use Rattle.std.specs.Prelude.{ℕ, List, [], ◌∷◌, ◌++◌, ◌+◌, ◌==◌, if◌then◌else◌, map, length, codes, decimal, slice_index, slice_index_or}
+use Rattle.std.specs.List.{flat_map, join_by}
 use Rattle.std.specs.Option.{option_map_or}
 use Rattle.council_game.specs.Votes.{RuleView, weight, places_of, size}
 use Rattle.council_game.specs.Ranks.{member_at}
@@ -54,6 +54,14 @@ quota_line g = line (codes "quota") (with_slashes (quotas g) ∷ [])
 
 unfoldable pub total_line : GameView → List ℕ
 total_line g = line (codes "total") (with_slashes (totals g) ∷ [])
+
+-- the rules of a way, counted from 1
+abbrev pub rules_of_way : List ℕ → List ℕ
+rules_of_way way = joined_numbers (codes ",") (map (λ r. r + 1) way)
+
+-- the ways; no line if there is one
+unfoldable pub ways_line : GameView → List ℕ
+ways_line g = if length g.ways == 1 then [] else line (codes "ways") (join_by rules_of_way (codes " ") g.ways ∷ [])
 
 -- the notation of a rule
 unfoldable pub notation_line : RuleView → List ℕ

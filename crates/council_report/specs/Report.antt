@@ -8,7 +8,7 @@ use Rattle.council_game.specs.Game.{GameView, votes_of}
 use Rattle.power_index.specs.Counting.{members, count_of_size, count_of_member, count_of_member_size}
 use Rattle.power_index.specs.Fractions.{lowest_terms}
 use Rattle.power_index.specs.Indices.{deegan_packel, public_good}
-use Rattle.council_report.specs.Lines.{title_line, members_line, quota_line, total_line, notation_line, minimal_line, coalition_line}
+use Rattle.council_report.specs.Lines.{title_line, members_line, quota_line, total_line, ways_line, notation_line, minimal_line, coalition_line}
 use Rattle.council_report.specs.Lines.{index_fields, size_line, member_line}
 
 abbrev pub notation_lines : ReportLines → GameView → List ℕ
@@ -16,7 +16,8 @@ notation_lines shown g = if shown.notation then flat_map notation_line g.rules e
 
 -- the lines of the game itself
 abbrev pub game_lines : ReportLines → GameView → List ℕ
-game_lines shown g = title_line g ++ members_line g ++ quota_line g ++ total_line g ++ notation_lines shown g
+game_lines shown g =
+    title_line g ++ members_line g ++ quota_line g ++ total_line g ++ ways_line g ++ notation_lines shown g
 
 abbrev pub coalition_lines : ReportLines → GameView → List ℕ → List ℕ
 coalition_lines shown g list = if shown.list then flat_map (coalition_line g) list else []

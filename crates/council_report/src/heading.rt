@@ -1,10 +1,10 @@
 //! The lines before those of the coalitions.
-ghost use Rattle.std.specs.Prelude.{◌<◌, length};
+ghost use Rattle.std.specs.Prelude.{◌≡◌, ◌<◌, ◌+◌, ◌++◌, [], codes, drop, length, slice_index, slice_index_or};
 ghost use Rattle.std.specs.List.{flat_map};
 ghost use Rattle.council_game.specs.Votes.{rule_at};
 ghost use Rattle.council_game.specs.Notation.{notation};
 ghost use Rattle.council_report.specs.Inner.Ready.{AppendsText};
-ghost use Rattle.council_report.specs.Lines.{notation_line};
+ghost use Rattle.council_report.specs.Lines.{notation_line, rules_of_way, ways_line};
 ghost use Rattle.council_report.specs.Inner.Lines.{heading_of, minimal_lines};
 ghost use Rattle.council_report.specs.Report.{game_lines, notation_lines};
 ghost use Rattle.council_report.specs.SwingLines.{winning_lines};
@@ -15,7 +15,53 @@ use crate::lines::{
     push_count, push_members, push_quota, push_title, push_total, push_winning_count,
 };
 use crate::output::Block;
-use council_game::{Game, write_notation};
+use council_game::{Game, push_joined, write_notation};
+
+/// Returns the number of a rule of a way, from 1.
+fn rule_number(game: &Game, way: usize, place: usize) -> u64
+    requires way { way < length game.now.ways }
+    requires place { place < length (slice_index_or game.now.ways way []) }
+    ensures { result ≡ slice_index (slice_index_or game.now.ways way []) place + 1 }
+{
+    game.was_checked();
+    game.way(way)[place] as u64 + 1
+}
+
+/// Appends the rules of a way, from 1.
+fn push_way(out: &mut Block, game: &Game, way: usize)
+    requires { way < length game.now.ways }
+    ensures { AppendsText out.old out.new (rules_of_way (slice_index_or game.now.ways way [])) }
+{
+    let rules = game.way(way).len();
+    let number = |place| rule_number(game, way, place);
+    // memory: what was refused is noted, for the whole heading
+    out.refused |= push_joined(&mut out.bytes, b",", rules, number).is_err();
+}
+
+/// Appends the ways after the first one, each after a blank.
+fn push_more_ways(out: &mut Block, game: &Game)
+    ensures { AppendsText out.old out.new (flat_map (λ way. codes " " ++ rules_of_way way)
+        (drop 1 game.now.ways)) }
+{
+    for way in 1..game.ways() {
+        out.push(b" ");
+        push_way(out, game, way);
+    }
+}
+
+/// Appends the line `ways`: the rules of each way; no line if there is one way.
+#[tactic(auto, unfolding(crate::specs::Lines::ways_line))]
+fn push_ways(out: &mut Block, game: &Game)
+    ensures { AppendsText out.old out.new (ways_line game.now) }
+{
+    if game.ways() == 1 {
+        return;
+    }
+    out.push(b"ways\t");
+    push_way(out, game, 0);
+    push_more_ways(out, game);
+    out.push(b"\n");
+}
 
 /// Appends the line `notation`: a rule as `[q; w1, .., wn]`.
 #[tactic(auto, unfolding(crate::specs::Lines::notation_line))]
@@ -73,6 +119,7 @@ fn push_game(out: &mut Block, game: &Game, shown: ReportLines)
     push_members(out, game);
     push_quota(out, game);
     push_total(out, game);
+    push_ways(out, game);
     push_notations(out, game, shown);
 }
 

@@ -11,6 +11,6 @@ returns-in-Some-clause-as_many c =
     let is : h ≡ by_contribution g =
     subst (λ (o : Option GameView). IfSome o (λ h. h ≡ by_contribution g)) c.in-Some.is c.requires in
     let same = c.places_do_not_matter.ensures g h c.was_checked.ensures.game c.was_checked-in-Some.ensures.game
-    (ap (λ (v : GameView). v.names) is) (ap (λ (v : GameView). v.rules) is) in
+    (ap (λ (v : GameView). v.names) is) (ap (λ (v : GameView). v.rules) is) (ap (λ (v : GameView). v.ways) is) in
     sym (filter-all (minimal_coalitions (votes_of h))) ∙ sym (same.counts (λ d. true) (λ d. true) (λ c d lc ld m. refl))
     ∙ filter-all (minimal_coalitions (votes_of g))
