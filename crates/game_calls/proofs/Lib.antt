@@ -8,6 +8,6 @@ pub mod LowestTermsAddUp
 pub mod Masks
 pub mod Minimal
 pub mod Ordered
-mod RuleOrder
+pub mod Ways
 pub mod Swings
 pub mod Weighing

@@ -10,7 +10,7 @@ unfoldable pub use Rattle.council_game.specs.Votes.{minimal}
 use Rattle.council_game.proofs.Shared.{Games.votes-are, Making.ranks-are, Sets.places-within, Sets.subset-size}
 
 pub larger_wins : (v : Votes) → IsVotes v → (a c : ℕ) → IsSubset v.members a c → wins v a ≡ true → wins v c ≡ true
-larger_wins v game a c inside won = wins-mono v.members a c v.rules game.rules (digits-less v.members a c inside) won
+larger_wins v game a c inside won = wins-mono v a c game (digits-less v.members a c inside) won
 
 pub minimal_subsets : (v : Votes) → IsVotes v → HasMinimalSubsets v
 minimal_subsets v game c below won =

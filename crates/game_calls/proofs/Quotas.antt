@@ -7,6 +7,7 @@ use Rattle.std.specs.List.{list_any}
 use Rattle.council_game.specs.{Fault.Answers, declared.fault.GameFault.GameFault, declared.fault.GameFault.TheVariants.Memory}
 use Rattle.council_game.specs.Votes.{RuleView, rule_at, wins}
 use Rattle.council_game.specs.Game.{GameView, IsGame, made_game, total, is_heavy, has_bad_quota}
+use Rattle.council_game.specs.Ways.{one_way}
 use Rattle.council_game.proofs.Shared.Games.{passed, makes, first-full, nowhere_below, position-none}
 use Rattle.council_game.proofs.Shared.Rankings.{length-rank_places, of-ranking}
 use Rattle.game_calls.specs.{Quotas.at_quota, Winning.IsVetoer}
@@ -32,7 +33,7 @@ another_quota g game q some met =
 
 -- the only fault that is answered is out of memory
 pub only-memory : (g : GameView) (q : ℕ) (fault : GameFault) → IsGame g → 1 ≤ q → q ≤ total (rule_at g.rules 0)
-    → Answers (Err fault) (made_game g.title g.names (record { quota = q; weights = (rule_at g.rules 0).weights } ∷ [])) → fault ≡ Memory
+    → Answers (Err fault) (made_game g.title g.names (record { quota = q; weights = (rule_at g.rules 0).weights } ∷ []) (one_way 1)) → fault ≡ Memory
 only-memory g q fault game some met gives = grind (arith, common_steps, another_quota)
 
 -- who wins at a higher quota wins at a lower one

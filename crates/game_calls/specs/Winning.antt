@@ -1,7 +1,9 @@
 -- What the laws say of winning coalitions.
-use Rattle.std.specs.Prelude.{ℕ, ◌^◌, ◌≡◌, ◌<◌, false, true, All, Contains, length}
-use Rattle.council_game.specs.Votes.{Votes, has, wins, minimal_coalitions}
-use Rattle.council_game.specs.Game.{GameView, votes_of}
+use Rattle.std.specs.Prelude.{ℕ, ◌^◌, ◌≡◌, ◌<◌, Bool, false, true, ◌&&◌, not, All, Contains, List, length, map}
+use Rattle.std.specs.List.{list_all, list_any}
+use Rattle.council_game.specs.Votes.{Votes, has, wins, minimal_coalitions, rule_at}
+use Rattle.council_game.specs.Ways.{covers, has_rule, one_way}
+use Rattle.council_game.specs.Game.{GameView, has_low_quota, votes_of}
 use Rattle.council_game.specs.Members.{contains, IsSubsetOf}
 
 -- in a game of n members, each place of a is in c
@@ -23,6 +25,10 @@ abbrev pub HasVetoersInAll : Votes → Type 0
 HasVetoersInAll v =
     (p : ℕ) → p < v.members → All (λ m. has v.members p m ≡ true) (minimal_coalitions v)
     → (c : ℕ) → c < 2 ^ v.members → wins v c ≡ true → has v.members p c ≡ true
+
+-- the same members under only the rules of a way
+abbrev pub by_way : Votes → List ℕ → Votes
+by_way v way = record { members = v.members; rules = map (rule_at v.rules) way; ways = one_way (length way) }
 
 -- ---- of a game, member by member
 -- some minimal winning coalition has only members of c
@@ -46,3 +52,17 @@ AreDisjoint g a c = (i : ℕ) → i < length g.names → contains g i a ≡ true
 -- no two disjoint coalitions win
 abbrev pub IsProper : GameView → Type 0
 IsProper g = (a c : ℕ) → AreDisjoint g a c → wins (votes_of g) a ≡ true → wins (votes_of g) c ≡ false
+
+-- each two ways have a rule in common whose quota is above half of its total
+abbrev pub have_high_rules : GameView → Bool
+have_high_rules g =
+    let is_high : ℕ → Bool = λ r. not (has_low_quota (rule_at g.rules r)) in
+    list_all (λ way. list_all (λ other. list_any (λ r. has_rule other r && is_high r) way) g.ways) g.ways
+
+-- The rules of g are those of h under other numbers, and with these numbers each way of one game
+-- has all rules of some way of the other.
+pub record HaveSameWays (to : ℕ → ℕ) (g h : GameView) : Type 0 where
+  pub below : (r : ℕ) → r < length g.rules → to r < length h.rules
+  pub rules : (r : ℕ) → r < length g.rules → rule_at h.rules (to r) ≡ rule_at g.rules r
+  pub enough : list_all (λ way. list_any (covers (map to way)) h.ways) g.ways ≡ true
+  pub needed : list_all (λ way. list_any (λ other. covers way (map to other)) g.ways) h.ways ≡ true

@@ -16,10 +16,10 @@ ghost use Rattle.power_index.specs.Counting.{count_of_member, members};
 ghost use Rattle.power_index.specs.Fractions.{SameFraction, fraction_cmp, lowest_terms, AddUpToOne};
 ghost use Rattle.power_index.specs.Indices.{deegan_packel, public_good};
 ghost use Rattle.std.specs.List.Sorted.{IsPermutation};
-ghost use Rattle.std.specs.List.{filter, range_with_len};
+ghost use Rattle.std.specs.List.{filter, list_any, range_with_len};
 ghost use Rattle.std.specs.Ordering.{nat_cmp};
 ghost use Rattle.std.specs.Prelude.{◌≡◌, ℕ, ◌<◌, ◌^◌, false, [], length, slice_index, slice_index_or, true, All, ◌+◌, ◌++◌, ◌∷◌, Bool, if◌then◌else◌, ◌↔◌, ◌*◌, ◌≤◌, List, map, Ok, Option};
-ghost use Rattle.game_calls.specs.Winning.{IsSubset, HasMinimalSubsets, HasVetoersInAll, HasMinimalSubsetOf, IsInAll, IsProper, IsVetoer};
+ghost use Rattle.game_calls.specs.Winning.{IsSubset, HasMinimalSubsets, HasVetoersInAll, HasMinimalSubsetOf, HaveSameWays, IsInAll, IsProper, IsVetoer, by_way, have_high_rules};
 ghost use Rattle.power_index.specs.Swings.{coalitions, swings, winning_coalitions};
 
 /// Nobody is in the empty coalition.
@@ -117,21 +117,31 @@ pub fn higher_quotas_keep_vetoers()
         → IsVetoer (at_quota g r) i }
 {}
 
-/// No two disjoint coalitions win if some quota is above half of the total.
+/// No two disjoint coalitions win if each two ways share a rule with a quota above half of its total.
 ///
-/// Such a game is proper (Felsenthal and Machover 1998). `Game::has_low_quotas` returns whether
-/// there is no such quota.
-#[tactic(auto, using(crate::proofs::Weighing::proper))]
+/// Such a game is proper (Felsenthal and Machover 1998). In a game of one way some rule has such a
+/// quota exactly if `Game::has_low_quotas` returns false.
 pub fn high_quotas_make_games_proper()
-    ensures { (g : GameView) → IsGame g → has_low_quotas g ≡ false → IsProper g }
+    ensures ways { (g : GameView) → IsGame g → have_high_rules g ≡ true → IsProper g }
+    ensures one { (g : GameView) → IsGame g → length g.ways ≡ 1 → has_low_quotas g ≡ false → IsProper g }
+{}
+
+/// A coalition wins exactly if it wins under the rules of some way alone.
+#[tactic(auto, using(crate::proofs::Ways::by_ways))]
+pub fn ways_win_alone()
+    ensures { (v : Votes) (c : ℕ) → wins v c ≡ list_any (λ way. wins (by_way v way) c) v.ways }
 {}
 
 /// Rules in another order change nothing: coalitions of the same members win alike.
 ///
-/// So sizes, counts and indices are the same (`names_do_not_matter`, `names_change_no_count`).
+/// Nor do ways in another order. So sizes, counts and indices are the same (`names_do_not_matter`,
+/// `names_change_no_count`).
 pub fn order_of_rules_does_not_matter()
-    ensures { (g h : GameView) → IsGame g → IsGame h → length h.names ≡ length g.names
-        → IsPermutation g.rules h.rules → IsRenaming (λ i. i) (λ i. i) g h }
+    ensures ways { (to : ℕ → ℕ) (g h : GameView) → IsGame g → IsGame h
+        → length h.names ≡ length g.names → HaveSameWays to g h → IsRenaming (λ i. i) (λ i. i) g h }
+    ensures one { (g h : GameView) → IsGame g → IsGame h → length h.names ≡ length g.names
+        → length g.ways ≡ 1 → length h.ways ≡ 1 → IsPermutation g.rules h.rules
+        → IsRenaming (λ i. i) (λ i. i) g h }
 {}
 
 /// A subset of a coalition has no more members.
@@ -141,16 +151,17 @@ pub fn subsets_are_no_larger()
         → size_of g a ≤ size_of g c }
 {}
 
-/// A game has the title, the names and the rules that it is made of.
+/// A game has the title, the names, the rules and the ways that it is made of.
 ///
 /// Its rank places are those by the first rule.
 #[tactic(auto, using(crate::proofs::Parts::made))]
 pub fn made_games_have_their_parts()
-    ensures { (title : Option (List ℕ)) (names : List (List ℕ)) (rules : List RuleView) (g : GameView)
-        → made_game title names rules ≡ Ok g → g ≡ record {
+    ensures { (title : Option (List ℕ)) (names : List (List ℕ)) (rules : List RuleView)
+        (ways : List (List ℕ)) (g : GameView) → made_game title names rules ways ≡ Ok g → g ≡ record {
           title = title;
           names = names;
           rules = rules;
+          ways = ways;
           ranks = rank_places (first_weights rules);
         } }
 {}

@@ -5,6 +5,7 @@ ghost use Rattle.council_game.specs.Fault.{Answers};
 ghost use Rattle.council_game.specs.Game.{made_game, total};
 ghost use Rattle.council_game.specs.Rules.{rule_views};
 ghost use Rattle.council_game.specs.Votes.{rule_at};
+ghost use Rattle.council_game.specs.Ways.{one_way};
 ghost use Rattle.game_calls.specs.Quotas.{at_quota, under_rules, with_weights};
 ghost use Rattle.std.specs.Prelude.{◌≡◌, ◌∷◌, ◌<◌, ◌≤◌, [], All, IfOk, None, length, map, option_map, string_bytes};
 
@@ -39,7 +40,7 @@ pub fn game_from_slices(
 ) -> Result<Game, GameFault>
     requires { length weights.now ≡ length names.now }
     ensures { Answers result (made_game None (map (λ name. name.now) names.now)
-        (record { quota = quota; weights = weights.now } ∷ [])) }
+        (record { quota = quota; weights = weights.now } ∷ []) (one_way 1)) }
 {
     let names = copy_all(alloc, names)?;
     let weights = Vec::from_slice(alloc, weights)?;
@@ -57,7 +58,8 @@ fn weights_of(alloc: Global, game: &Game) -> Result<Vec<u64>, AllocError>
     Ok(weights)
 }
 
-/// Returns the game of the same title and members under other rules.
+/// Returns the game of the same title and members under other rules: a coalition wins if it meets
+/// them all.
 ///
 /// There is at least one rule and at most 4, and each has a weight for each member.
 ///
@@ -69,7 +71,8 @@ pub fn under_rules(alloc: Global, game: &Game, rules: Vec<Rule>) -> Result<Game,
     requires few { length rules.items ≤ RULES }
     requires full { All (λ r. length r.weights.items ≡ length game.now.names) rules.items }
     ensures answer { Answers result
-        (made_game game.now.title game.now.names (rule_views rules.items)) }
+        (made_game game.now.title game.now.names (rule_views rules.items)
+        (one_way (length rules.items))) }
     ensures game { IfOk result (λ made. made ≡ under_rules game.now (rule_views rules.items)) }
 {
     made_games_have_their_parts();
@@ -90,7 +93,8 @@ pub fn under_rules(alloc: Global, game: &Game, rules: Vec<Rule>) -> Result<Game,
 pub fn with_weights(alloc: Global, game: &Game, weights: Vec<u64>) -> Result<Game, GameFault>
     requires { length weights.items ≡ length game.now.names }
     ensures answer { Answers result (made_game game.now.title game.now.names
-        (record { quota = (rule_at game.now.rules 0).quota; weights = weights.items } ∷ [])) }
+        (record { quota = (rule_at game.now.rules 0).quota; weights = weights.items } ∷ [])
+        (one_way 1)) }
     ensures game { IfOk result (λ made. made ≡ with_weights game.now weights.items) }
 {
     let mut rules = Vec::new(alloc);

@@ -65,7 +65,7 @@ module _ (v : Votes) (game : IsVotes v) (test : RuleView → Bool) where
   pub passes-some : (sets : ℕ → List Bool) → ((k : ℕ) → k < length v.ways → IsWay v k (sets k))
       → list_any (list_all (λ i. test (rule_at v.rules i))) v.ways ≡ true → (k : ℕ) × (k < length v.ways) × SetPasses test v (sets k)
   passes-some sets are any =
-      let found = some-passes (list_all (λ i. test (rule_at v.rules i))) v.ways any in
+      let found = some-passes (list_all (λ i. test (rule_at v.rules i))) v.ways [] any in
       (found.0, found.1, passes-set found.0 (sets found.0) (are found.0 found.1) found.2)
 
   pub none-passes : (sets : ℕ → List Bool) → ((k : ℕ) → k < length v.ways → IsWay v k (sets k))

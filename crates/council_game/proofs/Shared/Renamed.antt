@@ -31,7 +31,7 @@ sum-renamed f to from n r =
 -- ---- rules of renamed members
 module _ (to from : ℕ → ℕ) (g h : GameView) (is_g : IsGame g) (is_h : IsGame h) (count : length h.names ≡ length g.names)
     (inverse : AreInverse (length g.names) to from) (c d : ℕ) (same : HaveRenamedMembers to g h c d) where
-  met-alike : (rs ts : List RuleView) → AllZip (IsRenamedRule (length g.names) to) rs ts → (i : ℕ)
+  pub met-alike : (rs ts : List RuleView) → AllZip (IsRenamedRule (length g.names) to) rs ts → (i : ℕ)
       → meets_quota c (rule_at (map (rule_by_rank g.ranks) rs) i) ≡ meets_quota d (rule_at (map (rule_by_rank h.ranks) ts) i)
   met-alike [] [] all i = met-past [] i c (omega arith) ∙ sym (met-past [] i d (omega arith))
   met-alike [] (t ∷ ts) all i = absurd all

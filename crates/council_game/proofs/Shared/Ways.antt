@@ -2,7 +2,7 @@
 use Rattle.council_game.proofs.Imports.{◌≡◌, ℕ, ◌<◌, ◌≤◌, Bool, true, false, List, [], ◌∷◌, length, get_or, refl, arith, list_all, list_any}
 use Rattle.council_game.proofs.Imports.{nat_tests, and_parts, ap, range_with_len, Way, way_view, way_views, suc, inl, inr, cases_Bool, cases_eq, eq-eqb, ne_eqb, ◌||◌, cond, sum_by-cons}
 use Rattle.council_game.specs.Ways.{are_ways, covers, has_rule, is_way}
-use Rattle.std.proofs.Common.{◌&&◌, ◌==◌, ◌∙◌, sym, count_by, leb, ltb, leb-true, ltb-true, eqb-true}
+use Rattle.std.proofs.Common.{◌&&◌, ◌==◌, ◌∙◌, sym, count_by, leb, ltb, leb-true, ltb-true, lt-ltb, eqb-true}
 use Rattle.std.proofs.Math.Bool.{or-false}
 use Rattle.std.proofs.lemmas.List.{Sums.AllPass-from_list_all, Sums.list_all-from_AllPass, Folds.list_all-map, Folds.list_any_at}
 use Rattle.std.specs.Cmp.{both_ways as same_test}
@@ -104,6 +104,13 @@ each-passes t (s ∷ way) r all has =
       | inr other ↦ each-passes t way r parts.1 (sym (ap (λ (b : Bool). b || has_rule way r) (ne_eqb _ _ other)) ∙ has)
     ]
 
+-- a rule of a way is one of all rules
+pub own-rule : (n : ℕ) (ways : List (List ℕ)) (k r : ℕ) → are_ways n ways ≡ true → k < length ways → has_rule (get_or ways k []) r ≡ true → r < n
+own-rule n ways k r are lt has =
+    let way = way-rule n (get_or ways k []) (way-is n ways k [] are lt) in
+    ltb-true r n (each-passes (λ s. ltb s n) (get_or ways k []) r
+    (list_all-from_AllPass (λ s. ltb s n) (get_or ways k []) (λ j d at. lt-ltb _ _ (way.1 j d at))) has)
+
 -- the only way has all rules
 pub one-way-passes : (n : ℕ) (ways : List (List ℕ)) (t : ℕ → Bool) → are_ways n ways ≡ true → length ways ≡ 1
     → list_any (list_all t) ways ≡ list_all t (range_with_len 0 n)
@@ -128,12 +135,12 @@ one-rule-passes ways t are =
       | inr fails ↦ ways-none 1 t ways (λ r lt. ap t (let e : r ≡ 0 = omega (arith, lt) in e) ∙ fails) some.2 ∙ sym fails
     ]
 
--- some way passes
-pub some-passes : (p : List ℕ → Bool) (ways : List (List ℕ)) → list_any p ways ≡ true → (k : ℕ) × (k < length ways) × (p (get_or ways k []) ≡ true)
-some-passes p [] any = absurd cc
-some-passes p (way ∷ ways) any = elim (cases_Bool (p way)) [
+-- some entry passes
+pub some-passes : {X : Type 0} (p : X → Bool) (xs : List X) (d : X) → list_any p xs ≡ true → (k : ℕ) × (k < length xs) × (p (get_or xs k d) ≡ true)
+some-passes p [] d any = absurd cc
+some-passes p (x ∷ xs) d any = elim (cases_Bool (p x)) [
   | inl here ↦ (0, omega arith, here)
-  | inr out ↦ let found = some-passes p ways (sym (ap (λ (b : Bool). b || list_any p ways) out) ∙ any) in (suc found.0, omega (arith, found.1), found.2)
+  | inr out ↦ let found = some-passes p xs d (sym (ap (λ (b : Bool). b || list_any p xs) out) ∙ any) in (suc found.0, omega (arith, found.1), found.2)
 ]
 
 -- under one rule there is one way
