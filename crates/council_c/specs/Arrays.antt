@@ -6,6 +6,7 @@ use Rattle.council_game.specs.declared.limits.TheConstants.{RULES, WEIGHT}
 use Rattle.council_file.specs.Bracket.{counted_names}
 use Rattle.council_game.specs.Game.{GameView, has_bad_quota, made_game}
 use Rattle.council_game.specs.Votes.{RuleView}
+use Rattle.council_game.specs.Ways.{one_way}
 use Rattle.council_game.specs.declared.fault.GameFault.{GameFault}
 use Rattle.council_game.specs.declared.fault.GameFault.TheVariants.{Name, QuotaRange, Rules, SameName, Weight}
 
@@ -16,11 +17,12 @@ rule_of quotas weights n r = record { quota = slice_index quotas r; weights = ta
 abbrev pub rules_of : List ℕ → List ℕ → ℕ → List RuleView
 rules_of quotas weights n = map (rule_of quotas weights n) (range_with_len 0 (length quotas))
 
--- The game of n members, or its first fault. It has 1 to 4 rules; the members are named 1, 2, ..
+-- The game of n members, or its first fault: a coalition wins if it meets each of 1 to 4 rules; the
+-- members are named 1, 2, ..
 unfoldable pub game_of_arrays : List ℕ → List ℕ → ℕ → Result GameView GameFault
 game_of_arrays quotas weights n =
     if nat_le 1 (length quotas) && nat_le (length quotas) RULES
-    then made_game None (counted_names n) (rules_of quotas weights n)
+    then made_game None (counted_names n) (rules_of quotas weights n) (one_way (length quotas))
     else Err Rules
 
 -- the first rule, from 1, that passes a test; 0 if none does
