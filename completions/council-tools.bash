@@ -15,8 +15,11 @@ _council_tools() {
     from-table:--heading) return ;;
     from-table:--rows) return ;;
     from-table:--drop) return ;;
+    from-table:--member) return ;;
     from-table:--only) return ;;
-    from-table:--of) words="100 sum" ;;
+    from-table:--of) return ;;
+    from-table:--round) words="0 1 2 3 4 5 6 7 8 9 10 11 12" ;;
+    from-table:--blank) words="0" ;;
     from-table:--decimal) words=". ," ;;
     from-table:--encoding) return ;;
     table:--index) words="deegan-packel public-good banzhaf penrose shapley-shubik" ;;
@@ -39,7 +42,7 @@ _council_tools() {
     esac
     if [[ -z $words && $word == -* ]]; then
         case ${COMP_WORDS[1]} in
-        from-table) words="--help --title --source --name --weight --heading --no-heading --rows --drop --only --all-rows --sum --of --decimal --encoding --quiet" ;;
+        from-table) words="--help --title --source --name --weight --heading --no-heading --rows --drop --member --only --strict --all-rows --sum --of --round --blank --decimal --encoding --quiet" ;;
         table) words="--help --index" ;;
         export) words="--help --index --columns --decimals --decimal --game --mark" ;;
         page) words="--help --game --index --source --program" ;;

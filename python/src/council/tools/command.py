@@ -4,18 +4,45 @@ from __future__ import annotations
 import argparse
 import io
 import os
+import re
 import sys
-from typing import Any, Callable, NoReturn, Optional, Sequence, TextIO, TypeVar, cast
+import textwrap
+import unicodedata
+from itertools import groupby
+from typing import Any, Callable, Iterable, NoReturn, Optional, Sequence, TextIO, TypeVar, cast
 
 from ..columns import INDICES, SWINGS, Index
 from ..engine import Refused
 from ..finding import NotFound
-from ..game import GAME_FILE, Unit, check_same, describe_low_quotas, find_comments, find_slips, read_units
+from ..game import GAME_FILE, Unit, check_same, describe_low_quotas, find_comments, find_slips, quote, quote_for_shell, read_units
 from ..reports import Fault, Report
 
 # the name of the tool that runs
 NAME = ["council-tools"]
 T = TypeVar("T")
+
+
+def fold(name: str) -> str:
+    """Returns a name without capitals, the composition of letters, and letters without a width."""
+    text = unicodedata.normalize("NFKC", unicodedata.normalize("NFKC", name).casefold())
+    return " ".join("".join(it for it in text if unicodedata.category(it) != "Cf").split())
+
+
+def cut(text: str, most: int = 64) -> str:
+    """Returns a text for a message, and of a longer one the beginning."""
+    return text if len(text) <= most else text[: most - 2] + ".."
+
+
+def quote_all(texts: Iterable[str]) -> str:
+    """Returns texts in quotes for a message, and of many the first ones."""
+    return cut(", ".join(map(quote, texts)), 80)
+
+
+def write_ranges(what: str, numbers: Sequence[int]) -> str:
+    """Writes numbers as lines 1, 3-29."""
+    runs = [[number for _, number in its] for _, its in groupby(enumerate(sorted(numbers)), lambda it: it[1] - it[0])]
+    text = ", ".join(f"{it[0]}-{it[-1]}" if it[1:] else str(it[0]) for it in runs)
+    return f"{what}{'s' * (len(numbers) > 1)} {text}"
 
 
 def make_printable(text: object) -> str:
@@ -33,6 +60,14 @@ class Words(argparse.ArgumentParser):
     def parse_words(self, words: Sequence[str]) -> argparse.Namespace:
         """Reads the words, with options before, between and after the files."""
         return self.parse_intermixed_args(words)
+
+    def write_options(self, words: argparse.Namespace, without: Sequence[str]) -> str:
+        """Writes the options that were given, in the order of --help."""
+        its = [(it.option_strings[-1], value) for it in self._actions if it.option_strings and it.dest not in without
+               for value in [getattr(words, it.dest, None)] if value is not None and value is not False]
+        given = [(name, value) for name, values in its for value in (values if isinstance(values, list) else [values])]
+        texts = [str(it) if re.fullmatch(r"[\w=%,.:-]+", str(it)) else quote_for_shell(str(it)) for _, it in given]
+        return " ".join(name if value is True else f"{name} {text}" for (name, value), text in zip(given, texts))
 
     def error(self, message: str) -> NoReturn:
         raise Fault(f"{message} (--help says more)", 2)
@@ -102,10 +137,10 @@ def run(main: Callable[[list[str]], None], words: list[str]) -> int:
     return 0
 
 
-def tell(text: object, status: int) -> int:
-    """Says a line on standard error, if that takes it; returns the status."""
+def tell(text: object, status: int, more: Sequence[str] = ()) -> int:
+    """Says a line on standard error, if that takes it, and more lines; returns the status."""
     try:
-        print(f"{NAME[-1]}: {make_printable(text)}", file=sys.stderr, flush=True)
+        print(f"{NAME[-1]}: {make_printable(text)}", *more, sep="\n", file=sys.stderr, flush=True)
     except OSError:
         drop(sys.stderr)
     return status
@@ -116,9 +151,20 @@ def drop(file: TextIO) -> None:
     os.dup2(os.open(os.devnull, os.O_WRONLY), file.fileno())
 
 
-def note(text: str) -> None:
+def note(text: str, more: Sequence[str] = ()) -> None:
     """Says what is no fault, but what a user may want to know."""
-    tell(text, 0)
+    tell(text, 0, more)
+
+
+def wrap_items(its: Iterable[str]) -> list[str]:
+    """Returns lines as wide as the terminal, or 80 columns, with an indent; no item is broken."""
+    try:
+        width = os.get_terminal_size(sys.stderr.fileno()).columns or 80
+    except (OSError, ValueError):
+        width = 80
+    text = ", ".join(make_printable(it).replace(" ", "\0") for it in its)
+    lines = textwrap.wrap(text, max(width - 3, 20), break_long_words=False, break_on_hyphens=False)
+    return ["  " + it.replace("\0", " ") for it in lines]
 
 
 def warn_of_low_quotas(quotas: Sequence[int], totals: Sequence[int]) -> None:

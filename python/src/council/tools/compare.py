@@ -22,7 +22,7 @@ from ..decimals import cut_off
 from ..game import Unit, quote, quote_for_shell
 from ..members import Member
 from ..reports import Fault, Report
-from .command import MANY, Words, add_index, choose_indices, make_printable, note, read_comments, read_report
+from .command import MANY, Words, add_index, choose_indices, fold, make_printable, note, read_comments, read_report
 
 # the members of each game, by name
 Games = List[Dict[str, Member]]
@@ -36,9 +36,9 @@ def write_signed(value: Fraction) -> str:
 
 
 @functools.cache
-def fold(name: str) -> list[str]:
+def split_name(name: str) -> list[str]:
     """Returns the words of a name, without accents, capitals and signs."""
-    letters = unicodedata.normalize("NFKD", name.casefold())
+    letters = unicodedata.normalize("NFKD", fold(name))
     return "".join(it if it.isalnum() else " " for it in letters if not unicodedata.combining(it)).split()
 
 
@@ -50,7 +50,7 @@ def make_matcher(text: str) -> difflib.SequenceMatcher[str]:
 
 def is_near(one: str, other: str) -> bool:
     """Returns whether two names may be of one member, as Czechia and Czech Republic."""
-    its, others = fold(one), fold(other)
+    its, others = split_name(one), split_name(other)
     short, long = sorted((" ".join(its), " ".join(others)), key=len)
     if not short:
         return not long

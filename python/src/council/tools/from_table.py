@@ -2,13 +2,10 @@
 
     council-tools from-table [OPTIONS] QUOTA.. [TABLE] >GAME
 
-TABLE is a file, or standard input if it is - or missing. It has a line of headings, a text over
-each column, and then a row for each member, with as many cells: the name, and a weight for each
-rule. Commas, semicolons, TABs or | separate the cells. Weights may have decimals, thousands
-separators and percent signs; a power of ten makes them whole. You hear what was read, and the game
-file says it too. What can be read in two ways is refused, and the message names the option.
-
-COLUMN is a heading, or a number counted from 1. LINES are lines of the file, as 3-29 or 1,30-32.
+TABLE, or standard input, has a line of headings, and then a row for each member: its name, and its
+weight for each rule. You see each member that was read. What can be read in two ways is refused,
+and the message names the option; "look at line 7" says of a row that it may be no member. COLUMN
+is a heading, or a number counted from 1; LINES are lines of the file, as 3-29 or 1,30-32.
 
 Give a QUOTA for each rule, in quotes if it has a >:
 
@@ -18,383 +15,271 @@ Give a QUOTA for each rule, in quotes if it has a >:
 """
 from __future__ import annotations
 
-import argparse
-import csv
-import io
 import re
 import sys
-import unicodedata
 from fractions import Fraction
 from itertools import accumulate, groupby
-from typing import Any, Collection, Iterable, Optional, Sequence
+from statistics import median
+from typing import Any, Iterable, Iterator, Optional, Sequence
 
-from ..game import MEMBERS, NAME, RULES, WEIGHT, is_text, quote, quote_for_shell, write_game, write_rule_comment
+from ..game import RULES, WEIGHT, quote, quote_for_shell, write_game, write_rule_comment
 from ..reports import Fault
-from .command import Words, note, warn_of_low_quotas
+from .command import Words, cut, note, quote_all, warn_of_low_quotas, wrap_items, write_ranges
 from .drawing import write_percent
-from .quotas import Number, Quota, count_decimals, write_plain
+from .quotas import Number, Quota, count_decimals, find_sign, is_count, write_plain
+from .rows import MOST, Table, name_lines, read_rows, show, write_lines
 
-# the most bytes and lines of a table
-MOST, LINES = 1 << 22, 10000
-# the name of a note or a total; and a heading for certain, no number or sign that there is none
-NOTE = re.compile(r"[*†‡§#¹²³([]|.*:|\W*(sub|grand)?\W*(tot|summ?[ae]?\b)", re.I | re.S)
-TITLE = re.compile(r"%|(?!(n/?a|nan|none|null|[nk]\.? ?[da]\.?)$)\W*((19|20)\d\d\b\W*)?[^\W\d_].*", re.I | re.S)
-
-
-def show(line: int, text: str, column: Optional[int] = None) -> str:
-    """Names a line, or a cell of it, in a message; a long text is cut."""
-    return f"line {line}, {'' if column is None else f'column {column + 1}: '}" + quote(text if len(text) <= 40 else text[:40] + "..")
-
-
-def write_ranges(what: str, numbers: Collection[int]) -> str:
-    """Writes numbers as lines 1, 3-29."""
-    runs = [[number for _, number in its] for _, its in groupby(enumerate(sorted(numbers)), lambda it: it[1] - it[0])]
-    return f"{what}{'s' * (len(numbers) > 1)} " + ", ".join(f"{it[0]}-{it[-1]}" if len(it) > 1 else str(it[0]) for it in runs)
-
-
-def is_number(cell: str) -> bool:
-    """Returns whether a cell is what a person takes for a number."""
-    return bool(Number(cell.lstrip("+-−–~<>≈≤≥€$£ ")).values)
-
-
-def is_count(cells: Sequence[str], *first: int) -> bool:
-    """Returns whether cells count on from one of these numbers."""
-    return any([*cells] == [str(at + it) for at in range(len(cells))] for it in first)
-
-
-def count_filled(row: Sequence[str]) -> int:
-    """Returns how many cells a row has, without empty ones at its end."""
-    return max((at for at, it in enumerate(row, 1) if it), default=0)
-
-
-def fold(name: str) -> str:
-    """Returns a name without capitals, the composition of letters, and letters without a width."""
-    return "".join(it for it in unicodedata.normalize("NFKC", unicodedata.normalize("NFKC", name).casefold()) if unicodedata.category(it) != "Cf").strip()
-
-
-def read_rows(data: bytes, encoding: Optional[str]) -> list[tuple[int, list[str]]]:
-    """Returns the rows that are not empty, each with the line in which it begins. Most lines have the
-    separator; a first line sep=; is for spreadsheets. A byte order mark or zeros tell UTF-16."""
-    if len(data) > MOST:
-        raise Fault("the table is longer than 4 MiB: keep the rows of the members, and the columns that you need")
-    if data.startswith((b"PK\x03\x04", b"\xd0\xcf\x11\xe0\xa1\xb1\x1a\xe1")):
-        raise Fault("this is the file of a spreadsheet itself: export it as CSV, and give that")
-    wide = "utf-16" if data[:2] in (b"\xff\xfe", b"\xfe\xff") else "utf-16-be" if data[:1] == b"\0" else "utf-16-le"
-    encoding, begun = encoding or (wide if b"\0" in data[:200] else "utf-8-sig"), 1
-    rows: list[tuple[int, list[str]]] = []
-    try:
-        text = data.decode(encoding)
-        lines = text.splitlines()
-        if not 0 < len(lines) <= LINES:
-            raise Fault(f"the table has no line, or more than {LINES:,}: keep those of the members")
-        delimiter = max("\t;|,", key=lambda it: sum(it in line for line in lines))
-        reader = csv.reader(io.StringIO(text, newline=""), delimiter=delimiter, strict=True)
-        for row in reader:
-            if any(map(str.strip, row)) and not (begun == 1 and row[0].startswith("sep=")):
-                rows.append((begun, [it.strip() for it in row]))
-            begun = reader.line_num + 1
-    except (LookupError, ValueError, csv.Error) as it:
-        line = data.count(10, 0, it.start) + 1 if isinstance(it, UnicodeDecodeError) else begun
-        raise Fault(f"line {line} is no row of a table in {encoding}: {it}; export it as CSV in UTF-8, or say --encoding cp1252 or what it is") from None
-    return rows
-
-
-def is_ordered(values: list[Any]) -> bool:
-    return values in (sorted(values), sorted(values, reverse=True))
-
-
-def breaks_order(values: list[Any], row: int) -> bool:
-    """Returns whether a value is one of the first or last, without which the others are in order."""
-    values, place = (values, row) if 2 * row < len(values) else (values[::-1], len(values) - 1 - row)
-    one, two = (len(it) > 3 and len({*it}) > 1 and is_ordered(it) for it in (values[1:], values[2:]))
-    return not is_ordered(values) and ((one and place == 0) or (two and not one and place < 2))
+# a heading of percentages, and one of what may be shares of 1 or 100
+PERCENT = re.compile(r"%|p.{0,5}cent|pct|prozent", re.I)
+SHARE = re.compile(r"\b(share|anteil|andel|aandeel|udział|part|quota)\b", re.I)
+# how a word of a name begins, or with ^ the name, if a row may be no member; first those of totals
+NAMES = {why: re.compile(rf"(?<![^\W_])(?:{words})", re.I) for why, words in {
+    "may be a total": r"\w*tot(aa?l\w{0,2}|alen)?\b|\w*summ[aen]+\b|su[mb]\b|somm?[ae]\b|suma\b|insgesamt|gesamt"
+    r"|zusammen|ensemble|^(all|alle|tous)( \w+)?$|razem|ogół|celkem|összes|yhteens|i alt\b|toplam|всего|итого|[Σ∑合总總]",
+    "may be a part of another row": r"^[-–]|^dav(on|\.)|^darunter|^of wh|^thereof|^in[ck]l(\b|u)|^dont\b|^di cui"
+    r"|^de l[oa]s|^d[oa]s quais|^w tym|^z tego|^waarvan|^varav|^hv?eraf|^hvorav|^joista",
+    "may have no vote": r"treasury|own (sha|sto)|held by the c|eigene |\w+ propres|auto-?(contr|déten|cartera)"
+    r"|\w+ pr[oó]pr?i[ea]|akcje wł|eg[ne]n?[ae] a|va[ck]an|unbesetzt|wakat|empty|leer\b|abse[nt]|abwesen|ausent|assent"
+    r"|afwezig|nieobecn|blank|non-?vot|pr[eé]sen[tc]|anwesen|aanwezig|obecn|abst[ei]|enthalt|astenu|invalid|ungültig",
+    "may be several members": r"^(and |all )?(other|rest\b|remain)|^sonst|^andere|^übrige|^autre|^otr[oa]s|^resto"
+    r"|^altr[ie]\b|^outr[oa]|^overige|^pozost|^divers|^[öø]vrig|^andre\b|^independ|float\b|streubes|flottant",
+    "may be an average": r"average|mean\b|median|durchschn|moyenne|^media\b|promedio|średnia|gemiddeld|\w*snitt\b",
+    "may be a quota": r"majori|\w*mehrheit|maggioranza|ma[yi]or[ií]a|meerderheid|większość|flertal|^quot|[qk][uw]orum"
+    r"|thresh|schwelle|seuil|soglia|umbral|drempel|próg\b|block(ing|ier)|\w*minorit|needed|required|to win",
+    "may be another number": r"^(seat|vote|member)s?\b|^turnout|^\w*beteiligung|^wahl(en|jahr|ber\w*)?\b"
+    r"|^stimmen|^population|^einwohn|^dat(e|um)\b|^stand$|^as (of|at)\b|^m(in|ax)(imum)?$|^year|^jahr|^ann[ée]|^number",
+    "may be a note": r"^[*†‡§#¹²³([]|^[^/]*:|^\W*(source|quelle|fuente|fonte|bron\b|źródło|note|anm|treaty|vertrag)",
+    "may be several countries": r"^(EU|EA|EEA|EFTA|OECD|G(?=\d)|BRICS|ASEAN|NATO|UN)[-_ ]?\d*(_\d{4})?( ?\(|$)"
+    r"|^European Union|^Euro ?(zone|area)|^(World|Europe|Africa|Asia|Americas|Oceania|Welt|Monde|Mundo)\b",
+}.items()}
 
 
 class Weights:
     """The weights of a column as whole numbers, times a power of ten."""
 
-    def __init__(self, values: Sequence[Fraction], percent: bool, title: str, what: str) -> None:
-        self.percent, self.title, self.what, self.places = percent, title, what, max(map(count_decimals, values))
-        self.unit, self.values = 10**self.places, [int(it * 10**self.places) for it in values]
-        self.number, self.total, self.sums = len(values), sum(self.values), [*accumulate(self.values, initial=0)]
-        # if shares add up to 100, none of them is a total
-        self.is_share = (percent or self.places > 0) and abs(self.total - 100 * self.unit) * 10 <= self.unit
+    def __init__(self, values: Sequence[Fraction], unit: str, title: str, what: str) -> None:
+        self.unit, self.title, self.what, self.places = unit, title, what, max(map(count_decimals, values))
+        self.scale, self.number = 10**self.places, len(values)
+        its = self.values = [int(it * self.scale) for it in values]
+        if max(its) > WEIGHT:
+            raise Fault(f"{what}: with {self.places} decimals a weight is more than {WEIGHT:,}: say --round 6 or less")
+        self.total, self.is_ordered = sum(its), sorted(its) in (its, its[::-1])
+        # of shares that add up to 100 or 1000 none is a total
+        off = abs(self.total - 100 * self.scale) if unit or self.places else self.scale
+        self.is_whole = off * 10 <= self.scale or bool(re.fullmatch(rf"10{{{2 + self.places},}}", str(self.total)))
+        # a row breaks the order if others are in order without it, and it is the only one or an end
+        rows = range(self.number if 4 < self.number < 99 and len({*its}) > 2 and not self.is_ordered else 0)
+        breaks = [at for at in rows if sorted(it := its[:at] + its[at + 1 :]) in (it, it[::-1])]
+        self.breaks = {*breaks} if len(breaks) == 1 else {*breaks} & {0, self.number - 1}
 
     def is_sum(self, row: int, wanted: int, terms: int) -> bool:
         """Returns whether a row has this sum of others, or nearly, as rounding explains."""
         # shares are often rounded; other numbers come near a sum by chance, unless they are large
-        off, slack, many = 2 * abs(self.values[row] - wanted), terms + 1, 20 if self.places or self.percent else 1000
+        off, slack, many = 2 * abs(self.values[row] - wanted), terms + 1, 20 if self.places or self.unit else 1000
         return wanted > 0 and (off == 0 or (off <= slack and slack * many <= 2 * wanted))
 
-    def has_run(self, row: int, left: Collection[int]) -> bool:
-        """Returns whether a row is the sum of a run of rows beside it. `left` has the rows above
-        which another was left out."""
-        number, is_telling = self.number, row in (0, self.number - 1) or self.values[row] >= 1000
-        # small numbers are sums by chance, most of all in order
-        if not is_telling and is_ordered(self.values) and {*left} <= {0, number}:
-            return False
-        ends = {*range(number + 1)} if is_telling or number <= 15 else {0, 1, number - 1, number, *left}
-        runs = [(at, row) for at in ends if at < row - 1] + [(row + 1, at) for at in ends if at > row + 2]
-        return any(self.is_sum(row, self.sums[last] - self.sums[first], last - first) and sum(map(bool, self.values[first:last])) > 1 for first, last in runs)
+    def find_totals(self, names: Sequence[str]) -> Iterator[int]:
+        """Yields the rows that are totals for certain."""
+        values, every, is_likely = self.values, range(self.number), self.number > 4 and not self.is_whole
+        yield from (at for at in {0, self.number - 1} if (is_likely or NAMES["may be a total"].search(names[at]))
+                    and self.is_sum(at, self.total - values[at], self.number - 1))
+        # subtotals, each beside its rows, that cover all rows but a total of all
+        for order in () if self.is_whole or self.is_ordered else (every, every[1:], every[:-1]):
+            for rows in order, order[::-1]:
+                ends: dict[int, list[int]] = {0: []}
+                for at, row in enumerate(rows):
+                    sums = accumulate(values[it] for it in rows[at + 1 :] if at in ends)
+                    for end, wanted in enumerate(sums, at + 2):
+                        if end > at + 2 and self.is_sum(row, wanted, end - at - 1):
+                            ends.setdefault(end, [*ends[at], row])
+                parts, left = ends.get(len(rows), []), {*every} - {*rows}
+                if parts[1:] and all(self.is_sum(it, sum(values[row] for row in parts), len(parts)) for it in left):
+                    yield from [*parts, *left]
 
-    def find_reason(self, row: int, left: Collection[int]) -> str:
-        """Returns why a row can hardly be a member, or nothing."""
-        value, number, rest = self.values[row], self.number, sorted(self.values[:row] + self.values[row + 1 :], reverse=True)
-        others, is_edge = sum(rest), row in (0, number - 1) and number > 3
-        years = [it % self.unit == 0 and 1900 <= it // self.unit <= 2099 for it in self.values]
-        # in a list by weight, the heaviest member is first or last
-        is_usual = is_ordered(self.values) and (row + (row > 0) not in left or 3 * value < 2 * others)
-        is_heavy = number > 3 and (value >= 3 * rest[2 if number > 15 else 0] > 0 or (is_edge and 4 * value >= 5 * rest[0] and not is_usual))
-        doubts = {
-            "is the sum of all others": self.is_sum(row, others, number - 1),
-            # there may be other totals, heavier than members
-            "is the sum of most others": any(self.is_sum(row, sum(rest[at:]), number - 1 - at) for at in (1, 2, 3) if 4 * at < number and (is_edge or number > 7)),
-            "is near the sum of all others, or more": number > 2 and 20 * value >= 19 * others > 0 and not self.is_share,
-            "is the sum of rows beside it": self.has_run(row, left),
-            "may be a year": years[row] and 2 * sum(years) <= number and (row < 2 or row > number - 3),
-            "breaks the order of the weights": breaks_order(self.values, row),
-            "is far heavier than the others": is_heavy and not self.is_share,
-            "is the average of all others": is_edge and rest[-1] < value < rest[0] and 2 * abs(value * len(rest) - others) <= number,
-            "is the only one with decimals": is_edge and value % self.unit and not any(it % self.unit for it in rest),
+    def is_year(self, row: int, others: Sequence[int]) -> bool:
+        """Returns whether a row has a year that is not round, and others have numbers far below or above."""
+        value, is_far = self.values[row], 2 * max(others) < self.values[row] or min(others) > 4 * self.values[row]
+        return is_far and value % self.scale == 0 < value % (50 * self.scale) and 1900 < value / self.scale < 2099
+
+    def find_reasons(self, row: int) -> Iterator[str]:
+        """Yields why a row may be no member."""
+        values, value, number, scale = self.values, self.values[row], self.number, self.scale
+        rest = sorted(values[:row] + values[row + 1 :], reverse=True)
+        # small numbers are sums of numbers beside them by chance, most of all in order
+        is_likely = value >= 1000 or (not self.is_ordered and (number <= 8 or value >= 2 * median(values)))
+        least = 2 if is_likely else 3 if row in (0, number - 1) else number
+        runs = [(many, wanted) for side in (values[:row][::-1], values[row + 1 :])
+                for many, wanted in enumerate(accumulate(filter(None, side)), 1) if many >= least]
+        is_odd, off = value % scale > 0, abs(value * len(rest) - sum(rest))
+        doubts = {} if number < 3 or value == 0 else {
+            "is the sum of all others": self.is_sum(row, sum(rest), number - 1),
+            "is the sum of rows beside it": any(self.is_sum(row, wanted, many) for many, wanted in runs),
+            "may be a year": self.is_year(row, rest[number // 2 :][:1]),
+            "breaks the order of the weights": row in self.breaks,
+            "is far heavier than others": value >= max(10 * median(rest), 3 * rest[2 * (number > 15)])
+            or (20 * value >= 19 * sum(rest) and not self.is_whole),
+            "may be the average of others": is_odd and not any(it % scale for it in rest)
+            or 2 * off < number and rest[-1] < value < rest[0] and (is_odd or value >= 1000),
         }
-        return next((why for why, doubt in doubts.items() if doubt), "")
-
-
-class Table:
-    """The heading of a table, the rows of its members, and the columns that are read."""
-
-    def __init__(self, rows: list[tuple[int, list[str]]], words: argparse.Namespace, rules: int) -> None:
-        self.words, self.lines, self.is_said = words, [line for line, _ in rows], bool(words.heading)
-        dropped, chosen, said = (self.find_lines(it, getattr(words, it)) for it in ("drop", "rows", "heading"))
-        rest = [it for it in rows if it[0] not in dropped]
-        above = [it for it in rest if (it[0] in said if said else it[0] < min(chosen) if chosen else it is rest[0])]
-        if not above and not words.no_heading:
-            raise Fault("there is no line of headings above the rows: say --heading N, or --no-heading if there is none", 2)
-        self.line, self.titles = (0, []) if words.no_heading else above[-1]
-        self.rows = [it for it in rest if (it[0] in chosen if chosen else it[0] > self.line) and it[0] != self.line]
-        read = {self.line, *(line for line, _ in self.rows)}
-        # the lines with a number that are not read
-        self.left = [line for line, row in rows if line not in read and any(map(is_number, row))]
-        self.width = count_filled(self.titles) if self.line else max((count_filled(row) for _, row in self.rows), default=0)
-        for line, row in self.rows:
-            if (has := count_filled(row)) > self.width or len(row) < self.width:
-                raise Fault(f"{show(line, next(filter(None, row)))}, has {has} cell{'s' * (has > 1)} instead of {self.width}: write as many, 1200 instead of 1,200; "
-                            f"give each column a heading (in R, col.names = NA); or say --drop {line}, or --heading N and --rows A-B")
-        self.choose(rules, [self.filter(*it.partition("=")) for it in words.only or ()])
-
-    def find_lines(self, option: str, words: Optional[Sequence[str]]) -> set[int]:
-        """Returns the lines that an option names; at each end of a range a row begins."""
-        found: set[int] = set()
-        for part in ",".join(words).split(",") if words else ():
-            match = re.fullmatch(r"\s*(\d{1,7})(?:-(\d{1,7}))?\s*", part, re.A)
-            first, last = (int(match[1]), int(match[2] or match[1])) if match else (1, 0)
-            if first > last or not {first, last} <= {*self.lines}:
-                raise Fault(f"--{option} {part}: say lines as 3-29 or 1,30, in which rows begin; the last is {max(self.lines, default=0)}", 2)
-            found.update(it for it in self.lines if first <= it <= last)
-        return found
-
-    def find_column(self, word: str) -> int:
-        """Returns the column that a heading or a number names."""
-        titled = {at for at, it in enumerate(self.titles) if it == word.strip()}
-        numbered = {int(word) - 1} if re.fullmatch(r"0*[1-9]\d{0,3}", word, re.A) and int(word) <= self.width else set()
-        if len(titled | numbered) != 1:
-            have = f"line {self.line} has {', '.join(map(quote, self.titles))}" if self.line else f"they are 1 to {self.width}"
-            raise Fault(f"{'more than one' if titled else 'no'} column is {quote(word)}, and {have}: say the number of one", 2)
-        # a number of a column tells nothing of the heading
-        self.is_said = self.is_said or not numbered
-        return min(titled | numbered)
-
-    def filter(self, word: str, _: str, value: str) -> int:
-        """Keeps the rows that --only chooses, and returns the column that it names."""
-        column = self.find_column(word)
-        self.rows, self.left = [it for it in self.rows if it[1][column] == value.strip()], []
-        return column
-
-    def choose(self, rules: int, used: Sequence[int]) -> None:
-        """Chooses the columns that options name, else those that are the only ones. Refuses a heading
-        that may be a member."""
-        if not self.rows:
-            raise Fault("there is no row of a member, or none that --rows, --drop and --only leave")
-        self.cells = [[row[at] for _, row in self.rows] for at in range(self.width)]
-        self.numbers = [at for at in range(self.width) if at not in used and any(map(is_number, self.cells[at]))]
-        self.weights = [self.find_column(it) for it in self.words.weight or ()]
-        texts = [at for at in range(self.width) if at not in (*used, *self.numbers, *self.weights) and any(self.cells[at])]
-        self.name = self.find_only("name", texts, 1)[0] if self.words.name is None else self.find_column(self.words.name)
-        if rules and not self.weights:
-            self.weights = self.find_only("weight", [it for it in self.numbers if it != self.name], rules)
-        if len(self.weights) != rules or len({self.name, *self.weights}) <= rules:
-            raise Fault(f"{rules} quotas are of weights, and --weight names {len(self.weights)} columns: name one for each, none twice or as --name", 2)
-        doubted = [at for at, it in enumerate(self.titles[: self.width]) if (it or at) and not TITLE.fullmatch(it)]
-        if self.line and not self.is_said and (doubted or not {*self.weights, *self.numbers} - {self.name}):
-            at = doubted[0] if doubted else self.name
-            raise Fault(f"{show(self.line, self.titles[at], at)} may be no heading: say --heading N for its line, or --no-heading if there is none")
-
-    def find_only(self, what: str, columns: list[int], wanted: int) -> list[int]:
-        """Returns the columns if they are as many as wanted, and can hardly be something else."""
-        its = " and ".join(f"column {at + 1}" + (f", {quote(self.titles[at])}," if self.line else "") for at in columns) or "no column"
-        counts = len(self.rows) > 2 and any(is_count(self.cells[at], 0, 1) for at in columns)
-        # without headings, 1,000 may be two weights
-        if len(columns) != wanted or counts or (wanted > 1 and not self.line):
-            raise Fault(f"{its} may have {what}s{' (1, 2, 3, .. may count the rows)' * counts}, and {wanted} {'is' if wanted == 1 else 'are'} wanted: "
-                        f"say --{what} COLUMN, a heading or a number{', once for each quota' * (wanted > 1)}; commas, semicolons, TABs or | separate columns")
-        return columns
-
-    def find_names(self) -> dict[str, list[int]]:
-        """Returns the names, each with its rows: one, unless --sum adds them."""
-        found: dict[str, list[int]] = {}
-        names = [" ".join(it.split()) for it in self.cells[self.name]]
-        for at, ((line, _), name) in enumerate(zip(self.rows, names)):
-            if not fold(name) or not is_text(name, NAME):
-                raise Fault(f"{show(line, name, self.name)} is no name that can be read, in at most {NAME} bytes: say --drop {line} if the row is no member")
-            first = found.setdefault(fold(name), [at])[0]
-            if names[first] != name or not (first == at or self.words.sum):
-                # of panel data one year is read, a value that other rows have too
-                its = [f"{self.titles[it] if self.line else it + 1}={cells[at]}" for it, cells in enumerate(self.cells)
-                       if it not in (self.name, *self.weights) and cells[first] != cells[at] and len({*cells}) < len(cells)]
-                how = f"say --only {quote_for_shell(its[0])} for one of them" if its else "--sum adds their weights"
-                how = how if names[first] == name else f"in other letters; write both alike, or say --drop {line}"
-                raise Fault(f"{show(line, name, self.name)} is also in {show(self.rows[first][0], names[first])}: {how}")
-            found[fold(name)] += [at] * (first != at)
-        if len(found) > MEMBERS or len(self.rows) > 1000:
-            raise Fault(f"{len(found)} members in {len(self.rows)} rows are more than {MEMBERS} in 1000: --rows, --drop and --only choose some")
-        return {names[its[0]]: its for its in found.values()}
-
-    def read_numbers(self, at: int) -> list[Number]:
-        """Returns the numbers of a column of weights. If an option names it, x and blanks are marks."""
-        marks = bool(self.words.weight) and {*self.cells[at], ""} in ({"x", ""}, {"X", ""})
-        numbers = [Number("01"[bool(it)] if marks else it) for it in self.cells[at]]
-        for (line, _), it in zip(self.rows, numbers):
-            # a spreadsheet shows 123456789 as 1.23E+08; R and pandas write e+
-            if not it.values or "E+" in it.text:
-                raise Fault(f"{show(line, it.text, at)} is no number of at least 0, written in full: write one, 0 for no weight; "
-                            f"or say --drop {line} if the row is no member, --heading {line} if it has the headings")
-        if len({it.percent for it in numbers if any(it.values.values())}) > 1:
-            raise Fault(f"column {at + 1}: some weights have a percent sign, and some have none")
-        return numbers
-
-    def find_decimal(self, columns: dict[int, list[Number]]) -> Optional[str]:
-        """Returns the decimal sign of the numbers, as they or the user tell it; None if none has any."""
-        its = [(show(line, it.text, at), it) for at, numbers in columns.items() for (line, _), it in zip(self.rows, numbers)]
-        signs: list[tuple[str, Optional[str]]] = [("--decimal", self.words.decimal), *((cell, it.find_decimal()) for cell, it in its)]
-        told, decimal = next((it for it in signs if it[1]), ("", None))
-        for cell, it in its:
-            if (decimal and decimal not in it.values) or (not decimal and it.is_open()):
-                raise Fault(f"{cell} " + (f"is no number with {quote(decimal)} before its decimals, as {told}" if decimal else "may have decimals or thousands") + ": say --decimal . or --decimal , and write all alike")
-        return decimal
-
-    def read_weights(self, at: int, numbers: Sequence[Number], decimal: Optional[str], groups: Iterable[list[int]]) -> Weights:
-        """Returns the weights of a column, those of a group of rows together."""
-        values = [sum((numbers[row].values[decimal or "."] for row in its), Fraction(0)) for its in groups]
-        what = f"column {at + 1}" + (f", {quote(decimal)} before decimals" if decimal else "")
-        its = Weights(values, any(it.percent for it in numbers), " ".join(self.titles[at].split()) if self.line else "", what)
-        if max(its.values) > WEIGHT:
-            raise Fault(f"column {at + 1}: with {its.places} decimals there is a weight of {max(its.values):,}, more than {WEIGHT:,}: export fewer decimals")
-        return its
+        yield from (why for why, doubt in doubts.items() if doubt)
 
 
 class Rule:
     """A rule of the game: its weights, its quota, and how they were found."""
 
-    def __init__(self, number: int, quota: Quota, its: Weights, decimal: Optional[str], of: Optional[str]) -> None:
-        self.quota, self.weights, self.decimal = quota, its, decimal
-        # decimals that add up to nearly 1 or 100, or less if the quota is a share, may be shares
-        sums = [it for it in (1, 100) if its.places and (0 if quota.read_value(decimal)[1] else 9 * it) * its.unit <= its.total * 10 <= 11 * it * its.unit]
-        whole = 100 if its.percent or re.search(r"%|p.{0,5}cent|pct|prozent", its.title, re.I) else sums[0] if sums else 0
-        if whole and not of and abs(its.total - whole * its.unit) * 1000 > whole * its.unit:
-            raise Fault(f"{its.what.partition(',')[0]} adds up to {write_plain(Fraction(its.total, its.unit))} instead of {whole}: a row may be missing, or be a total; "
-                        f"say --of 100 if a share is of {whole}{' %' * (whole > 1)}, or --of sum")
-        self.whole = whole or 100 if of == "100" and not quota.heads else 0
-        self.least, how = quota.make_whole(its.total, its.unit, decimal, self.whole * its.unit or None)
-        self.comment = write_rule_comment(number, its.title, its.percent, its.places, f"{its.what}{f', times {its.unit}' * (its.unit > 1)}; total {its.total:,}; the quota "
-                                          f"{quote(quota.text)} is {how}, {write_percent(self.least, its.total)} of the total")
+    def __init__(self, number: int, quota: Quota, its: Weights, sign: Optional[str], of: Optional[str]) -> None:
+        self.quota, self.weights, self.doubt, (self.value, self.is_share) = quota, its, "", quota.read_value(sign)
+        total, is_named = Fraction(its.total, its.scale), bool(PERCENT.search(its.title) or its.unit)
+        # decimals that add up to nearly 1 or 100, or to less if the quota is a share, may be shares
+        least = 5 if self.is_share and SHARE.search(its.title) else 9
+        sums = [it for it in (1, 100) if its.places and least * it <= 10 * total <= 11 * it]
+        whole = int(its.unit[1:] or 100) if is_named else sums[0] if sums else 0
+        if whole and not of and abs(total - whole) * 1000 > whole:
+            one, other = (quote_for_shell(f"{its.title}={it}") if its.title else it for it in ("100", "sum"))
+            why = f"adds up to {write_plain(total)} instead of {whole}: a row may be missing, or be a total"
+            why += f"; say --of {one} if a share is of {whole}{' %' * (whole == 100)}, or --of {other}"
+            # rounding may explain a few of the last digits
+            is_near = abs(total - whole) * its.scale <= max(1, 0.9 * its.number**0.5) and "/" not in its.unit
+            if not is_near and (is_named or SHARE.search(its.title)):
+                raise Fault(f"{its.what} {why}")
+            self.doubt = f"look at {its.what}, which {why}"
+        self.whole = (whole or 100) * its.scale if of == "100" else None
+        self.least, how = quota.make_whole(its.total, its.scale, sign, self.whole)
+        what = its.what + (f", {quote(sign)} before decimals" if sign and not quota.heads else "")
+        what += f", times {its.scale}" * (its.places > 0) + f"; total {its.total:,}; the quota {quote(quota.text)} is "
+        what += f"{how}, {write_percent(self.least, its.total)} of the total"
+        self.comment = write_rule_comment(number, its.title, its.unit == "%", its.places, what)
 
-    def is_quota(self, weight: int, others: int, unit: int) -> bool:
-        """Returns whether a weight is the quota of all others."""
-        value, is_share = self.quota.read_value(self.decimal)
-        return 1 < weight <= others and self.quota.round_up(value * ((self.whole * unit or others) if is_share else unit)) == weight
-
-
-def check_rows(table: Table, rules: Sequence[Rule], columns: Sequence[Weights]) -> list[str]:
-    """Refuses rows that can hardly be members, unless --all-rows takes them. Returns a comment."""
-    its: dict[int, str] = {}
-    lines, names = [line for line, _ in table.rows], table.cells[table.name]
-    left, marked = {sum(it < at for it in lines) for at in table.left}, [it for it in names if NOTE.match(it)]
-    # names as a dictionary sorts them, kinds of their first letters, rows after empty lines
-    keys = [re.sub(r"\d+", lambda it: it[0].zfill(NAME), "".join(filter(str.isalnum, unicodedata.normalize("NFKD", fold(it))))) for it in names]
-    kinds, gaps = [unicodedata.category(it[0]) for it in names], [at for at, line in enumerate(lines) if at and line - 1 not in table.lines]
-    for row, name in enumerate(names):
-        is_edge = row in (0, len(names) - 1) and len(names) > 1
-        # a column of vetoes or of heads has no other numbers
-        doubts = {it.find_reason(row, left): True for it in columns if not {*it.values} <= {0, 1} or it.values == [1, 1]}
-        doubts["may be a total or a note"] = name in marked and len(marked) < 3
-        doubts["breaks the order of the names"] = len(names) > 6 and breaks_order(keys, row)
-        doubts["has a name of another kind"] = is_edge and len({*kinds[2:-2]}) == 1 and kinds[row] not in kinds[2:-2]
-        doubts["is beside an empty line"] = is_edge and len(gaps) == 1 and len(names) > 4 and (gaps[0] < 3 if row == 0 else gaps[0] > row - 2)
-        doubts["has no letter in its name"] = not any(map(str.isalpha, name)) and any(map(str.isalpha, "".join(names)))
-        doubts["may have the numbers of the columns"] = is_edge and len(table.numbers) > 1 and is_count([table.cells[at][row] for at in table.numbers], 1, 2)
-        doubts["has the weight of the quota"] = is_edge and any(rule.is_quota(it.values[row], it.total - it.values[row], it.unit) for rule, it in zip(rules, columns))
-        why = next((it for it, doubt in doubts.items() if it and doubt), "")
-        its.update({lines[row]: f"{show(lines[row], name)}, {why}"} if why else {})
-    told = "; ".join([*its.values()][:2]) + ("; and see " + write_ranges("line", [*its][2:]) if len(its) > 2 else "")
-    if its and not table.words.all_rows:
-        raise Fault(f"{told}: say --drop " + (f"{min(its)} if it is" if len(its) == 1 else "LINES for those that are") + " no member, or --all-rows if each row is one")
-    return [f"Taken as members: {told}"] if its else []
+    def is_limit(self, weight: int, its: Weights) -> bool:
+        """Returns whether a weight is the quota of all others, what blocks it, or a majority."""
+        others = its.total - weight
+        least = self.quota.round_up(self.value * ((self.whole or others) if self.is_share else its.scale))
+        return 1 < weight <= others and weight in (least, others - least + 1, others // 2 + 1)[: max(its.number - 3, 1)]
 
 
-def make_game(data: bytes, quotas: Sequence[Quota], words: argparse.Namespace) -> str:
+def check_rows(table: Table, columns: Sequence[Weights], rules: Sequence[Rule]) -> list[str]:
+    """Refuses rows that can hardly be members, and returns what to say of those that may be none."""
+    words, rows, names, told = table.words, table.rows, table.cells[table.name], dict[int, str]()
+    # a column of vetoes or of heads has no other numbers
+    counted, first = [it for it in columns if not {*it.values} <= {0, 1}], [table.cells[at] for at in table.numbers]
+    refused = {at: "may be the sum of others" for its in counted for at in its.find_totals(names)}
+    if counted and len(rows) > 2 and all(it.is_year(0, it.values[1:]) for it in counted):
+        refused[0] = "may be a year"
+    if first[1:] and is_count([it[0] for it in first], 1, 2) and (first[2:] or len(names[0]) < 4):
+        refused[0] = "may be the numbers of the columns"
+    kept = [at for at, row in enumerate(rows) if row.line not in table.members]
+    for at in kept:
+        doubts = [why for why, it in NAMES.items() if it.search(names[at])]
+        doubts += [why for it in counted for why in it.find_reasons(at)]
+        doubts += ["has the weight of a quota" for rule, it in zip(rules, columns) if rule.is_limit(it.values[at], it)]
+        told.update({at: doubts[0]} if doubts else {})
+    refused, told = ({}, told | refused) if words.all_rows else (told | refused if words.strict else refused, told)
+    if its := [at for at in kept if at in refused]:
+        lines, why = write_lines([rows[at] for at in its]), " or ".join(dict.fromkeys(refused[at] for at in its))
+        what = f"{name_lines([rows[at] for at in its])}, {quote_all(names[at] for at in its)}, {cut(why, 80)}"
+        raise Fault(f"{what}: say --drop {lines}, or --member {lines} to keep {'them' if its[1:] else 'it'}")
+    return [f"look at {show(rows[at], names[at])}, which {told[at]}: --drop {it} leaves it out, --member {it} keeps it"
+            for at in kept if at in told for it in [write_lines([rows[at]])]]
+
+
+def name_left(table: Table) -> str:
+    """Returns what was not read: lines with their first texts, values that --only left out, columns."""
+    read, parts = {it.line for its in (table.rows, *table.filtered.values()) for it in its}, list[str]()
+    for run in ([*its] for is_left, its in groupby(table.all, key=lambda it: it.line not in read) if is_left):
+        labels = ["the heading" if it.line == table.line else quote(cut(it.label(), 30)) for it in run]
+        parts.append(f"{name_lines(run)} {', '.join(labels if len(run) < 6 else [*labels[:4], '..', labels[-1]])}")
+    parts += [f"rows with {cut(', '.join(table.filtered), 200)}"] * bool(table.filtered)
+    unread = [at + 1 for at, its in enumerate(table.cells) if any(its) and at not in (table.name, *table.weights)]
+    return "; ".join([*parts, write_ranges("column", unread)] if unread else parts)
+
+
+def list_members(names: Sequence[str], rules: Sequence[Rule]) -> list[str]:
+    """Returns the members with their weights, for some ten lines; two have their shares, long names are cut."""
+    weights = [*zip(*(it.weights.values for it in rules))]
+    shares = [max(Fraction(it, rule.weights.total) for it, rule in zip(its, rules)) for its in weights]
+    ends = {shares.index(it): f" ({what}, {write_percent(it.numerator, it.denominator)})" for it, what in
+            ((max(shares), "heaviest"), (min(shares), "lightest"))} if len({*shares}) > 1 else {}
+    texts = ["/".join(f"{it:,}" for it in its) for its in weights]
+    most = 64 if sum(map(len, [*names, *texts])) + 3 * len(names) < 780 else 16
+    return [f"{cut(name, most)} {it}{ends.get(at, '')}" for at, (name, it) in enumerate(zip(names, texts))]
+
+
+def make_game(data: bytes, path: str, quotas: Sequence[Quota], words: Any, options: str) -> str:
     """Returns the game file of a table, and says what was read."""
     table = Table(read_rows(data, words.encoding), words, sum(not it.heads for it in quotas))
-    names, read = table.find_names(), [line for line, _ in table.rows]
+    names, rows, given = table.find_names(), table.rows, [it.rpartition("=") for it in words.of or ()]
     # without weights, other numbers show which rows are no members
-    others = [at for at in table.numbers if all(Number(it).values for it in table.cells[at]) and not is_count(table.cells[at], 0, 1)]
-    numbers = {at: table.read_numbers(at) for at in table.weights or {*others} - {table.name}}
-    decimal = table.find_decimal(numbers)
-    columns = [table.read_weights(at, its, decimal, [[row] for row in range(len(read))]) for at, its in numbers.items()]
-    added = {at: table.read_weights(at, its, decimal, names.values()) for at, its in numbers.items()}
-    order, heads = iter(table.weights), Weights([Fraction(1)] * len(names), False, "heads", "each member weighs 1")
-    rules = [Rule(at, it, heads if it.heads else added[next(order)], words.decimal if it.heads else decimal, words.of) for at, it in enumerate(quotas, 1)]
-    comments = [*(it.comment for it in rules), *check_rows(table, [it for it in rules if not it.quota.heads], columns)]
-    comments += [f"Added: {write_ranges('line', [read[row] for row in its])}, {quote(name)}" for name, its in names.items() if len(its) > 1]
-    members = [f"{name} {'/'.join(f'{it.weights.values[at]:,}' for it in rules)}" for at, name in enumerate(names)]
-    members = members if len(members) <= 4 else [*members[:2], "..", members[-1]]
-    comments.insert(0, f"From a table, {write_ranges('line', read)}; {len(names)} member{'s' * (len(names) > 1)}: {', '.join(members)}")
-    unread = [at + 1 for at, its in enumerate(table.cells) if any(its) and at not in (table.name, *table.weights)]
-    left = [f"the heading, line {table.line}"] * bool(table.line) + [write_ranges(what, its) for what, its in (("line", sorted({*table.lines} - {*read, table.line})), ("column", unread)) if its]
-    comments += [f"Not read: {'; '.join(left)}"] * bool(left)
-    source = [f"Source: {' '.join((words.source or '').split())}"] * bool(words.source)
-    text = write_game([*names], [it.least for it in rules], zip(*(it.weights.values for it in rules)), words.title or "", [*source, *comments])
-    for it in () if words.quiet else comments:
-        note(it)
+    others = {at for at in table.numbers if all(Number(it).values for it in table.cells[at])} - {table.name}
+    numbers = {at: table.read_numbers(at) for at in table.weights or others}
+    cells = [(show(row, it.text, at), it) for at, its in numbers.items() for row, it in zip(rows, its)]
+    sign, wholes = find_sign(cells, words.decimal), {table.find_column(it) if _ else None: of for it, _, of in given}
+    if not {*wholes.values()} <= {"100", "sum"}:
+        raise Fault("--of takes 100 or sum, and for one column COLUMN=100", 2)
+
+    def weigh(at: int, groups: Iterable[list[int]]) -> Weights:
+        values = [sum((numbers[at][row].values[sign or "."] for row in its), Fraction(0)) for its in groups]
+        if words.round is not None:
+            values = [Fraction(int(it * 10**words.round + Fraction(1, 2)), 10**words.round) for it in values]
+        title = " ".join(table.titles[at].split()) if table.line else ""
+        return Weights(values, max(it.unit for it in numbers[at]), title, f"column {at + 1}")
+
+    columns, order = [weigh(at, [[row] for row in range(len(rows))]) for at in numbers], iter(table.weights)
+    heads, rules = Weights([Fraction(1)] * len(names), "", "heads", "each member weighs 1"), list[Rule]()
+    for number, quota in enumerate(quotas, 1):
+        at = -1 if quota.heads else next(order)
+        its, of = (heads, None) if quota.heads else (weigh(at, names.values()), wholes.get(at, wholes.get(None)))
+        rules.append(Rule(number, quota, its, words.decimal if quota.heads else sign, of))
+    told = [*(it.doubt for it in rules if it.doubt), *table.alike]
+    if told and words.strict:
+        raise Fault(told[0])
+    told += check_rows(table, columns, [it for it in rules if not it.quota.heads])
+    source = [f"Source: {' '.join(words.source.split())}"] if words.source else []
+    name = "" if path == "-" else f", {quote(path.split('/')[-1])}"
+    first = f"From a table{name}, {name_lines(rows)}; {len(names)} member{'s' * (len(names) > 1)}"
+    comments = [first, *(it.comment for it in rules)]
+    comments += [f"Added: {name_lines([rows[at] for at in its])}, {quote(it)}" for it, its in names.items() if its[1:]]
+    comments += [f"Not read: {it}" for it in [name_left(table)] if it] + [f"Options: {options}"] * bool(options)
+    weights = zip(*(it.weights.values for it in rules))
+    text = write_game([*names], [it.least for it in rules], weights, words.title or "", [*source, *comments, *told])
+    for it in [*([] if words.quiet else comments), *told]:
+        note(it, wrap_items(list_members([*names], rules)) if it is first else [])
     warn_of_low_quotas([it.least for it in rules], [it.weights.total for it in rules])
     return text
 
 
 def main(args: list[str]) -> None:
     reader = Words("from-table", __doc__)
-    reader.add_argument("quotas", metavar="QUOTA", nargs="*", help="a quota for each rule, and the file of the table")
-    reader.add_argument("--title", metavar="TEXT", help="the title of the game")
-    reader.add_argument("--source", metavar="TEXT", help="where the table comes from, for a comment")
-    reader.add_argument("--name", metavar="COLUMN", help="the column of the names, if several may have them")
-    reader.add_argument("--weight", metavar="COLUMN", action="append", help="a column of weights, once for each quota, if several have numbers; x and blanks are 1 and 0")
-    first = reader.add_mutually_exclusive_group()
-    first.add_argument("--heading", metavar="LINE", nargs=1, help="the line of the headings; else the first, or the one above --rows")
+    add = reader.add_argument
+    add("quotas", metavar="QUOTA", nargs="*", help="a quota for each rule, and the file of the table")
+    add("--title", metavar="TEXT", help="the title of the game")
+    add("--source", metavar="TEXT", help="where the table comes from, for a comment")
+    add("--name", metavar="COLUMN", help="the column of the names, if several may have them")
+    add("--weight", metavar="COLUMN", action="append", help="a column of weights, once a quota; yes and no are 1 and 0")
+    first, second = reader.add_mutually_exclusive_group(), reader.add_mutually_exclusive_group()
+    first.add_argument("--heading", metavar="LINE", nargs=1, help="the line of the headings; else the first")
     first.add_argument("--no-heading", action="store_true", help="no line has headings")
-    reader.add_argument("--rows", metavar="LINES", action="append", help="the lines of the members; else all below the heading")
-    reader.add_argument("--drop", metavar="LINES", action="append", help="lines that are not read, such as a total")
-    reader.add_argument("--only", metavar="COLUMN=VALUE", action="append", help="read only the rows that have this in a column, as year=2014")
-    reader.add_argument("--all-rows", action="store_true", help="each row is a member, even if it looks like a total, a year or a note")
-    reader.add_argument("--sum", action="store_true", help="add the weights of rows that have the same name")
-    reader.add_argument("--of", choices=["100", "sum"], help="what a share is of, if percentages do not add up to 100")
-    reader.add_argument("--decimal", choices=[".", ","], help="the decimal sign, if the table does not tell")
-    reader.add_argument("--encoding", metavar="NAME", help="the encoding of the table, as cp1252; else UTF-8 or UTF-16")
-    reader.add_argument("--quiet", action="store_true", help="do not say on standard error what was read")
+    add("--rows", metavar="LINES", action="append", help="the lines of the members; else all below the heading")
+    add("--drop", metavar="LINES", action="append", help="lines that are not read, or the name of some, as Total")
+    add("--member", metavar="LINES", action="append", help="lines or names that are members in spite of doubts")
+    add("--only", metavar="COLUMN=VALUE", action="append", help="only rows that have this in a column, as year=2014")
+    second.add_argument("--strict", action="store_true", help="refuse each row that may be no member")
+    second.add_argument("--all-rows", action="store_true", help="name rows that may be no members, and refuse none")
+    add("--sum", action="store_true", help="add the weights of rows that have the same name")
+    add("--of", metavar="WHOLE", action="append", help="what shares are of, 100 or sum, or for one column COLUMN=100")
+    add("--round", metavar="N", type=int, choices=range(13), help="round weights to this many decimals")
+    add("--blank", choices=["0"], help="read empty cells and dashes as 0")
+    add("--decimal", choices=[".", ","], help="the decimal sign, if the table does not tell")
+    add("--encoding", metavar="NAME", help="the encoding of the table, as cp1252; else UTF-8 or UTF-16")
+    add("--quiet", action="store_true", help="do not say on standard error what was read")
     words = reader.parse_words(args)
     # a quota begins with a digit after its signs, but so does the file 2014.csv
-    paths = [it for it in words.quotas if not re.match(r"\W*(heads:)?\W*\d", it) or re.search(r"^(~|\.{0,2}/)|\.[a-z]\w*$", it, re.I)]
+    paths = [it for it in words.quotas if re.match(r"(?!\W*(heads:)?\W*\d)|~|\.{0,2}/|.*\.[a-z]\w*$", it, re.I | re.S)]
     quotas = [Quota(it) for it in words.quotas if it not in paths]
     if not 1 <= len(quotas) <= RULES or len(paths) > 1:
         raise Fault(f"say a quota for each rule, 1 to {RULES} of them, as 65% or '>50%' in quotes, and one table", 2)
-    if paths in ([], ["-"]) and sys.stdin.isatty():
+    path, *_ = [*paths, "-"]
+    if path == "-" and sys.stdin.isatty():
         raise Fault("no table: name a file, as in council-tools from-table 65% table.csv >game.toml", 2)
-    with sys.stdin.buffer if paths in ([], ["-"]) else open(paths[0], "rb") as it:
-        sys.stdout.write(make_game(it.read(MOST + 1), quotas, words))
+    options = reader.write_options(words, ["title", "source", "quiet"])
+    with sys.stdin.buffer if path == "-" else open(path, "rb") as it:
+        sys.stdout.write(make_game(it.read(MOST + 1), path, quotas, words, options))

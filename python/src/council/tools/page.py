@@ -29,7 +29,7 @@ from .drawing import SHARES, escape_xml, name_share, write_quota
 
 MOST = 1000
 # comments that from_table.py writes, a line each; others are a text that may be wrapped
-ITEM = re.compile(r"(From a table(?: of|,)|Rule [1-4]:|Left out:|Not read:|Taken as members:|Added:|Source:) ?.*", re.I)
+ITEM = re.compile(r"(From a table(?: of|,)|Rule [1-4]:|Left out:|Not read:|Look at|Options:|Taken as members:|Added:|Source:) ?.*", re.I)
 LIGHT = "".join([f" --s{rule}: {light};" for rule, (light, _) in enumerate(SHARES)] + [f" --{it.word()}: {it.light};" for it in INDICES])
 DARK = "".join([f" --s{rule}: {dark};" for rule, (_, dark) in enumerate(SHARES)] + [f" --{it.word()}: {it.dark};" for it in INDICES])
 STYLE = """

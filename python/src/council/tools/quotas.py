@@ -1,16 +1,20 @@
-"""Reads a number as a table has it, and a quota as a person writes it: 255, 65%, '>50%', 2/3."""
+"""Reads numbers as a table has them, and a quota as a person writes it: 255, 65%, '>50%', 2/3."""
 from __future__ import annotations
 
 import math
 import re
 from fractions import Fraction
-from typing import Optional
+from typing import Optional, Sequence
 
 from ..game import quote, quote_for_shell
 from ..reports import Fault
 
 BLANKS = " \u00a0\u2007\u2009\u202f"
 OTHER = {".": ",", ",": "."}
+UNIT = re.compile(rf"[{BLANKS}]*(?:%|/[{BLANKS}]*0*[1-9]\d{{0,8}})$", re.A)
+CURRENCY = re.compile(rf"^(?:[€$£¥]|EUR|USD|GBP|CHF)[{BLANKS}]*|[{BLANKS}]*(?:[€$£¥]|EUR|USD|GBP|CHF)$")
+YES, NO = {"x", "yes", "true", "y", "ja", "oui", "si", "sí", "wahr"}, {"no", "false", "n", "nein", "non", "falsch"}
+NONE = {"", "-", "–", "—", "−"}
 
 
 class Number:
@@ -18,8 +22,10 @@ class Number:
 
     def __init__(self, text: str) -> None:
         self.text = text.strip(BLANKS + "\t")
-        self.percent = self.text.endswith("%")
-        digits = self.text[:-1].strip(BLANKS) if self.percent else self.text
+        # a percent sign, or the /1000 of shares; the sign of a currency tells nothing
+        digits, self.unit = UNIT.sub("", self.text), re.sub(rf"[{BLANKS}]", "", "".join(UNIT.findall(self.text)))
+        digits = CURRENCY.sub("", digits)
+        self.percent = self.unit == "%"
         if re.match(rf"\d{{1,3}}([{BLANKS}'’]\d{{3}})+([.,]|$)", digits):
             digits = re.sub(rf"[{BLANKS}'’]", "", digits)
         # its value by each decimal sign that makes it a number; the other sign separates thousands
@@ -37,6 +43,49 @@ class Number:
     def is_open(self) -> bool:
         """Returns whether it is two different numbers: 1,000 is a thousand, or one."""
         return len({*self.values.values()}) > 1
+
+
+def is_number(cell: str) -> bool:
+    """Returns whether a cell is what a person takes for a number."""
+    return bool(Number(cell.lstrip("+-−–~<>≈≤≥ ")).values)
+
+
+def is_count(cells: Sequence[str], *first: int) -> bool:
+    """Returns whether cells count on from one of these numbers."""
+    return any([*cells] == [str(at + it) for at in range(len(cells))] for it in first)
+
+
+def is_rising(cells: Sequence[str]) -> bool:
+    """Returns whether cells are two whole numbers or more, each greater than the one before."""
+    numbers = [int(it) for it in cells if re.fullmatch(r"\d{1,18}", it, re.A)]
+    return len(numbers) == len(cells) > 1 and numbers == sorted({*numbers})
+
+
+def read_cells(cells: Sequence[str], marks: bool, none: Optional[str]) -> list[Number]:
+    """Reads the cells of a column: with `marks` yes and no, or x and blanks, are 1 and 0, and with
+    `none` an empty cell or a dash is that. What is no number has no values."""
+    found = {it.casefold() for it in cells}
+    if marks and found & YES and found <= YES | NO | NONE:
+        return [Number("01"[it.casefold() in YES]) for it in cells]
+    numbers = [Number(none if none and it in NONE else it) for it in cells]
+    wholes = [int(it.unit[1:]) for it in numbers if it.unit.startswith("/")]
+    for it in numbers if len(wholes) == len(numbers) else ():
+        # 1/2 and 1/4 are 2 and 1 of 4
+        it.values = {sign: value * (math.lcm(*wholes) // int(it.unit[1:])) for sign, value in it.values.items()}
+        it.unit = f"/{math.lcm(*wholes)}"
+    return numbers
+
+
+def find_sign(cells: Sequence[tuple[str, Number]], told: Optional[str]) -> Optional[str]:
+    """Returns the decimal sign of numbers, each with its place, as they or the user tell it; None if
+    none has any."""
+    signs = [("--decimal", told), *((place, it.find_decimal()) for place, it in cells)]
+    where, sign = next((it for it in signs if it[1]), ("", None))
+    for place, it in cells:
+        if (sign and sign not in it.values) or (not sign and it.is_open()):
+            why = f"is no number with {quote(sign)} before its decimals, as {where}" if sign else "may have decimals or thousands"
+            raise Fault(f"{place} {why}: say --decimal . or --decimal , and write all alike")
+    return sign
 
 
 def count_decimals(value: Fraction) -> int:
@@ -67,7 +116,7 @@ class Quota:
         self.number = Number(rest)
         if re.search(r"[%\d]\s*\+\s*1$", rest):
             raise Fault(f"the quota {quote(text)}: write '>{rest.partition('+')[0].strip()}' for more than that, or the number of votes", 2)
-        if not self.share and not self.number.values:
+        if not self.share and (not self.number.values or "/" in self.number.unit):
             raise Fault(f"the quota {quote(text)} is no number, no percentage as 65% or '>50%', and no fraction as 2/3", 2)
 
     def read_value(self, decimal: Optional[str]) -> tuple[Fraction, bool]:
