@@ -33,6 +33,7 @@ fn game_fault_of(number: u64, member: u64) -> Option<GameFault>
         11 => Some(GameFault::QuotaRange),
         12 => Some(GameFault::Bracket),
         13 => Some(GameFault::Rules),
+        15 => Some(GameFault::Ways),
         // memory: the caller says so
         14 => Some(GameFault::Memory),
         _ => None,
