@@ -1,13 +1,11 @@
 //! The lines of an explanation, and places in the file that they are of.
 use crate::numbers::GUIDE;
+use crate::place::{Place, find};
 use council_game::{Memory, Sanitized, sanitize};
 use std::alloc::Global;
 use std::fmt::{Display, Write};
 use toml::de::Error;
 use toml::{Table, Value};
-
-/// What can close a file that breaks off in a value.
-const ENDS: &[&str] = &["", "]", "\"\"\"", "'''", "}]", "]}]", "\"\"\"}]", "'''}]"];
 
 /// What is said of a game file.
 #[derive(Drop)]
@@ -68,55 +66,47 @@ impl<'a> Explanation<'a> {
         self.line(format_args!("{before}{}{after}{wanted}", short(what)));
     }
 
-    /// Returns whether a front of the file has a key already.
-    ///
-    /// It is one of the member if there is one, or the member itself if there is no key.
-    fn has(&self, front: &str, member: Option<usize>, key: Option<&str>) -> Result<bool, Memory> {
-        for end in ENDS {
-            if let Some(table) = self.tree_with(front, end)? {
-                return Ok(match key {
-                    Some(key) => value_of(&table, member, key).is_some(),
-                    None => member <= Some(elements(&table, "member").len()),
-                });
-            }
-        }
-        Ok(false)
+    /// Returns the number of the line of an offset, the line, and what of it is before the offset.
+    fn row_at(&self, offset: usize) -> (usize, &'a str, &'a str) {
+        let text = self.text;
+        let before = text.get(..offset).unwrap_or(text);
+        let (_, front) = before.rsplit_once('\n').unwrap_or(("", before));
+        let ends = before.matches('\n').count();
+        (ends.saturating_add(1), text.lines().nth(ends).unwrap_or(""), front)
     }
 
-    /// Parses a front of the file with an end, or returns none if that is no TOML.
-    fn tree_with(&self, front: &str, end: &str) -> Result<Option<Table>, Memory> {
-        let text = format!(in self.alloc; "{front}{end}")?;
-        Ok(tree_of(self.alloc, text.as_str())?.ok())
-    }
-
-    /// Says which line first has a key, or the member if there is no key.
-    fn explain_line(&mut self, member: Option<usize>, key: Option<&str>) -> Result<(), Memory> {
-        let mut len = 0usize;
-        for (index, row) in self.text.split_inclusive('\n').enumerate() {
-            len = len.saturating_add(row.len());
-            let front = self.text.get(..len).unwrap_or(self.text);
-            // a member begins with its header or a brace; no line is parsed without need
-            let may_begin = match key {
-                Some(key) => row.contains(key),
-                None => row.contains("member") || row.contains('{'),
-            };
-            let may_begin = may_begin || row.contains('\\');
-            if may_begin && self.has(front, member, key)? {
-                let line = index.saturating_add(1);
+    /// Says on which line a place is, and returns whether it is there.
+    fn explain_line(&mut self, place: Place<'_>) -> bool {
+        match find(self.alloc, self.text, place) {
+            Ok(Some(offset)) => {
+                let (line, row, _) = self.row_at(offset);
                 self.line(format_args!("line {line}: {}", short(row.trim())));
-                break;
+                true
+            }
+            Ok(None) => false,
+            Err(_) => {
+                // memory: told at the end
+                self.failed = true;
+                false
             }
         }
-        Ok(())
     }
 
-    /// Says which line has a key, or else the member that lacks it.
-    pub fn explain_key(&mut self, member: Option<usize>, key: &str) {
-        let is_there = value_of(self.table, member, key).is_some();
-        let key = if is_there { Some(key) } else { None };
-        // memory: told at the end
-        if (is_there || member.is_some()) && self.explain_line(member, key).is_err() {
-            self.failed = true;
+    /// Says which line has a key of the top.
+    pub fn explain_key(&mut self, top: &str) {
+        let _ = self.explain_line(Place { top, element: 0, key: None });
+    }
+
+    /// Says which line has an element of an array.
+    pub fn explain_element(&mut self, top: &str, element: usize) {
+        let _ = self.explain_line(Place { top, element, key: None });
+    }
+
+    /// Says which line has a key of a member, or else the member that lacks it.
+    pub fn explain_member(&mut self, member: usize, key: &str) {
+        let place = Place { top: "member", element: member, key: Some(key) };
+        if !self.explain_line(place) {
+            self.explain_element("member", member);
         }
     }
 
@@ -124,12 +114,7 @@ impl<'a> Explanation<'a> {
     ///
     /// It returns the line, and the text before that byte. The column is in characters.
     pub fn explain_place(&mut self, offset: usize, message: &str) -> (&'a str, &'a str) {
-        let text = self.text;
-        let before = text.get(..offset).unwrap_or(text);
-        let (_, front) = before.rsplit_once('\n').unwrap_or(("", before));
-        let ends = before.matches('\n').count();
-        let row = text.lines().nth(ends).unwrap_or("");
-        let line = ends.saturating_add(1);
+        let (line, row, front) = self.row_at(offset);
         let column = front.chars().count().saturating_add(1);
         self.line(format_args!("line {line}, column {column}: {}", short(row)));
         self.line(message);

@@ -8,6 +8,7 @@ mod explanation;
 mod names;
 mod no_toml;
 mod numbers;
+mod place;
 mod remarks;
 mod values;
 

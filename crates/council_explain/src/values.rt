@@ -47,7 +47,7 @@ impl Explanation<'_> {
     pub fn explain_unknown_key(&mut self) {
         for key in self.table.keys() {
             if !is_among(key.as_str(), TOP_KEYS) {
-                self.explain_key(None, key.as_str());
+                self.explain_key(key.as_str());
                 let keys = "the keys are title, quota, quotas and member";
                 return self.line_of("at the top there is no key ", key, ": ", keys);
             }
@@ -60,7 +60,7 @@ impl Explanation<'_> {
                 if is_among(key.as_str(), MEMBER_KEYS) {
                     continue;
                 }
-                self.explain_key(Some(index.saturating_add(1)), key.as_str());
+                self.explain_member(index.saturating_add(1), key.as_str());
                 let keys = "its keys are name, weight and weights";
                 self.line_of("a member has no key ", key, ": ", keys);
                 if is_among(key.as_str(), TOP_KEYS) {
@@ -77,7 +77,10 @@ impl Explanation<'_> {
             Some(_) => ("name", limits::NAME_BYTES, NAME),
             None => ("title", limits::TITLE_BYTES, TITLE),
         };
-        self.explain_key(member, key);
+        match member {
+            Some(member) => self.explain_member(member, key),
+            None => self.explain_key(key),
+        }
         match value_of(self.table, member, key) {
             None => self.line_of("the member has no ", key, ": ", wanted),
             Some(Value::String(text)) if (1..=most).contains(&text.len()) => {
@@ -93,7 +96,7 @@ impl Explanation<'_> {
 
     /// Says which earlier member has the name of this one.
     pub fn explain_same_name(&mut self, member: usize) {
-        self.explain_key(Some(member), "name");
+        self.explain_member(member, "name");
         let name = value_of(self.table, Some(member), "name");
         for earlier in 1..member {
             if let Some(Value::String(text)) = name
@@ -101,7 +104,7 @@ impl Explanation<'_> {
             {
                 let wanted = "each name stands once";
                 self.line(format_args!("member {earlier} is named {} too: {wanted}", short(text)));
-                return self.explain_key(Some(earlier), "name");
+                return self.explain_member(earlier, "name");
             }
         }
     }
@@ -111,7 +114,7 @@ impl Explanation<'_> {
         let wanted = "a weight is a whole number from 0 to 1000000000000, without quotes";
         let rules = elements(self.table, "quotas").len();
         let key = if rules == 0 { "weight" } else { "weights" };
-        self.explain_key(Some(member), key);
+        self.explain_member(member, key);
         match value_of(self.table, Some(member), key) {
             None => self.line_of("the member has no ", key, ": ", "each member has its own"),
             Some(value) if rules == 0 => self.explain_number(value, wanted),
@@ -138,7 +141,7 @@ impl Explanation<'_> {
                 self.line_of("the file has ", members.len(), " members: ", wanted);
             }
             Some(value) => {
-                self.explain_key(None, "member");
+                self.explain_key("member");
                 self.line_of("member", kind(value), "", MEMBERS);
             }
         }
@@ -146,7 +149,7 @@ impl Explanation<'_> {
 
     /// Says what is wrong with the quota, or that there is none.
     pub fn explain_quota(&mut self) {
-        self.explain_key(None, "quota");
+        self.explain_key("quota");
         if let Some(value) = self.table.get("quota") {
             self.explain_share(value, 0, "a quota is a whole number, without quotes");
         } else if self.table.is_empty() {
@@ -178,8 +181,8 @@ impl Explanation<'_> {
     pub fn explain_rules(&mut self) {
         let quotas = elements(self.table, "quotas");
         let has_quota = self.table.contains_key("quota");
-        self.explain_key(None, "quotas");
-        self.explain_key(None, "quota");
+        self.explain_key("quotas");
+        self.explain_key("quota");
         for (rule, quota) in quotas.iter().enumerate() {
             if !matches!(quota, Value::Integer(_)) {
                 return self.explain_share(quota, rule, "quotas are 1 to 4 whole numbers");
@@ -196,8 +199,8 @@ impl Explanation<'_> {
 
     /// Says which quota of a file is not within its total.
     pub fn explain_quota_range(&mut self) {
-        self.explain_key(None, "quota");
-        self.explain_key(None, "quotas");
+        self.explain_key("quota");
+        self.explain_key("quotas");
         let (names, quotas) = match self.table.get("quota") {
             Some(quota) => (QUOTA, slice::from_ref(quota)),
             None => (QUOTAS, elements(self.table, "quotas")),
