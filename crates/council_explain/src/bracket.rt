@@ -7,57 +7,56 @@ use council_game::GameFault;
 type Misfit<'a> = (&'a str, &'static str);
 
 /// What may stand between two numbers or signs.
-const BLANKS: &[char] = &[' ', '\t', '\r', '\n'];
-
-/// What may stand around a number.
-const AROUND: &[char] = &[' ', '\t', '\r', '\n', '[', ']'];
-
-/// Skips a sign, and the blanks after it.
-fn skip<'a>(text: &'a str, sign: char, expected: &'static str) -> Result<&'a str, Misfit<'a>> {
-    match text.strip_prefix(sign) {
-        Some(rest) => Ok(rest.trim_start_matches(BLANKS)),
-        None => Err((text, expected)),
-    }
-}
-
-/// Skips a number, and the blanks after it.
-fn skip_number(text: &str) -> Result<&str, Misfit<'_>> {
-    let rest = text.trim_start_matches(DIGITS);
-    match text.len().saturating_sub(rest.len()) {
-        0 => Err((text, "a weight is expected here, a whole number")),
-        1..=18 => Ok(rest.trim_start_matches(BLANKS)),
-        _ => Err((
-            text.get(18..).unwrap_or(""),
-            "a number has at most 18 digits",
-        )),
-    }
-}
+const BLANKS: [char; 4] = [' ', '\t', '\r', '\n'];
 
 /// Skips what stands in the brackets.
 pub fn skip_rule(text: &str) -> Result<&str, Misfit<'_>> {
-    let rest = skip_number(text)?;
-    let weights = skip(rest, ';', "a semicolon is expected here, after the quota")?;
-    let mut rest = weights;
-    for _ in weights.split(',') {
-        rest = skip_number(rest)?;
-        match skip(rest, ',', "") {
-            Ok(after) => rest = after,
-            Err(_) => break,
+    let mut at = 0usize;
+    for number in 0..=text.len() {
+        let rest = text.get(at..).unwrap_or("");
+        let after = rest.trim_start_matches(DIGITS);
+        match rest.len().saturating_sub(after.len()) {
+            0 => return Err((rest, "a weight is expected here, a whole number")),
+            1..=18 => {}
+            _ => {
+                let rest = rest.get(18..).unwrap_or("");
+                return Err((rest, "a number has at most 18 digits"));
+            }
+        }
+        let rest = after.trim_start_matches(BLANKS);
+        match rest.strip_prefix(if number == 0 { ';' } else { ',' }) {
+            Some(after) => at = text
+                .len()
+                .saturating_sub(after.trim_start_matches(BLANKS).len()),
+            None if number == 0 => return Err((
+                rest,
+                "a semicolon is expected here, after the quota",
+            )),
+            None => return Ok(rest),
         }
     }
-    Ok(rest)
+    Ok("")
 }
 
 /// Skips the whole text.
 pub fn skip_text(text: &str) -> Result<&str, Misfit<'_>> {
-    let rest = skip(text.trim_start_matches(BLANKS), '[', "")?;
-    let expected = "a comma or a bracket is expected here, after the weight";
-    skip(skip_rule(rest)?, ']', expected)
+    let inside = text
+        .trim_start_matches(BLANKS)
+        .strip_prefix('[')
+        .unwrap_or("");
+    let rest = skip_rule(inside.trim_start_matches(BLANKS))?;
+    match rest.strip_prefix(']') {
+        Some(after) => Ok(after.trim_start_matches(BLANKS)),
+        None => Err((
+            rest,
+            "a comma or a bracket is expected here, after the weight",
+        )),
+    }
 }
 
 /// Returns the number that stands between blanks and brackets.
 fn number_in(text: &str) -> u64 {
-    let digits = text.trim_matches(AROUND);
+    let digits = text.trim_matches([' ', '\t', '\r', '\n', '[', ']']);
     u64::from_str_radix(digits, 10).unwrap_or(0)
 }
 

@@ -1,13 +1,15 @@
 //! What a fault says of bytes.
-use crate::explanation::{Explanation, tree_of};
-use council_game::{GameFault, Memory};
+use crate::explanation::Explanation;
+use crate::place::Place;
+use crate::values::{NAME, TITLE};
+use council_game::{GameFault, Memory, limits};
 use std::alloc::Global;
 use toml::Table;
 use toml::de::Error;
 
 /// Returns whether the bytes are those of a spreadsheet or an archive.
 fn is_spreadsheet(bytes: &[u8]) -> bool {
-    bytes.starts_with(b"PK\x03\x04") || bytes.starts_with(b"\xD0\xCF\x11\xE0")
+    matches!(bytes, [b'P', b'K', 3, 4, ..] | [0xD0, 0xCF, 0x11, 0xE0, ..])
 }
 
 impl Explanation<'_> {
@@ -28,11 +30,14 @@ impl Explanation<'_> {
             GameFault::Bracket => self.explain_misfit(),
             _ if error.is_some() => self.explain_bracket(fault),
             GameFault::UnknownKey => self.explain_unknown_key(),
-            GameFault::Title => self.explain_text(None),
+            GameFault::Title => self.explain_text(Place::Top("title"), limits::TITLE_BYTES, TITLE),
             GameFault::Rules => self.explain_rules(),
             GameFault::Quota => self.explain_quota(),
             GameFault::Members => self.explain_members(),
-            GameFault::Name { member } => self.explain_text(Some(usize::from(member))),
+            GameFault::Name { member } => {
+                let place = Place::Key("member", usize::from(member), "name");
+                self.explain_text(place, limits::NAME_BYTES, NAME);
+            }
             GameFault::SameName { member } => self.explain_same_name(usize::from(member)),
             GameFault::Weight { member } => self.explain_weight(usize::from(member)),
             GameFault::QuotaRange => self.explain_quota_range(),
@@ -53,8 +58,10 @@ pub fn explain(alloc: Global, bytes: &[u8], fault: GameFault) -> Result<String, 
     // some editors write these before a text
     let bytes = bytes.strip_prefix(b"\xEF\xBB\xBF").unwrap_or(bytes);
     let text = String::from_utf8_lossy(alloc, bytes)?;
-    let (table, error) = match tree_of(alloc, text.as_str())? {
+    let (table, error) = match toml::table_from_str(alloc, text.as_str()) {
         Ok(table) => (table, None),
+        // memory: a growth was refused
+        Err(error) if error.is_memory() => return Err(Memory),
         Err(error) => (Table::new(alloc), Some(error)),
     };
     let mut explanation = Explanation {

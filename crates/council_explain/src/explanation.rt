@@ -1,11 +1,10 @@
-//! The lines of an explanation, and places in the file that they are of.
+//! The lines of an explanation, and the lines of the file that they show.
 use crate::numbers::GUIDE;
 use crate::place::{Place, find};
-use council_game::{Memory, Sanitized, sanitize};
+use council_game::{Sanitized, sanitize};
 use std::alloc::Global;
 use std::fmt::{Display, Write};
-use toml::de::Error;
-use toml::{Table, Value};
+use toml::Table;
 
 /// What is said of a game file.
 #[derive(Drop)]
@@ -26,32 +25,6 @@ pub fn short<T: Display>(what: T) -> Sanitized<T> {
     sanitize(what, 100)
 }
 
-/// Returns the elements of the array at a key of the top.
-pub fn elements<'a>(table: &'a Table, key: &str) -> &'a [Value] {
-    match table.get(key) {
-        Some(Value::Array(items)) => items.as_slice(),
-        _ => &[],
-    }
-}
-
-/// Returns the value at a key of the top, or else of a member, from 1.
-pub fn value_of<'a>(table: &'a Table, member: Option<usize>, key: &str) -> Option<&'a Value> {
-    let Some(member) = member else {
-        return table.get(key);
-    };
-    let members = elements(table, "member");
-    members.get(member.wrapping_sub(1))?.get(key)
-}
-
-/// Returns the tree of a text, or why it is no TOML.
-pub fn tree_of(alloc: Global, text: &str) -> Result<Result<Table, Error>, Memory> {
-    match toml::table_from_str(alloc, text) {
-        // memory: a growth was refused
-        Err(error) if error.is_memory() => Err(Memory),
-        tree => Ok(tree),
-    }
-}
-
 impl<'a> Explanation<'a> {
     /// Adds a line.
     pub fn line(&mut self, line: impl Display + Drop) {
@@ -66,47 +39,27 @@ impl<'a> Explanation<'a> {
         self.line(format_args!("{before}{}{after}{wanted}", short(what)));
     }
 
-    /// Returns the number of the line of an offset, the line, and what of it is before the offset.
+    /// Returns the number of the line of an offset, the line, and what it has before the offset.
     fn row_at(&self, offset: usize) -> (usize, &'a str, &'a str) {
         let text = self.text;
         let before = text.get(..offset).unwrap_or(text);
         let (_, front) = before.rsplit_once('\n').unwrap_or(("", before));
         let ends = before.matches('\n').count();
-        (ends.saturating_add(1), text.lines().nth(ends).unwrap_or(""), front)
+        let row = text.lines().nth(ends).unwrap_or("");
+        (ends.saturating_add(1), row, front)
     }
 
-    /// Says on which line a place is, and returns whether it is there.
-    fn explain_line(&mut self, place: Place<'_>) -> bool {
+    /// Says which line has a place, if it is there.
+    pub fn explain_line(&mut self, place: Place<'_>) {
         match find(self.alloc, self.text, place) {
-            Ok(Some(offset)) => {
+            Ok(Some(rest)) => {
+                let offset = self.text.len().saturating_sub(rest.len());
                 let (line, row, _) = self.row_at(offset);
                 self.line(format_args!("line {line}: {}", short(row.trim())));
-                true
             }
-            Ok(None) => false,
-            Err(_) => {
-                // memory: told at the end
-                self.failed = true;
-                false
-            }
-        }
-    }
-
-    /// Says which line has a key of the top.
-    pub fn explain_key(&mut self, top: &str) {
-        let _ = self.explain_line(Place { top, element: 0, key: None });
-    }
-
-    /// Says which line has an element of an array.
-    pub fn explain_element(&mut self, top: &str, element: usize) {
-        let _ = self.explain_line(Place { top, element, key: None });
-    }
-
-    /// Says which line has a key of a member, or else the member that lacks it.
-    pub fn explain_member(&mut self, member: usize, key: &str) {
-        let place = Place { top: "member", element: member, key: Some(key) };
-        if !self.explain_line(place) {
-            self.explain_element("member", member);
+            Ok(None) => {}
+            // memory: told at the end
+            Err(_) => self.failed = true,
         }
     }
 
@@ -118,12 +71,6 @@ impl<'a> Explanation<'a> {
         let column = front.chars().count().saturating_add(1);
         self.line(format_args!("line {line}, column {column}: {}", short(row)));
         self.line(message);
-        self.explain_sign(offset, front);
-        (row, front)
-    }
-
-    /// Says what helps against a sign that is not of a game file, after the front of its line.
-    fn explain_sign(&mut self, offset: usize, front: &str) {
         match self.text.as_bytes().get(offset) {
             Some(b'%' | b'/') => self.line(GUIDE),
             Some(b'.') if front.trim_start() == "[0" && self.text.matches('.').count() == 1 => {
@@ -132,5 +79,6 @@ impl<'a> Explanation<'a> {
             Some(b'.') => self.explain_factor('.'),
             _ => {}
         }
+        (row, front)
     }
 }

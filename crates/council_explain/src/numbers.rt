@@ -6,12 +6,6 @@ use toml::Value;
 /// The digits of a number.
 pub const DIGITS: &[char] = &['0', '1', '2', '3', '4', '5', '6', '7', '8', '9'];
 
-/// What begins an exponent.
-const EXPONENT: &[char] = &['e', 'E'];
-
-/// The signs of a percentage and of a fraction.
-const SHARE: &[char] = &['%', '/'];
-
 /// What is said of a percentage and of a fraction.
 pub const GUIDE: &str = "docs/GUIDE.md says how percentages and fractions become whole numbers";
 
@@ -28,25 +22,7 @@ pub fn kind(value: &Value) -> &'static str {
     }
 }
 
-/// Returns the most digits after a sign in a line, without zeros at their end and with them.
-fn decimals_of(line: &str, sign: char) -> (usize, usize) {
-    let mut most = (0usize, 0usize);
-    let mut is_number = false;
-    for part in line.split(sign) {
-        let rest = part.trim_start_matches(DIGITS);
-        let digits = part.strip_suffix(rest).unwrap_or("");
-        if is_number && !rest.starts_with(EXPONENT) {
-            let decimals = digits.trim_end_matches('0');
-            most = (most.0.max(decimals.len()), most.1.max(digits.len()));
-        }
-        is_number = part.ends_with(DIGITS);
-    }
-    most
-}
-
-/// Returns the most decimals of a number in a text.
-///
-/// First without zeros at their end, and then with them.
+/// Returns the most decimals of a number: without zeros at their end, and with them.
 ///
 /// The comma of an array counts for nothing, nor does what is in a comment or before a quote.
 fn most_decimals(text: &str, sign: char) -> (usize, usize) {
@@ -54,9 +30,16 @@ fn most_decimals(text: &str, sign: char) -> (usize, usize) {
     for line in text.lines() {
         let (line, _) = line.split_once('#').unwrap_or((line, ""));
         let (_, line) = line.rsplit_once('"').unwrap_or(("", line));
-        if sign != ',' || !line.contains('[') {
-            let (decimals, digits) = decimals_of(line, sign);
-            most = (most.0.max(decimals), most.1.max(digits));
+        let is_array = sign == ',' && line.contains('[');
+        let mut is_number = false;
+        for part in line.split(sign) {
+            let rest = part.trim_start_matches(DIGITS);
+            let digits = part.strip_suffix(rest).unwrap_or("");
+            if is_number && !rest.starts_with(['e', 'E']) {
+                let decimals = digits.trim_end_matches('0');
+                most = (most.0.max(decimals.len()), most.1.max(digits.len()));
+            }
+            is_number = !is_array && part.ends_with(DIGITS);
         }
     }
     most
@@ -78,7 +61,7 @@ impl Explanation<'_> {
                 }
                 self.explain_factor('.');
             }
-            Value::String(text) if text.contains(SHARE) => self.line(GUIDE),
+            Value::String(text) if text.contains(['%', '/']) => self.line(GUIDE),
             _ => {}
         }
     }
@@ -100,7 +83,12 @@ impl Explanation<'_> {
     }
 
     /// Says that a quota of that name is not within its total.
-    pub fn explain_range(&mut self, name: &str, quota: impl Display + Drop, total: u64) {
+    pub fn explain_range(
+        &mut self,
+        name: impl Display + Drop,
+        quota: impl Display + Drop,
+        total: u64,
+    ) {
         self.line(format_args!(
             "{name} is {}, and the weights add up to {total}: a quota is from 1 to that total",
             short(quota)

@@ -1,45 +1,38 @@
 //! Where a key of a file begins, or an element of an array, in one pass over the text.
 use std::alloc::Global;
+use toml::{Table, Value};
 use toml_parser::text::skip_blank;
 use toml_parser::{Key, ParseError, dotted_key, quoted, starts_string};
 
-/// A key of the top, an element of the array that it has, or a key of that element.
+/// What a file in TOML can have; elements are counted from 1.
 #[derive(Clone, Copy)]
-pub struct Place<'a> {
-    /// The key of the top.
-    pub top: &'a str,
-    /// The element, from 1, or 0 for the key of the top.
-    pub element: usize,
-    /// The key of the element.
-    pub key: Option<&'a str>,
+pub enum Place<'a> {
+    /// A key of the top.
+    Top(&'a str),
+    /// An element of the array at a key of the top.
+    Element(&'a str, usize),
+    /// A key of such an element, or else the element.
+    Key(&'a str, usize, &'a str),
 }
 
-/// Whose keys stand in the lines below a header.
-#[derive(Clone, Copy)]
-enum Owner {
-    Top,
-    Element,
-    Other,
+/// Returns the elements of the array at a key of the top.
+pub fn elements<'a>(table: &'a Table, key: &str) -> &'a [Value] {
+    match table.get(key) {
+        Some(Value::Array(items)) => items.as_slice(),
+        _ => &[],
+    }
 }
 
-/// What is known of a text in TOML up to some offset.
-#[derive(Drop)]
-struct Pass<'a> {
-    alloc: Global,
-    text: &'a str,
-    place: Place<'a>,
-    /// The offset up to which the text was read.
-    until: usize,
-    owner: Owner,
-    /// How many elements of the array have begun.
-    element: usize,
-    /// How many brackets and braces of a value are open.
-    depth: usize,
-    /// Whether the value is the array, and what is open in it a table.
-    is_array: bool,
-    is_table: bool,
-    /// Whether a line, an element or a key begins next.
-    begins: bool,
+/// Returns the value at a place.
+pub fn value_of<'a>(table: &'a Table, place: Place<'_>) -> Option<&'a Value> {
+    match place {
+        Place::Top(key) => table.get(key),
+        Place::Element(top, number) => elements(table, top).get(number.wrapping_sub(1)),
+        Place::Key(top, number, key) => match elements(table, top).get(number.wrapping_sub(1)) {
+            Some(Value::Table(element)) => element.get(key),
+            _ => None,
+        },
+    }
 }
 
 /// Returns whether a dotted key has this part at an index.
@@ -50,131 +43,97 @@ fn has_part(key: &Key, index: usize, part: &str) -> bool {
     }
 }
 
-impl Pass<'_> {
-    /// Reads on up to where a rest of the text begins.
-    fn read_to(&mut self, rest: &str) {
-        self.until = self.text.len().saturating_sub(rest.len());
-    }
-
-    /// Reads a key, or that of a header.
-    fn read_key(&mut self, rest: &str) -> Result<Key, ParseError> {
-        let (key, after) = dotted_key(self.alloc, rest.trim_start_matches(['[', ' ', '\t']))?;
-        self.read_to(after);
-        Ok(key)
-    }
-
-    /// Returns whether the place is in this element, and has this part of a key there.
-    fn is_here(&self, key: &Key, index: usize) -> bool {
-        self.element == self.place.element
-            && match self.place.key {
-                Some(part) => has_part(key, index, part),
-                None => true,
-            }
-    }
-
-    /// Reads the key of a line, and returns whether it is the place.
-    fn read_line(&mut self, rest: &str) -> Result<bool, ParseError> {
-        let key = self.read_key(rest)?;
-        let is_top = has_part(&key, 0, self.place.top);
-        let is_whole = is_top && key.path.is_empty();
-        if rest.starts_with('[') {
-            self.owner = if is_whole { Owner::Element } else { Owner::Other };
-            if is_whole && rest.starts_with("[[") {
-                self.element = self.element.saturating_add(1);
-            }
-            return Ok(is_top && self.is_here(&key, 1));
-        }
-        match self.owner {
-            Owner::Top => {
-                self.is_array = is_whole;
-                Ok(is_top && self.is_here(&key, 1))
-            }
-            Owner::Element => Ok(self.is_here(&key, 0)),
-            Owner::Other => Ok(false),
-        }
-    }
-
-    /// Reads a sign of a value, or all of a text.
-    fn read_sign(&mut self, byte: u8, rest: &str) -> Result<(), ParseError> {
-        match byte {
-            b'[' | b'{' => {
-                self.begins = true;
-                self.depth = self.depth.saturating_add(1);
-                match self.depth {
-                    1 => self.is_array = self.is_array && byte == b'[',
-                    2 => self.is_table = self.is_array && byte == b'{',
-                    _ => {}
-                }
-            }
-            b']' | b'}' => self.depth = self.depth.saturating_sub(1),
-            b',' => self.begins = true,
-            _ if starts_string(rest) => {
-                let (_, after) = quoted(self.alloc, rest)?;
-                self.read_to(after);
-            }
-            _ => {}
-        }
-        Ok(())
-    }
-
-    /// Reads what begins with a byte that is no blank, and returns whether it is the place.
-    fn read_token(&mut self, byte: u8, rest: &str) -> Result<bool, ParseError> {
-        let begins = self.begins;
-        self.begins = false;
-        match self.depth {
-            0 if begins => self.read_line(rest),
-            1 if begins && self.is_array && byte != b']' => {
-                self.element = self.element.saturating_add(1);
-                self.read_sign(byte, rest)?;
-                Ok(self.element == self.place.element && self.place.key.is_none())
-            }
-            2 if begins && self.is_table && byte != b'}' => {
-                let key = self.read_key(rest)?;
-                Ok(self.is_here(&key, 0))
-            }
-            _ => {
-                self.read_sign(byte, rest)?;
-                Ok(false)
-            }
-        }
-    }
-}
-
-/// Returns the offset of a place in a text in TOML, if it is there.
-///
-/// # Errors
-///
-/// Memory if an allocation was refused; or the text is not TOML.
-pub fn find(alloc: Global, text: &str, place: Place<'_>) -> Result<Option<usize>, ParseError> {
-    let mut pass = Pass {
-        alloc,
-        text,
-        place,
-        until: 0,
-        owner: Owner::Top,
-        element: 0,
-        depth: 0,
-        is_array: false,
-        is_table: false,
-        begins: true,
-    };
+/// Skips a value, up to a comma, a bracket or the end of its line.
+fn skip_value(alloc: Global, text: &str) -> Result<&str, ParseError> {
+    let (mut depth, mut until) = (0usize, 0usize);
     for (at, byte) in text.as_bytes().iter().enumerate() {
-        if at < pass.until {
+        if at < until {
             continue;
         }
         let rest = text.get(at..).unwrap_or("");
         match *byte {
-            b' ' | b'\t' | b'\r' => {}
-            b'\n' | b'#' => {
-                pass.begins = pass.begins || pass.depth == 0;
-                pass.read_to(skip_blank(rest, true));
+            b',' | b']' | b'}' | b'\n' | b'#' if depth == 0 => return Ok(rest),
+            b'[' | b'{' => depth = depth.saturating_add(1),
+            b']' | b'}' => depth = depth.saturating_sub(1),
+            b'#' => until = text.len().saturating_sub(skip_blank(rest, true).len()),
+            _ if starts_string(rest) => {
+                let (_, after) = quoted(alloc, rest)?;
+                until = text.len().saturating_sub(after.len());
             }
-            byte => {
-                if pass.read_token(byte, rest)? {
-                    return Ok(Some(at));
-                }
-            }
+            _ => {}
         }
     }
-    Ok(None)
+    Ok("")
+}
+
+/// Skips a value, the comma after it, and what is blank.
+fn skip_item(alloc: Global, text: &str) -> Result<&str, ParseError> {
+    let rest = skip_blank(skip_value(alloc, text)?, true);
+    Ok(skip_blank(rest.trim_start_matches(','), true))
+}
+
+/// Skips an opening bracket, and the elements before that of a number.
+fn skip_elements(alloc: Global, text: &str, number: usize) -> Result<&str, ParseError> {
+    let mut at = 1usize;
+    for _ in 1..number {
+        let rest = skip_blank(text.get(at..).unwrap_or(""), true);
+        at = text.len().saturating_sub(skip_item(alloc, rest)?.len());
+    }
+    Ok(skip_blank(text.get(at..).unwrap_or(""), true))
+}
+
+/// Finds a place in a text in TOML, and returns the text from there on.
+///
+/// # Errors
+///
+/// Memory if an allocation was refused; or the text is not TOML.
+pub fn find<'a>(
+    alloc: Global,
+    text: &'a str,
+    place: Place<'_>,
+) -> Result<Option<&'a str>, ParseError> {
+    let (top, number, part) = match place {
+        Place::Top(top) => (top, 0, None),
+        Place::Element(top, number) => (top, number, None),
+        Place::Key(top, number, part) => (top, number, Some(part)),
+    };
+    let (mut at, mut element, mut found) = (0usize, 0usize, None);
+    // how many parts of the place a header gives to the lines below it; 2 if it is another's
+    let mut below = 0usize;
+    for _ in 0..text.len() {
+        let rest = skip_blank(text.get(at..).unwrap_or(""), true);
+        if rest.is_empty() || rest.starts_with('}') {
+            break;
+        }
+        let (key, after) = dotted_key(alloc, rest.trim_start_matches(['[', ' ', '\t']))?;
+        let is_header = rest.starts_with('[');
+        let given = if is_header { 0 } else { below };
+        let is_top = given == 1 || given == 0 && has_part(&key, 0, top);
+        let is_whole = is_top && given == 0 && key.path.is_empty();
+        if is_header {
+            below = if is_whole { 1 } else { 2 };
+        }
+        if is_whole && rest.starts_with("[[") {
+            element = element.saturating_add(1);
+            found = if element == number { Some(rest) } else { found };
+        }
+        let is_here = match part {
+            Some(part) => element == number && has_part(&key, 1usize.saturating_sub(given), part),
+            None => number == 0,
+        };
+        if is_top && is_here {
+            return Ok(Some(rest));
+        }
+        let after = after.trim_start_matches([']', '=', ' ', '\t']);
+        let after = if is_whole && after.starts_with('[') {
+            // the array: goes on in the braces of the element
+            let rest = skip_elements(alloc, after, number)?;
+            (below, element, found) = (1, number, Some(rest));
+            rest.strip_prefix('{').unwrap_or("")
+        } else {
+            skip_item(alloc, after)?
+        };
+        at = text.len().saturating_sub(after.len());
+    }
+    Ok(found)
 }

@@ -1,33 +1,34 @@
 //! What is wrong with the keys and values of a file in TOML.
-use crate::explanation::{Explanation, elements, short, value_of};
+use crate::explanation::{Explanation, short};
 use crate::numbers::kind;
+use crate::place::{Place, elements, value_of};
 use council_game::limits;
 use std::num::{nearest_u64_to_f64, saturating_f64_to_u64};
 use std::slice;
-use toml::Value;
+use toml::{Table, Value};
 
 /// How each member begins.
 pub const MEMBERS: &str =
     "each member begins with a line [[member]], with two brackets on each side";
 
 /// What a name and a title are.
-const NAME: &str = "a name is a text in quotes, of 1 to 64 bytes, on one line";
+pub const NAME: &str = "a name is a text in quotes, of 1 to 64 bytes, on one line";
 
-const TITLE: &str = "a title is a text in quotes, of at most 200 bytes, on one line";
-
-/// The names of the only quota, and of several.
-const QUOTA: &[&str] = &["the quota"];
-
-const QUOTAS: &[&str] = &["quota 1", "quota 2", "quota 3", "quota 4"];
+pub const TITLE: &str = "a title is a text in quotes, of at most 200 bytes, on one line";
 
 /// The keys that a file may have at its top, and those of a member.
 const TOP_KEYS: &[&str] = &["title", "quota", "quotas", "member"];
 
 const MEMBER_KEYS: &[&str] = &["name", "weight", "weights"];
 
-/// Returns whether a key is one of these.
-fn is_among(key: &str, keys: &[&str]) -> bool {
-    keys.contains(&key)
+/// Returns the first key of a table that is none of these.
+fn other_key<'a>(table: &'a Table, keys: &[&str]) -> Option<&'a str> {
+    for key in table.keys() {
+        if !keys.contains(&key.as_str()) {
+            return Some(key.as_str());
+        }
+    }
+    None
 }
 
 /// Returns the weight of a member under a rule, if it is a whole number; 0 for one below 0.
@@ -45,25 +46,19 @@ fn weight_of(member: &Value, rule: usize) -> Option<u64> {
 impl Explanation<'_> {
     /// Says which key the file, or else a member, may not have.
     pub fn explain_unknown_key(&mut self) {
-        for key in self.table.keys() {
-            if !is_among(key.as_str(), TOP_KEYS) {
-                self.explain_key(key.as_str());
-                let keys = "the keys are title, quota, quotas and member";
-                return self.line_of("at the top there is no key ", key, ": ", keys);
-            }
+        if let Some(key) = other_key(self.table, TOP_KEYS) {
+            self.explain_line(Place::Top(key));
+            let keys = "the keys are title, quota, quotas and member";
+            return self.line_of("at the top there is no key ", key, ": ", keys);
         }
         for (index, member) in elements(self.table, "member").iter().enumerate() {
-            let Value::Table(table) = member else {
-                continue;
-            };
-            for key in table.keys() {
-                if is_among(key.as_str(), MEMBER_KEYS) {
-                    continue;
-                }
-                self.explain_member(index.saturating_add(1), key.as_str());
+            if let Value::Table(table) = member
+                && let Some(key) = other_key(table, MEMBER_KEYS)
+            {
+                self.explain_line(Place::Key("member", index.saturating_add(1), key));
                 let keys = "its keys are name, weight and weights";
                 self.line_of("a member has no key ", key, ": ", keys);
-                if is_among(key.as_str(), TOP_KEYS) {
+                if TOP_KEYS.contains(&key) {
                     self.line("what belongs to the game stands before the first [[member]]");
                 }
                 return;
@@ -71,18 +66,11 @@ impl Explanation<'_> {
         }
     }
 
-    /// Says what is wrong with the name of a member, or else with the title.
-    pub fn explain_text(&mut self, member: Option<usize>) {
-        let (key, most, wanted) = match member {
-            Some(_) => ("name", limits::NAME_BYTES, NAME),
-            None => ("title", limits::TITLE_BYTES, TITLE),
-        };
-        match member {
-            Some(member) => self.explain_member(member, key),
-            None => self.explain_key(key),
-        }
-        match value_of(self.table, member, key) {
-            None => self.line_of("the member has no ", key, ": ", wanted),
+    /// Says what is wrong with a text that has at most so many bytes.
+    pub fn explain_text(&mut self, place: Place<'_>, most: usize, wanted: &str) {
+        self.explain_line(place);
+        match value_of(self.table, place) {
+            None => self.line_of("the member has no ", "name", ": ", wanted),
             Some(Value::String(text)) if (1..=most).contains(&text.len()) => {
                 let control = "a TAB, the end of a line or another control character";
                 self.line_of("the text has ", control, ": ", wanted);
@@ -96,15 +84,17 @@ impl Explanation<'_> {
 
     /// Says which earlier member has the name of this one.
     pub fn explain_same_name(&mut self, member: usize) {
-        self.explain_member(member, "name");
-        let name = value_of(self.table, Some(member), "name");
+        let place = Place::Key("member", member, "name");
+        self.explain_line(place);
+        let name = value_of(self.table, place);
         for earlier in 1..member {
+            let place = Place::Key("member", earlier, "name");
             if let Some(Value::String(text)) = name
-                && value_of(self.table, Some(earlier), "name") == name
+                && value_of(self.table, place) == name
             {
                 let wanted = "each name stands once";
                 self.line(format_args!("member {earlier} is named {} too: {wanted}", short(text)));
-                return self.explain_member(earlier, "name");
+                return self.explain_line(place);
             }
         }
     }
@@ -114,8 +104,9 @@ impl Explanation<'_> {
         let wanted = "a weight is a whole number from 0 to 1000000000000, without quotes";
         let rules = elements(self.table, "quotas").len();
         let key = if rules == 0 { "weight" } else { "weights" };
-        self.explain_member(member, key);
-        match value_of(self.table, Some(member), key) {
+        let place = Place::Key("member", member, key);
+        self.explain_line(place);
+        match value_of(self.table, place) {
             None => self.line_of("the member has no ", key, ": ", "each member has its own"),
             Some(value) if rules == 0 => self.explain_number(value, wanted),
             Some(Value::Array(weights)) if weights.len() == rules => {
@@ -141,7 +132,7 @@ impl Explanation<'_> {
                 self.line_of("the file has ", members.len(), " members: ", wanted);
             }
             Some(value) => {
-                self.explain_key("member");
+                self.explain_line(Place::Top("member"));
                 self.line_of("member", kind(value), "", MEMBERS);
             }
         }
@@ -149,7 +140,7 @@ impl Explanation<'_> {
 
     /// Says what is wrong with the quota, or that there is none.
     pub fn explain_quota(&mut self) {
-        self.explain_key("quota");
+        self.explain_line(Place::Top("quota"));
         if let Some(value) = self.table.get("quota") {
             self.explain_share(value, 0, "a quota is a whole number, without quotes");
         } else if self.table.is_empty() {
@@ -181,8 +172,8 @@ impl Explanation<'_> {
     pub fn explain_rules(&mut self) {
         let quotas = elements(self.table, "quotas");
         let has_quota = self.table.contains_key("quota");
-        self.explain_key("quotas");
-        self.explain_key("quota");
+        self.explain_line(Place::Top("quotas"));
+        self.explain_line(Place::Top("quota"));
         for (rule, quota) in quotas.iter().enumerate() {
             if !matches!(quota, Value::Integer(_)) {
                 return self.explain_share(quota, rule, "quotas are 1 to 4 whole numbers");
@@ -199,16 +190,21 @@ impl Explanation<'_> {
 
     /// Says which quota of a file is not within its total.
     pub fn explain_quota_range(&mut self) {
-        self.explain_key("quota");
-        self.explain_key("quotas");
-        let (names, quotas) = match self.table.get("quota") {
-            Some(quota) => (QUOTA, slice::from_ref(quota)),
-            None => (QUOTAS, elements(self.table, "quotas")),
+        self.explain_line(Place::Top("quota"));
+        self.explain_line(Place::Top("quotas"));
+        let (is_one, quotas) = match self.table.get("quota") {
+            Some(quota) => (true, slice::from_ref(quota)),
+            None => (false, elements(self.table, "quotas")),
         };
         for (index, quota) in quotas.iter().enumerate() {
             let total = self.total_of(index).unwrap_or(0);
             if !matches!(quota, Value::Integer(n) if 1 <= *n && (*n as u64) <= total) {
-                return self.explain_range(names.get(index).unwrap_or(&"a quota"), quota, total);
+                return if is_one {
+                    self.explain_range("the quota", quota, total)
+                } else {
+                    let number = index.saturating_add(1);
+                    self.explain_range(format_args!("quota {number}"), quota, total)
+                };
             }
         }
     }
