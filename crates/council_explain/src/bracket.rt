@@ -1,6 +1,7 @@
 //! What is wrong with a bracket text `[q; w1, .., wn]`.
-use crate::explanation::Explanation;
-use crate::numbers::DIGITS;
+use crate::file::File;
+use crate::lines::Lines;
+use crate::numbers::{DIGITS, explain_range};
 use council_game::GameFault;
 
 /// The rest of a text that breaks the grammar there, and what is expected.
@@ -60,34 +61,36 @@ fn number_in(text: &str) -> u64 {
     u64::from_str_radix(digits, 10).unwrap_or(0)
 }
 
-impl Explanation<'_> {
+impl File {
     /// Says where the text breaks the grammar.
-    pub fn explain_misfit(&mut self) {
-        let text = self.text.trim_end();
+    pub fn explain_misfit(&self, lines: &mut Lines) {
+        let text = self.text.as_str().trim_end();
         let (rest, expected) = match skip_text(text) {
             Ok(rest) => (rest, "nothing may follow the bracket"),
             Err(misfit) => misfit,
         };
-        self.explain_place(text.len().saturating_sub(rest.len()), expected);
+        self.explain_place(lines, text.len().saturating_sub(rest.len()), expected);
     }
 
     /// Says which number of a text that keeps to the grammar is out of its range.
-    pub fn explain_bracket(&mut self, fault: GameFault) {
-        let (quota, weights) = self.text.split_once(';').unwrap_or((self.text, ""));
-        let mut total = 0u64;
+    pub fn explain_bracket(&self, lines: &mut Lines, fault: GameFault) {
+        let (quota, weights) = self.text.as_str().split_once(';').unwrap_or(("", ""));
+        let (mut count, mut total) = (0u64, 0u64);
         for weight in weights.split(',') {
+            count = count.saturating_add(1);
             total = total.saturating_add(number_in(weight));
         }
         match fault {
-            GameFault::QuotaRange => {
-                self.explain_range("the quota", number_in(quota), total);
-            }
+            GameFault::QuotaRange => explain_range(lines, "the quota", number_in(quota), total),
             GameFault::Members => {
-                let count = weights.split(',').count();
-                let wanted = "at most 40 are allowed";
-                self.line_of("the text has ", count, " weights: ", wanted);
+                lines.add_of(
+                    "the text has ",
+                    count,
+                    " weights: ",
+                    "at most 40 are allowed",
+                );
             }
-            _ => self.line("the greatest weight is 1000000000000"),
+            _ => lines.add("the greatest weight is 1000000000000"),
         }
     }
 }

@@ -1,8 +1,7 @@
 //! What a fault says of bytes.
-use crate::explanation::Explanation;
-use crate::place::Place;
-use crate::values::{NAME, TITLE};
-use council_game::{GameFault, Memory, limits};
+use crate::file::File;
+use crate::lines::Lines;
+use council_game::{GameFault, Memory};
 use std::alloc::Global;
 use toml::Table;
 use toml::de::Error;
@@ -12,35 +11,48 @@ fn is_spreadsheet(bytes: &[u8]) -> bool {
     matches!(bytes, [b'P', b'K', 3, 4, ..] | [0xD0, 0xCF, 0x11, 0xE0, ..])
 }
 
-impl Explanation<'_> {
-    /// Says what a fault says of a file; an error says that it is no TOML.
-    fn explain_fault(&mut self, bytes: &[u8], error: Option<&Error>, fault: GameFault) {
+/// Returns what a fault says of bytes of which no place is known.
+fn describe(bytes: &[u8], fault: GameFault) -> Option<&'static str> {
+    match fault {
+        GameFault::Read => {
+            Some("a folder was named, or what can not be read: name a file that you may read")
+        }
+        GameFault::TooLong | GameFault::Text if is_spreadsheet(bytes) => Some(
+            "that is a spreadsheet's own file: save the table as CSV, and council-tools from-table makes a game file of it",
+        ),
+        GameFault::TooLong => {
+            Some("the file of a game of 40 members is much shorter: is it the right file?")
+        }
+        _ => None,
+    }
+}
+
+impl File {
+    /// Says what a fault says of the file; an error says that it is no TOML.
+    fn explain_fault(
+        &self,
+        lines: &mut Lines,
+        bytes: &[u8],
+        error: Option<&Error>,
+        fault: GameFault,
+    ) {
+        if let Some(line) = describe(bytes, fault) {
+            return lines.add(line);
+        }
         match fault {
-            GameFault::Memory => {}
-            GameFault::Read => self.line(
-                "a folder was named, or what can not be read: name a file that you may read",
-            ),
-            GameFault::TooLong | GameFault::Text if is_spreadsheet(bytes) => self.line(
-                "that is a spreadsheet's own file: save the table as CSV, and council-tools from-table makes a game file of it",
-            ),
-            GameFault::TooLong => self.line(
-                "the file of a game of 40 members is much shorter: is it the right file?",
-            ),
-            GameFault::Text => self.explain_no_toml(bytes, error),
-            GameFault::Bracket => self.explain_misfit(),
-            _ if error.is_some() => self.explain_bracket(fault),
-            GameFault::UnknownKey => self.explain_unknown_key(),
-            GameFault::Title => self.explain_text(Place::Top("title"), limits::TITLE_BYTES, TITLE),
-            GameFault::Rules => self.explain_rules(),
-            GameFault::Quota => self.explain_quota(),
-            GameFault::Members => self.explain_members(),
-            GameFault::Name { member } => {
-                let place = Place::Key("member", usize::from(member), "name");
-                self.explain_text(place, limits::NAME_BYTES, NAME);
-            }
-            GameFault::SameName { member } => self.explain_same_name(usize::from(member)),
-            GameFault::Weight { member } => self.explain_weight(usize::from(member)),
-            GameFault::QuotaRange => self.explain_quota_range(),
+            GameFault::Memory | GameFault::Read | GameFault::TooLong => {}
+            GameFault::Text => self.explain_no_toml(lines, bytes, error),
+            GameFault::Bracket => self.explain_misfit(lines),
+            _ if error.is_some() => self.explain_bracket(lines, fault),
+            GameFault::UnknownKey => self.explain_unknown_key(lines),
+            GameFault::Title => self.explain_text(lines, 0),
+            GameFault::Rules => self.explain_rules(lines),
+            GameFault::Quota => self.explain_quota(lines),
+            GameFault::Members => self.explain_members(lines),
+            GameFault::Name { member } => self.explain_text(lines, usize::from(member)),
+            GameFault::SameName { member } => self.explain_same_name(lines, usize::from(member)),
+            GameFault::Weight { member } => self.explain_weight(lines, usize::from(member)),
+            GameFault::QuotaRange => self.explain_quota_range(lines),
         }
     }
 }
@@ -64,17 +76,15 @@ pub fn explain(alloc: Global, bytes: &[u8], fault: GameFault) -> Result<String, 
         Err(error) if error.is_memory() => return Err(Memory),
         Err(error) => (Table::new(alloc), Some(error)),
     };
-    let mut explanation = Explanation {
-        alloc,
-        text: text.as_str(),
-        table: &table,
-        lines: String::new(alloc),
+    let file = File { alloc, text, table };
+    let mut lines = Lines {
+        text: String::new(alloc),
         failed: false,
     };
-    explanation.explain_fault(bytes, error.as_ref(), fault);
-    if explanation.failed {
+    file.explain_fault(&mut lines, bytes, error.as_ref(), fault);
+    if lines.failed {
         // memory: a growth was refused
         return Err(Memory);
     }
-    Ok(explanation.lines)
+    Ok(lines.text)
 }

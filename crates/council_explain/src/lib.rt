@@ -4,7 +4,8 @@
 
 mod bracket;
 mod explaining;
-mod explanation;
+mod file;
+mod lines;
 mod names;
 mod no_toml;
 mod numbers;

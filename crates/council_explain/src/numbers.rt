@@ -1,5 +1,6 @@
 //! Numbers as people write them, and what turns those that are not whole into whole ones.
-use crate::explanation::{Explanation, short};
+use crate::file::File;
+use crate::lines::{Lines, short};
 use std::fmt::Display;
 use toml::Value;
 
@@ -45,23 +46,36 @@ fn most_decimals(text: &str, sign: char) -> (usize, usize) {
     most
 }
 
-impl Explanation<'_> {
+/// Says that a quota of that name is not within its total.
+pub fn explain_range(
+    lines: &mut Lines,
+    name: impl Display + Drop,
+    quota: impl Display + Drop,
+    total: u64,
+) {
+    lines.add(format_args!(
+        "{name} is {}, and the weights add up to {total}: a quota is from 1 to that total",
+        short(quota)
+    ));
+}
+
+impl File {
     /// Says what a value is that is no quota or weight, and what helps.
-    pub fn explain_number(&mut self, value: &Value, wanted: &str) {
+    pub fn explain_number(&self, lines: &mut Lines, value: &Value, wanted: &str) {
         if let Value::Integer(weight) = value {
             let range = "a weight is from 0 to 1000000000000";
-            return self.line_of("", weight, " is out of range: ", range);
+            return lines.add_of("", weight, " is out of range: ", range);
         }
-        self.line_of("", value, kind(value), wanted);
+        lines.add_of("", value, kind(value), wanted);
         match value {
             Value::Float(number) => {
                 let is_whole = number.fract() == 0.0 && 0.0 <= *number && *number <= 1e12;
-                if is_whole && most_decimals(self.text, '.').0 == 0 {
-                    self.line_of("write ", number.abs(), "", "");
+                if is_whole && most_decimals(self.text.as_str(), '.').0 == 0 {
+                    lines.add_of("write ", number.abs(), "", "");
                 }
-                self.explain_factor('.');
+                self.explain_factor(lines, '.');
             }
-            Value::String(text) if text.contains(['%', '/']) => self.line(GUIDE),
+            Value::String(text) if text.contains(['%', '/']) => lines.add(GUIDE),
             _ => {}
         }
     }
@@ -70,28 +84,15 @@ impl Explanation<'_> {
     ///
     /// It says nothing if there are no decimals, or more than the greatest weight has zeros. Three
     /// decimals may also be thousands.
-    pub fn explain_factor(&mut self, sign: char) {
-        let (decimals, digits) = most_decimals(self.text, sign);
+    pub fn explain_factor(&self, lines: &mut Lines, sign: char) {
+        let (decimals, digits) = most_decimals(self.text.as_str(), sign);
         if 0 < decimals
             && let Some(factor) = "1000000000000".get(..=decimals)
         {
-            self.line_of("multiply all weights and the quota by ", factor, "", "");
+            lines.add_of("multiply all weights and the quota by ", factor, "", "");
         }
         if digits == 3 {
-            self.line("leave out a point or a comma that separates thousands");
+            lines.add("leave out a point or a comma that separates thousands");
         }
-    }
-
-    /// Says that a quota of that name is not within its total.
-    pub fn explain_range(
-        &mut self,
-        name: impl Display + Drop,
-        quota: impl Display + Drop,
-        total: u64,
-    ) {
-        self.line(format_args!(
-            "{name} is {}, and the weights add up to {total}: a quota is from 1 to that total",
-            short(quota)
-        ));
     }
 }

@@ -1,50 +1,54 @@
 //! Where a key of a file begins, or an element of an array, in one pass over the text.
 use std::alloc::Global;
-use toml::{Table, Value};
 use toml_parser::text::skip_blank;
 use toml_parser::{Key, ParseError, dotted_key, quoted, starts_string};
 
-/// What a file in TOML can have; elements are counted from 1.
+/// What a line or a header begins with.
 #[derive(Clone, Copy)]
-pub enum Place<'a> {
-    /// A key of the top.
-    Top(&'a str),
-    /// An element of the array at a key of the top.
-    Element(&'a str, usize),
-    /// A key of such an element, or else the element.
-    Key(&'a str, usize, &'a str),
-}
-
-/// Returns the elements of the array at a key of the top.
-pub fn elements<'a>(table: &'a Table, key: &str) -> &'a [Value] {
-    match table.get(key) {
-        Some(Value::Array(items)) => items.as_slice(),
-        _ => &[],
-    }
-}
-
-/// Returns the value at a place.
-pub fn value_of<'a>(table: &'a Table, place: Place<'_>) -> Option<&'a Value> {
-    match place {
-        Place::Top(key) => table.get(key),
-        Place::Element(top, number) => elements(table, top).get(number.wrapping_sub(1)),
-        Place::Key(top, number, key) => match elements(table, top).get(number.wrapping_sub(1)) {
-            Some(Value::Table(element)) => element.get(key),
-            _ => None,
-        },
-    }
+struct Front {
+    /// Whether it is the key of the top, or below the header of an element.
+    is_top: bool,
+    /// Whether the key of the element is next.
+    is_key: bool,
+    /// Whether it has no dot.
+    is_single: bool,
+    /// Its length, up to a value.
+    len: usize,
 }
 
 /// Returns whether a dotted key has this part at an index.
 fn has_part(key: &Key, index: usize, part: &str) -> bool {
-    match key.path.get(index) {
-        Some(name) => name.as_str() == part,
-        None => index == key.path.len() && key.last.as_str() == part,
-    }
+    let name = match key.path.get(index) {
+        Some(name) => name.as_str(),
+        None if index == key.path.len() => key.last.as_str(),
+        None => return false,
+    };
+    name == part
 }
 
-/// Skips a value, up to a comma, a bracket or the end of its line.
-fn skip_value(alloc: Global, text: &str) -> Result<&str, ParseError> {
+/// Reads the key of a line or a header, of which headers gave so many parts.
+fn read_front(
+    alloc: Global,
+    text: &str,
+    top: &str,
+    part: Option<&str>,
+    given: usize,
+) -> Result<Front, ParseError> {
+    let (key, after) = dotted_key(alloc, text.trim_start_matches(['[', ' ', '\t']))?;
+    let after = after.trim_start_matches([']', '=', ' ', '\t']);
+    Ok(Front {
+        is_top: given == 1 || given == 0 && has_part(&key, 0, top),
+        is_key: match part {
+            Some(part) => has_part(&key, 1usize.saturating_sub(given), part),
+            None => false,
+        },
+        is_single: key.path.is_empty(),
+        len: text.len().saturating_sub(after.len()),
+    })
+}
+
+/// Returns how long a value is, up to a comma, a bracket or the end of its line.
+fn value_len(alloc: Global, text: &str) -> Result<usize, ParseError> {
     let (mut depth, mut until) = (0usize, 0usize);
     for (at, byte) in text.as_bytes().iter().enumerate() {
         if at < until {
@@ -52,7 +56,7 @@ fn skip_value(alloc: Global, text: &str) -> Result<&str, ParseError> {
         }
         let rest = text.get(at..).unwrap_or("");
         match *byte {
-            b',' | b']' | b'}' | b'\n' | b'#' if depth == 0 => return Ok(rest),
+            b',' | b']' | b'}' | b'\n' | b'#' if depth == 0 => return Ok(at),
             b'[' | b'{' => depth = depth.saturating_add(1),
             b']' | b'}' => depth = depth.saturating_sub(1),
             b'#' => until = text.len().saturating_sub(skip_blank(rest, true).len()),
@@ -63,77 +67,80 @@ fn skip_value(alloc: Global, text: &str) -> Result<&str, ParseError> {
             _ => {}
         }
     }
-    Ok("")
+    Ok(text.len())
 }
 
-/// Skips a value, the comma after it, and what is blank.
-fn skip_item(alloc: Global, text: &str) -> Result<&str, ParseError> {
-    let rest = skip_blank(skip_value(alloc, text)?, true);
-    Ok(skip_blank(rest.trim_start_matches(','), true))
+/// Returns how long a value is, with the comma and the blanks after it.
+fn item_len(alloc: Global, text: &str) -> Result<usize, ParseError> {
+    let rest = text.get(value_len(alloc, text)?..).unwrap_or("");
+    let rest = skip_blank(skip_blank(rest, true).trim_start_matches(','), true);
+    Ok(text.len().saturating_sub(rest.len()))
 }
 
-/// Skips an opening bracket, and the elements before that of a number.
-fn skip_elements(alloc: Global, text: &str, number: usize) -> Result<&str, ParseError> {
-    let mut at = 1usize;
-    for _ in 1..number {
-        let rest = skip_blank(text.get(at..).unwrap_or(""), true);
-        at = text.len().saturating_sub(skip_item(alloc, rest)?.len());
+/// Returns the offset of an element, from 1, in the text of an array.
+fn element_at(alloc: Global, text: &str, element: usize) -> Result<usize, ParseError> {
+    let first = skip_blank(text.get(1..).unwrap_or(""), true);
+    let mut at = text.len().saturating_sub(first.len());
+    for _ in 1..element {
+        at = at.saturating_add(item_len(alloc, text.get(at..).unwrap_or(""))?);
     }
-    Ok(skip_blank(text.get(at..).unwrap_or(""), true))
+    Ok(at)
 }
 
-/// Finds a place in a text in TOML, and returns the text from there on.
+/// Finds a key of the top, an element of it or a key of the element in a text in TOML.
+///
+/// Elements are counted from 1; 0 is the key of the top. The offset of the element is that of a key
+/// that it lacks.
 ///
 /// # Errors
 ///
 /// Memory if an allocation was refused; or the text is not TOML.
-pub fn find<'a>(
+pub fn find(
     alloc: Global,
-    text: &'a str,
-    place: Place<'_>,
-) -> Result<Option<&'a str>, ParseError> {
-    let (top, number, part) = match place {
-        Place::Top(top) => (top, 0, None),
-        Place::Element(top, number) => (top, number, None),
-        Place::Key(top, number, part) => (top, number, Some(part)),
-    };
-    let (mut at, mut element, mut found) = (0usize, 0usize, None);
-    // how many parts of the place a header gives to the lines below it; 2 if it is another's
+    text: &str,
+    top: &str,
+    element: usize,
+    key: Option<&str>,
+) -> Result<Option<usize>, ParseError> {
+    let (mut at, mut begun, mut found) = (0usize, 0usize, None);
+    // how many parts headers give to the lines below them; 2 if they are not of the element
     let mut below = 0usize;
     for _ in 0..text.len() {
         let rest = skip_blank(text.get(at..).unwrap_or(""), true);
         if rest.is_empty() || rest.starts_with('}') {
             break;
         }
-        let (key, after) = dotted_key(alloc, rest.trim_start_matches(['[', ' ', '\t']))?;
+        at = text.len().saturating_sub(rest.len());
         let is_header = rest.starts_with('[');
         let given = if is_header { 0 } else { below };
-        let is_top = given == 1 || given == 0 && has_part(&key, 0, top);
-        let is_whole = is_top && given == 0 && key.path.is_empty();
+        let front = read_front(alloc, rest, top, key, given)?;
+        let is_whole = front.is_top && front.is_single && given == 0;
         if is_header {
             below = if is_whole { 1 } else { 2 };
         }
         if is_whole && rest.starts_with("[[") {
-            element = element.saturating_add(1);
-            found = if element == number { Some(rest) } else { found };
+            begun = begun.saturating_add(1);
+            found = if begun == element { Some(at) } else { found };
         }
-        let is_here = match part {
-            Some(part) => element == number && has_part(&key, 1usize.saturating_sub(given), part),
-            None => number == 0,
-        };
-        if is_top && is_here {
-            return Ok(Some(rest));
+        if front.is_top && (element == 0 || front.is_key && begun == element) {
+            return Ok(Some(at));
         }
-        let after = after.trim_start_matches([']', '=', ' ', '\t']);
-        let after = if is_whole && after.starts_with('[') {
-            // the array: goes on in the braces of the element
-            let rest = skip_elements(alloc, after, number)?;
-            (below, element, found) = (1, number, Some(rest));
-            rest.strip_prefix('{').unwrap_or("")
+        at = at.saturating_add(front.len);
+        let rest = text.get(at..).unwrap_or("");
+        if is_whole && rest.starts_with('[') {
+            at = at.saturating_add(element_at(alloc, rest, element)?);
+            found = Some(at);
+            // the keys of the element follow, if it is a table
+            (below, begun) = (1, element);
+            let is_table = text.get(at..).unwrap_or("").starts_with('{');
+            at = if is_table {
+                at.saturating_add(1)
+            } else {
+                text.len()
+            };
         } else {
-            skip_item(alloc, after)?
-        };
-        at = text.len().saturating_sub(after.len());
+            at = at.saturating_add(item_len(alloc, rest)?);
+        }
     }
     Ok(found)
 }
