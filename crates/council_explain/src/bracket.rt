@@ -1,58 +1,46 @@
 //! What is wrong with a bracket text `[q; w1, .., wn]`.
-use crate::file::File;
+use crate::file::{File, before_first};
 use crate::lines::Lines;
 use crate::numbers::{DIGITS, explain_range};
 use council_game::GameFault;
 
-/// The rest of a text that breaks the grammar there, and what is expected.
-type Misfit<'a> = (&'a str, &'static str);
-
-/// What may stand between two numbers or signs.
-const BLANKS: [char; 4] = [' ', '\t', '\r', '\n'];
-
-/// Skips what stands in the brackets.
-pub fn skip_rule(text: &str) -> Result<&str, Misfit<'_>> {
-    let mut at = 0usize;
-    for number in 0..=text.len() {
-        let rest = text.get(at..).unwrap_or("");
-        let after = rest.trim_start_matches(DIGITS);
-        match rest.len().saturating_sub(after.len()) {
-            0 => return Err((rest, "a weight is expected here, a whole number")),
-            1..=18 => {}
-            _ => {
-                let rest = rest.get(18..).unwrap_or("");
-                return Err((rest, "a number has at most 18 digits"));
-            }
-        }
-        let rest = after.trim_start_matches(BLANKS);
-        match rest.strip_prefix(if number == 0 { ';' } else { ',' }) {
-            Some(after) => at = text
-                .len()
-                .saturating_sub(after.trim_start_matches(BLANKS).len()),
-            None if number == 0 => return Err((
-                rest,
-                "a semicolon is expected here, after the quota",
-            )),
-            None => return Ok(rest),
-        }
-    }
-    Ok("")
+/// Returns the offset after the blanks from an offset on.
+fn skip_blanks(text: &str, at: usize) -> usize {
+    let rest = text.get(at..).unwrap_or("");
+    text.len()
+        .saturating_sub(rest.trim_start_matches([' ', '\t', '\r', '\n']).len())
 }
 
-/// Skips the whole text.
-pub fn skip_text(text: &str) -> Result<&str, Misfit<'_>> {
-    let inside = text
-        .trim_start_matches(BLANKS)
-        .strip_prefix('[')
-        .unwrap_or("");
-    let rest = skip_rule(inside.trim_start_matches(BLANKS))?;
-    match rest.strip_prefix(']') {
-        Some(after) => Ok(after.trim_start_matches(BLANKS)),
-        None => Err((
-            rest,
-            "a comma or a bracket is expected here, after the weight",
-        )),
+/// Returns the offset after a quota and weights, which begin at an offset.
+///
+/// # Errors
+///
+/// Where they break the grammar, and what is expected there.
+pub fn skip_rule(text: &str, start: usize) -> Result<usize, (usize, &'static str)> {
+    let mut at = start;
+    for number in 0..=text.len() {
+        let rest = text.get(at..).unwrap_or("");
+        match rest
+            .len()
+            .saturating_sub(rest.trim_start_matches(DIGITS).len())
+        {
+            0 => return Err((at, "a weight is expected here, a whole number")),
+            1..=18 => at = skip_blanks(
+                text,
+                text.len()
+                    .saturating_sub(rest.trim_start_matches(DIGITS).len()),
+            ),
+            _ => return Err((at.saturating_add(18), "a number has at most 18 digits")),
+        }
+        match text.as_bytes().get(at) {
+            Some(b';') if number == 0 => {}
+            Some(b',') if number > 0 => {}
+            _ if number == 0 => return Err((at, "a semicolon is expected here, after the quota")),
+            _ => break,
+        }
+        at = skip_blanks(text, at.saturating_add(1));
     }
+    Ok(at)
 }
 
 /// Returns the number that stands between blanks and brackets.
@@ -65,23 +53,38 @@ impl File {
     /// Says where the text breaks the grammar.
     pub fn explain_misfit(&self, lines: &mut Lines) {
         let text = self.text.as_str().trim_end();
-        let (rest, expected) = match skip_text(text) {
-            Ok(rest) => (rest, "nothing may follow the bracket"),
+        let bracket = skip_blanks(text, 0);
+        let (offset, expected) = match skip_rule(
+            text,
+            skip_blanks(text, bracket.saturating_add(1)),
+        ) {
             Err(misfit) => misfit,
+            Ok(at) if text.as_bytes().get(at) == Some(&b']') => {
+                (
+                    skip_blanks(text, at.saturating_add(1)),
+                    "nothing may follow the bracket",
+                )
+            }
+            Ok(at) => (
+                at,
+                "a comma or a bracket is expected here, after the weight",
+            ),
         };
-        self.explain_place(lines, text.len().saturating_sub(rest.len()), expected);
+        self.explain_place(lines, offset, expected);
     }
 
     /// Says which number of a text that keeps to the grammar is out of its range.
     pub fn explain_bracket(&self, lines: &mut Lines, fault: GameFault) {
-        let (quota, weights) = self.text.as_str().split_once(';').unwrap_or(("", ""));
+        let quota = before_first(self.text.as_str(), ';');
         let (mut count, mut total) = (0u64, 0u64);
-        for weight in weights.split(',') {
+        for weight in self.text.as_str().split([';', ',']) {
             count = count.saturating_add(1);
             total = total.saturating_add(number_in(weight));
         }
+        // the first number is the quota
+        let (quota, count) = (number_in(quota), count.saturating_sub(1));
         match fault {
-            GameFault::QuotaRange => explain_range(lines, "the quota", number_in(quota), total),
+            GameFault::QuotaRange => explain_range(lines, 0, quota, total.saturating_sub(quota)),
             GameFault::Members => {
                 lines.add_of(
                     "the text has ",

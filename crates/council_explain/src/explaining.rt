@@ -11,22 +11,6 @@ fn is_spreadsheet(bytes: &[u8]) -> bool {
     matches!(bytes, [b'P', b'K', 3, 4, ..] | [0xD0, 0xCF, 0x11, 0xE0, ..])
 }
 
-/// Returns what a fault says of bytes of which no place is known.
-fn describe(bytes: &[u8], fault: GameFault) -> Option<&'static str> {
-    match fault {
-        GameFault::Read => {
-            Some("a folder was named, or what can not be read: name a file that you may read")
-        }
-        GameFault::TooLong | GameFault::Text if is_spreadsheet(bytes) => Some(
-            "that is a spreadsheet's own file: save the table as CSV, and council-tools from-table makes a game file of it",
-        ),
-        GameFault::TooLong => {
-            Some("the file of a game of 40 members is much shorter: is it the right file?")
-        }
-        _ => None,
-    }
-}
-
 impl File {
     /// Says what a fault says of the file; an error says that it is no TOML.
     fn explain_fault(
@@ -36,23 +20,33 @@ impl File {
         error: Option<&Error>,
         fault: GameFault,
     ) {
-        if let Some(line) = describe(bytes, fault) {
-            return lines.add(line);
-        }
         match fault {
-            GameFault::Memory | GameFault::Read | GameFault::TooLong => {}
+            GameFault::Memory => {}
+            GameFault::Read => {
+                lines.add(
+                    "a folder was named, or what can not be read: name a file that you may read",
+                );
+            }
+            GameFault::TooLong | GameFault::Text if is_spreadsheet(bytes) => lines.add(
+                "that is a spreadsheet's own file: save the table as CSV, and council-tools from-table makes a game file of it",
+            ),
+            GameFault::TooLong => {
+                lines.add(
+                    "the file of a game of 40 members is much shorter: is it the right file?",
+                );
+            }
             GameFault::Text => self.explain_no_toml(lines, bytes, error),
             GameFault::Bracket => self.explain_misfit(lines),
             _ if error.is_some() => self.explain_bracket(lines, fault),
             GameFault::UnknownKey => self.explain_unknown_key(lines),
             GameFault::Title => self.explain_text(lines, 0),
-            GameFault::Rules => self.explain_rules(lines),
-            GameFault::Quota => self.explain_quota(lines),
+            GameFault::Rules | GameFault::Quota | GameFault::QuotaRange => {
+                self.explain_quotas(lines, fault);
+            }
             GameFault::Members => self.explain_members(lines),
             GameFault::Name { member } => self.explain_text(lines, usize::from(member)),
             GameFault::SameName { member } => self.explain_same_name(lines, usize::from(member)),
             GameFault::Weight { member } => self.explain_weight(lines, usize::from(member)),
-            GameFault::QuotaRange => self.explain_quota_range(lines),
         }
     }
 }

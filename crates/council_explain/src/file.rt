@@ -15,6 +15,22 @@ pub struct File {
     pub table: Table,
 }
 
+/// Returns a text up to the first sign, or all of it.
+pub fn before_first(text: &str, sign: char) -> &str {
+    match text.split_once(sign) {
+        Some((before, _)) => before,
+        None => text,
+    }
+}
+
+/// Returns a text from the last sign on, without it, or all of it.
+pub fn after_last(text: &str, sign: char) -> &str {
+    match text.rsplit_once(sign) {
+        Some((_, after)) => after,
+        None => text,
+    }
+}
+
 impl File {
     /// Returns the elements of the array at a key of the top.
     pub fn elements(&self, key: &str) -> &[Value] {
@@ -24,32 +40,34 @@ impl File {
         }
     }
 
-    /// Returns the value of a key of a member, from 1.
-    pub fn value_of(&self, member: usize, key: &str) -> Option<&Value> {
+    /// Returns the table of a member, from 1, or that of the file at 0.
+    pub fn table_of(&self, member: usize) -> Option<&Table> {
+        if member == 0 {
+            return Some(&self.table);
+        }
         match self.elements("member").get(member.wrapping_sub(1)) {
-            Some(Value::Table(table)) => table.get(key),
+            Some(Value::Table(table)) => Some(table),
             _ => None,
         }
     }
 
-    /// Returns the number of the line of an offset, the line, and what it has before the offset.
-    fn row_at(&self, offset: usize) -> (usize, &str, &str) {
-        let text = self.text.as_str();
-        let before = text.get(..offset).unwrap_or(text);
-        let (_, front) = before.rsplit_once('\n').unwrap_or(("", before));
-        let ends = before.matches('\n').count();
-        let row = text.lines().nth(ends).unwrap_or("");
-        (ends.saturating_add(1), row, front)
+    /// Returns the value of a key of a member, or of the top.
+    pub fn value_of(&self, member: usize, key: &str) -> Option<&Value> {
+        self.table_of(member)?.get(key)
     }
 
-    /// Says which line has a key of the top; or an element of it, or a key of the element.
-    ///
-    /// Elements are counted from 1; 0 is the key of the top. The line of the element is that of a
-    /// key that it lacks.
+    /// Returns the number of the line that ends after a front of the text, and that line.
+    fn row_after(&self, front: &str) -> (usize, &str) {
+        let ends = front.matches('\n').count();
+        let row = self.text.as_str().lines().nth(ends).unwrap_or("");
+        (ends.saturating_add(1), row)
+    }
+
+    /// Says which line has a key of the top, an element of it, or a key of the element: see `find`.
     pub fn explain_line(&self, lines: &mut Lines, top: &str, element: usize, key: Option<&str>) {
         match find(self.alloc, self.text.as_str(), top, element, key) {
             Ok(Some(offset)) => {
-                let (line, row, _) = self.row_at(offset);
+                let (line, row) = self.row_after(self.text.as_str().get(..offset).unwrap_or(""));
                 lines.add_row(line, row.trim());
             }
             Ok(None) => {}
@@ -58,11 +76,22 @@ impl File {
         }
     }
 
+    /// Says which line has a key of a member, or of the top.
+    pub fn explain_key(&self, lines: &mut Lines, member: usize, key: &str) {
+        if member == 0 {
+            self.explain_line(lines, key, 0, None);
+        } else {
+            self.explain_line(lines, "member", member, Some(key));
+        }
+    }
+
     /// Says where a text can't be read on, what the line has, why, and what helps.
     ///
-    /// It returns the line, and the text before that byte. The column is in characters.
+    /// It returns the line, and the text of it before that byte. The column is in characters.
     pub fn explain_place(&self, lines: &mut Lines, offset: usize, message: &str) -> (&str, &str) {
-        let (line, row, front) = self.row_at(offset);
+        let before = self.text.as_str().get(..offset).unwrap_or("");
+        let (line, row) = self.row_after(before);
+        let front = after_last(before, '\n');
         let column = front.chars().count().saturating_add(1);
         lines.add_row(format_args!("{line}, column {column}"), row);
         lines.add(message);

@@ -1,5 +1,5 @@
 //! The lines of an explanation.
-use council_game::{Sanitized, sanitize};
+use council_game::sanitize;
 use std::fmt::{Display, Write};
 
 /// Lines, each begun with two blanks and ended with LF.
@@ -8,11 +8,6 @@ pub struct Lines {
     pub text: String,
     /// Whether a growth was refused. Then some of them are missing.
     pub failed: bool,
-}
-
-/// Cuts a text or value of the file to what a line shows.
-pub fn short<T: Display>(what: T) -> Sanitized<T> {
-    sanitize(what, 100)
 }
 
 impl Lines {
@@ -24,13 +19,13 @@ impl Lines {
         }
     }
 
-    /// Adds a line of words, a value of the file or a number, and further words.
+    /// Adds a line of words, a value of the file or a number, cut off if it is long, and words.
     pub fn add_of(&mut self, before: &str, what: impl Display + Drop, after: &str, wanted: &str) {
-        self.add(format_args!("{before}{}{after}{wanted}", short(what)));
+        self.add(format_args!("{before}{}{after}{wanted}", sanitize(what, 100)));
     }
 
     /// Adds a line that shows one of the file.
-    pub fn add_row(&mut self, place: impl Display + Drop, row: impl Display + Drop) {
-        self.add(format_args!("line {place}: {}", short(row)));
+    pub fn add_row(&mut self, place: impl Display + Drop, row: &str) {
+        self.add(format_args!("line {place}: {}", sanitize(row, 100)));
     }
 }

@@ -1,6 +1,6 @@
 //! What is said of a text that is not TOML, and what helps.
-use crate::bracket::{skip_rule, skip_text};
-use crate::file::File;
+use crate::bracket::skip_rule;
+use crate::file::{File, after_last, before_first};
 use crate::lines::Lines;
 use crate::numbers::DIGITS;
 use crate::values::MEMBERS;
@@ -82,10 +82,13 @@ impl File {
         let text = self.text.as_str().trim();
         let inside = text.trim_start_matches(['(', '{', '<', '[']);
         let inside = inside.trim_end_matches([')', '}', '>', ']']);
-        if matches!(skip_text(text), Ok("")) {
-            lines.add("a byte order mark stands before the bracket: save the file without one");
-        } else if matches!(skip_rule(inside.trim()), Ok("")) {
-            lines.add_of("write it in square brackets: [", inside, "]", "");
+        let rule = inside.trim();
+        if matches!(skip_rule(rule, 0), Ok(end) if end == rule.len()) {
+            if text.len() == inside.len().saturating_add(2) && text.starts_with('[') {
+                lines.add("a byte order mark stands before the bracket: save the file without one");
+            } else {
+                lines.add_of("write it in square brackets: [", inside, "]", "");
+            }
         } else if text.trim_start_matches('[').trim_start().starts_with('{') {
             lines.add(
                 "that looks like JSON: write lines such as quota = 51, and for each member [[member]], name = \"A\", weight = 50",
@@ -113,16 +116,18 @@ impl File {
 
     /// Says what helps with a number that has separators.
     fn explain_separators(&self, lines: &mut Lines, number: &str) {
-        let (_, rest) = number.split_once(SEPARATORS).unwrap_or(("", ""));
-        let mut is_thousands = true;
-        for part in rest.split(SEPARATORS) {
-            is_thousands = is_thousands && part.len() == 3;
+        let (mut signs, mut is_thousands) = (0usize, true);
+        for part in number.trim_start_matches(DIGITS).split(SEPARATORS) {
+            is_thousands = is_thousands && (signs == 0 || part.len() == 3);
+            signs = signs.saturating_add(1);
         }
-        if is_thousands && (!number.contains(',') || rest.contains(SEPARATORS)) {
+        let has_comma = number.contains(',');
+        if is_thousands && (!has_comma || 2 < signs) {
             lines.add("write a number without separators between thousands, as in 1200000");
-        } else if let Some((_, last)) = number.rsplit_once(',') {
+        } else if has_comma {
             lines.add("a number may have no comma");
-            let sign = if last.contains('.') { '.' } else { ',' };
+            let has_point = after_last(number, ',').contains('.');
+            let sign = if has_point { '.' } else { ',' };
             if number.matches(sign).count() == 1 {
                 self.explain_factor(lines, sign);
             }
@@ -157,10 +162,15 @@ impl File {
     /// Says where the text breaks off and why, and what helps against a common slip.
     fn explain_slip(&self, lines: &mut Lines, offset: usize, message: &str) {
         let (row, front) = self.explain_place(lines, offset, message);
-        let (row, _) = row.split_once('#').unwrap_or((row, ""));
+        let row = before_first(row, '#');
         let rest = row.get(front.len()..).unwrap_or("").trim();
-        let (key, value) = row.split_once('=').unwrap_or((row, ""));
-        let (key, value) = (key.trim(), value.trim());
+        let key = before_first(row, '=');
+        let value = row
+            .get(key.len()..)
+            .unwrap_or("")
+            .trim_start_matches('=')
+            .trim();
+        let key = key.trim();
         match message {
             "number out of range" => lines.add(
                 "a weight is at most 1000000000000, and a quota at most the total of its weights",

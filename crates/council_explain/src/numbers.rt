@@ -1,6 +1,7 @@
 //! Numbers as people write them, and what turns those that are not whole into whole ones.
-use crate::file::File;
-use crate::lines::{Lines, short};
+use crate::file::{File, after_last, before_first};
+use crate::lines::Lines;
+use council_game::sanitize;
 use std::fmt::Display;
 use toml::Value;
 
@@ -9,6 +10,9 @@ pub const DIGITS: &[char] = &['0', '1', '2', '3', '4', '5', '6', '7', '8', '9'];
 
 /// What is said of a percentage and of a fraction.
 pub const GUIDE: &str = "docs/GUIDE.md says how percentages and fractions become whole numbers";
+
+/// The names of the only quota, and of those of several rules.
+const NAMES: [&str; 5] = ["the quota", "quota 1", "quota 2", "quota 3", "quota 4"];
 
 /// Returns how a line tells the kind of a value, after the value.
 pub fn kind(value: &Value) -> &'static str {
@@ -29,8 +33,7 @@ pub fn kind(value: &Value) -> &'static str {
 fn most_decimals(text: &str, sign: char) -> (usize, usize) {
     let mut most = (0usize, 0usize);
     for line in text.lines() {
-        let (line, _) = line.split_once('#').unwrap_or((line, ""));
-        let (_, line) = line.rsplit_once('"').unwrap_or(("", line));
+        let line = after_last(before_first(line, '#'), '"');
         let is_array = sign == ',' && line.contains('[');
         let mut is_number = false;
         for part in line.split(sign) {
@@ -46,16 +49,12 @@ fn most_decimals(text: &str, sign: char) -> (usize, usize) {
     most
 }
 
-/// Says that a quota of that name is not within its total.
-pub fn explain_range(
-    lines: &mut Lines,
-    name: impl Display + Drop,
-    quota: impl Display + Drop,
-    total: u64,
-) {
+/// Says that a quota is not within its total; it is the only one, or that of a rule, from 1.
+pub fn explain_range(lines: &mut Lines, rule: usize, quota: impl Display + Drop, total: u64) {
+    let name = NAMES.get(rule).unwrap_or(&"a quota");
     lines.add(format_args!(
         "{name} is {}, and the weights add up to {total}: a quota is from 1 to that total",
-        short(quota)
+        sanitize(quota, 100)
     ));
 }
 

@@ -26,6 +26,11 @@ fn has_part(key: &Key, index: usize, part: &str) -> bool {
     name == part
 }
 
+/// Returns the text from an offset on, without the blanks and comments at its front.
+fn rest_at(text: &str, at: usize) -> &str {
+    skip_blank(text.get(at..).unwrap_or(""), true)
+}
+
 /// Reads the key of a line or a header, of which headers gave so many parts.
 fn read_front(
     alloc: Global,
@@ -49,7 +54,8 @@ fn read_front(
 
 /// Returns how long a value is, up to a comma, a bracket or the end of its line.
 fn value_len(alloc: Global, text: &str) -> Result<usize, ParseError> {
-    let (mut depth, mut until) = (0usize, 0usize);
+    let mut depth = 0usize;
+    let mut until = 0usize;
     for (at, byte) in text.as_bytes().iter().enumerate() {
         if at < until {
             continue;
@@ -72,17 +78,15 @@ fn value_len(alloc: Global, text: &str) -> Result<usize, ParseError> {
 
 /// Returns how long a value is, with the comma and the blanks after it.
 fn item_len(alloc: Global, text: &str) -> Result<usize, ParseError> {
-    let rest = text.get(value_len(alloc, text)?..).unwrap_or("");
-    let rest = skip_blank(skip_blank(rest, true).trim_start_matches(','), true);
-    Ok(text.len().saturating_sub(rest.len()))
+    let rest = rest_at(text, value_len(alloc, text)?).trim_start_matches(',');
+    Ok(text.len().saturating_sub(skip_blank(rest, true).len()))
 }
 
 /// Returns the offset of an element, from 1, in the text of an array.
 fn element_at(alloc: Global, text: &str, element: usize) -> Result<usize, ParseError> {
-    let first = skip_blank(text.get(1..).unwrap_or(""), true);
-    let mut at = text.len().saturating_sub(first.len());
+    let mut at = text.len().saturating_sub(rest_at(text, 1).len());
     for _ in 1..element {
-        at = at.saturating_add(item_len(alloc, text.get(at..).unwrap_or(""))?);
+        at = at.saturating_add(item_len(alloc, rest_at(text, at))?);
     }
     Ok(at)
 }
@@ -102,11 +106,13 @@ pub fn find(
     element: usize,
     key: Option<&str>,
 ) -> Result<Option<usize>, ParseError> {
-    let (mut at, mut begun, mut found) = (0usize, 0usize, None);
+    let mut at = 0usize;
+    let mut begun = 0usize;
+    let mut found = None;
     // how many parts headers give to the lines below them; 2 if they are not of the element
     let mut below = 0usize;
     for _ in 0..text.len() {
-        let rest = skip_blank(text.get(at..).unwrap_or(""), true);
+        let rest = rest_at(text, at);
         if rest.is_empty() || rest.starts_with('}') {
             break;
         }
@@ -120,7 +126,9 @@ pub fn find(
         }
         if is_whole && rest.starts_with("[[") {
             begun = begun.saturating_add(1);
-            found = if begun == element { Some(at) } else { found };
+            if begun == element {
+                found = Some(at);
+            }
         }
         if front.is_top && (element == 0 || front.is_key && begun == element) {
             return Ok(Some(at));
@@ -131,8 +139,9 @@ pub fn find(
             at = at.saturating_add(element_at(alloc, rest, element)?);
             found = Some(at);
             // the keys of the element follow, if it is a table
-            (below, begun) = (1, element);
-            let is_table = text.get(at..).unwrap_or("").starts_with('{');
+            below = 1;
+            begun = element;
+            let is_table = rest_at(text, at).starts_with('{');
             at = if is_table {
                 at.saturating_add(1)
             } else {

@@ -1,41 +1,15 @@
 //! What is wrong with the keys and values of a file in TOML.
 use crate::file::File;
-use crate::lines::{Lines, short};
+use crate::lines::Lines;
 use crate::numbers::{explain_range, kind};
-use council_game::limits;
+use council_game::{GameFault, limits, sanitize};
 use std::num::{nearest_u64_to_f64, saturating_f64_to_u64};
 use std::slice;
-use toml::{Table, Value};
+use toml::Value;
 
 /// How each member begins.
 pub const MEMBERS: &str =
     "each member begins with a line [[member]], with two brackets on each side";
-
-/// What a name and a title are.
-const NAME: &str = "a name is a text in quotes, of 1 to 64 bytes, on one line";
-
-const TITLE: &str = "a title is a text in quotes, of at most 200 bytes, on one line";
-
-/// Returns whether a file may have a key at its top.
-fn is_of_top(key: &str) -> bool {
-    matches!(key, "title" | "quota" | "quotas" | "member")
-}
-
-/// Returns the first key that a table may not have, the top or a member.
-fn other_key(table: &Table, is_top: bool) -> Option<&str> {
-    for key in table.keys() {
-        let key = key.as_str();
-        let is_known = if is_top {
-            is_of_top(key)
-        } else {
-            matches!(key, "name" | "weight" | "weights")
-        };
-        if !is_known {
-            return Some(key);
-        }
-    }
-    None
-}
 
 /// Returns the weight of a member under a rule, if it is a whole number; 0 for one below 0.
 fn weight_of(member: &Value, rule: usize) -> Option<u64> {
@@ -52,37 +26,44 @@ fn weight_of(member: &Value, rule: usize) -> Option<u64> {
 impl File {
     /// Says which key the file, or else a member, may not have.
     pub fn explain_unknown_key(&self, lines: &mut Lines) {
-        if let Some(key) = other_key(&self.table, true) {
-            self.explain_line(lines, key, 0, None);
-            let keys = "the keys are title, quota, quotas and member";
-            return lines.add_of("at the top there is no key ", key, ": ", keys);
-        }
-        for (index, member) in self.elements("member").iter().enumerate() {
-            if let Value::Table(table) = member
-                && let Some(key) = other_key(table, false)
-            {
-                self.explain_line(lines, "member", index.saturating_add(1), Some(key));
-                let keys = "its keys are name, weight and weights";
-                lines.add_of("a member has no key ", key, ": ", keys);
-                if is_of_top(key) {
-                    lines.add("what belongs to the game stands before the first [[member]]");
+        for member in 0..=self.elements("member").len() {
+            let Some(table) = self.table_of(member) else {
+                continue;
+            };
+            for key in table.keys() {
+                let key = key.as_str();
+                let is_of_top = matches!(key, "title" | "quota" | "quotas" | "member");
+                let is_of_member = matches!(key, "name" | "weight" | "weights");
+                if member == 0 && !is_of_top {
+                    self.explain_key(lines, member, key);
+                    let keys = ": the keys are title, quota, quotas and member";
+                    return lines.add_of("at the top there is no key ", key, "", keys);
                 }
-                return;
+                if member > 0 && !is_of_member {
+                    self.explain_key(lines, member, key);
+                    let keys = ": its keys are name, weight and weights";
+                    lines.add_of("a member has no key ", key, "", keys);
+                    if is_of_top {
+                        lines.add("what belongs to the game stands before the first [[member]]");
+                    }
+                    return;
+                }
             }
         }
     }
 
     /// Says what is wrong with the name of a member, or else with the title.
     pub fn explain_text(&self, lines: &mut Lines, member: usize) {
-        let (value, most, wanted) = if member == 0 {
-            self.explain_line(lines, "title", 0, None);
-            (self.table.get("title"), limits::TITLE_BYTES, TITLE)
+        let (key, most, wanted) = if member == 0 {
+            let title = "a title is a text in quotes, of at most 200 bytes, on one line";
+            ("title", limits::TITLE_BYTES, title)
         } else {
-            self.explain_line(lines, "member", member, Some("name"));
-            (self.value_of(member, "name"), limits::NAME_BYTES, NAME)
+            let name = "a name is a text in quotes, of 1 to 64 bytes, on one line";
+            ("name", limits::NAME_BYTES, name)
         };
-        match value {
-            None => lines.add_of("the member has no ", "name", ": ", wanted),
+        self.explain_key(lines, member, key);
+        match self.value_of(member, key) {
+            None => lines.add_of("the member has no ", key, ": ", wanted),
             Some(Value::String(text)) if (1..=most).contains(&text.len()) => {
                 let control = "a TAB, the end of a line or another control character";
                 lines.add_of("the text has ", control, ": ", wanted);
@@ -96,15 +77,18 @@ impl File {
 
     /// Says which earlier member has the name of this one.
     pub fn explain_same_name(&self, lines: &mut Lines, member: usize) {
-        self.explain_line(lines, "member", member, Some("name"));
-        let name = self.value_of(member, "name");
+        self.explain_key(lines, member, "name");
+        let Some(Value::String(name)) = self.value_of(member, "name") else {
+            return;
+        };
         for earlier in 1..member {
-            if let Some(Value::String(text)) = name
-                && self.value_of(earlier, "name") == name
+            if let Some(Value::String(text)) = self.value_of(earlier, "name")
+                && text == name
             {
-                let wanted = "each name stands once";
-                lines.add(format_args!("member {earlier} is named {} too: {wanted}", short(text)));
-                return self.explain_line(lines, "member", earlier, Some("name"));
+                let wanted = "too: each name stands once";
+                let shown = sanitize(text.as_str(), 100);
+                lines.add(format_args!("member {earlier} is named {shown} {wanted}"));
+                return self.explain_key(lines, earlier, "name");
             }
         }
     }
@@ -114,13 +98,13 @@ impl File {
         let wanted = "a weight is a whole number from 0 to 1000000000000, without quotes";
         let rules = self.elements("quotas").len();
         let key = if rules == 0 { "weight" } else { "weights" };
-        self.explain_line(lines, "member", member, Some(key));
+        self.explain_key(lines, member, key);
         match self.value_of(member, key) {
-            None => lines.add_of("the member has no ", key, ": ", "each member has its own"),
+            None => lines.add_of("the member has no ", key, "", ": each member has its own"),
             Some(value) if rules == 0 => self.explain_number(lines, value, wanted),
             Some(Value::Array(weights)) if weights.len() == rules => {
                 for weight in weights.as_slice() {
-                    if !matches!(weight, Value::Integer(n) if 0 <= *n && *n <= 1_000_000_000_000) {
+                    if !matches!(weight, Value::Integer(0..=1_000_000_000_000)) {
                         return self.explain_number(lines, weight, wanted);
                     }
                 }
@@ -137,31 +121,76 @@ impl File {
                 lines.add("a member is a table with a name and a weight");
             }
             Some(Value::Array(members)) => {
-                let wanted = "1 to 40 are allowed";
-                lines.add_of("the file has ", members.len(), " members: ", wanted);
+                lines.add_of(
+                    "the file has ",
+                    members.len(),
+                    " members: ",
+                    "1 to 40 are allowed",
+                );
             }
             Some(value) => {
-                self.explain_line(lines, "member", 0, None);
+                self.explain_key(lines, 0, "member");
                 lines.add_of("member", kind(value), "", MEMBERS);
             }
         }
     }
 
-    /// Says what is wrong with the quota, or that there is none.
-    pub fn explain_quota(&self, lines: &mut Lines) {
-        self.explain_line(lines, "quota", 0, None);
-        if let Some(value) = self.table.get("quota") {
-            self.explain_share(lines, value, 0, "a quota is a whole number, without quotes");
-        } else if self.table.is_empty() {
-            lines.add("the file holds no game: it has neither a quota nor a member");
+    /// Says what is wrong with the quota or the quotas, or which keys do not go together.
+    pub fn explain_quotas(&self, lines: &mut Lines, fault: GameFault) {
+        self.explain_key(lines, 0, "quotas");
+        self.explain_key(lines, 0, "quota");
+        let is_rules = matches!(fault, GameFault::Rules);
+        let (first, quotas) = match self.table.get("quota") {
+            Some(quota) if !is_rules => (0, slice::from_ref(quota)),
+            _ => (1, self.elements("quotas")),
+        };
+        for (rule, quota) in quotas.iter().enumerate() {
+            let total = self.total_of(rule);
+            match quota {
+                Value::Integer(quota) if matches!(fault, GameFault::QuotaRange) => {
+                    let total = total.unwrap_or(0);
+                    if *quota < 1 || i64::try_from(total).unwrap_or(i64::MAX) < *quota {
+                        return explain_range(lines, rule.saturating_add(first), quota, total);
+                    }
+                }
+                Value::Integer(_) => {}
+                _ if is_rules => {
+                    return self.explain_share(
+                        lines,
+                        quota,
+                        total,
+                        "quotas are 1 to 4 whole numbers",
+                    );
+                }
+                _ => {
+                    let wanted = "a quota is a whole number, without quotes";
+                    return self.explain_share(lines, quota, total, wanted);
+                }
+            }
+        }
+        lines.add(self.describe_rules(is_rules));
+    }
+
+    /// Returns which keys do not go together, or are not there.
+    fn describe_rules(&self, is_rules: bool) -> &'static str {
+        let has_quota = self.table.contains_key("quota");
+        let rules = self.elements("quotas").len();
+        if !is_rules && self.table.is_empty() {
+            "the file holds no game: it has neither a quota nor a member"
+        } else if !is_rules {
+            "the file has no quota: write a line such as quota = 51 before the members"
+        } else if has_quota && self.table.contains_key("quotas") {
+            "quota and quotas are both there: a game has one of them"
+        } else if has_quota || (1..=limits::RULES).contains(&rules) {
+            "weight goes with quota, and weights go with quotas"
         } else {
-            lines.add("the file has no quota: write a line such as quota = 51 before the members");
+            "quotas are an array of 1 to 4 whole numbers"
         }
     }
 
-    /// Says what is wrong with the quota of a rule, and how many votes a share of whole weights is.
-    fn explain_share(&self, lines: &mut Lines, quota: &Value, rule: usize, wanted: &str) {
-        match (quota, self.total_of(rule)) {
+    /// Says what is wrong with a quota, and how many votes a share of whole weights is.
+    fn explain_share(&self, lines: &mut Lines, quota: &Value, total: Option<u64>, wanted: &str) {
+        match (quota, total) {
             (Value::Float(share), Some(total)) if 0.0 < *share && *share < 1.0 && 0 < total => {
                 lines.add_of("", quota, kind(quota), wanted);
                 // 0.29 of 100 is 28.999999999999996
@@ -174,47 +203,6 @@ impl File {
                 ));
             }
             _ => self.explain_number(lines, quota, wanted),
-        }
-    }
-
-    /// Says which keys do not go together, or what is wrong with the quotas.
-    pub fn explain_rules(&self, lines: &mut Lines) {
-        let quotas = self.elements("quotas");
-        let has_quota = self.table.contains_key("quota");
-        self.explain_line(lines, "quotas", 0, None);
-        self.explain_line(lines, "quota", 0, None);
-        for (rule, quota) in quotas.iter().enumerate() {
-            if !matches!(quota, Value::Integer(_)) {
-                return self.explain_share(lines, quota, rule, "quotas are 1 to 4 whole numbers");
-            }
-        }
-        if has_quota && self.table.contains_key("quotas") {
-            lines.add("quota and quotas are both there: a game has one of them");
-        } else if has_quota || (1..=limits::RULES).contains(&quotas.len()) {
-            lines.add("weight goes with quota, and weights go with quotas");
-        } else {
-            lines.add("quotas are an array of 1 to 4 whole numbers");
-        }
-    }
-
-    /// Says which quota of a file is not within its total.
-    pub fn explain_quota_range(&self, lines: &mut Lines) {
-        self.explain_line(lines, "quota", 0, None);
-        self.explain_line(lines, "quotas", 0, None);
-        let (is_one, quotas) = match self.table.get("quota") {
-            Some(quota) => (true, slice::from_ref(quota)),
-            None => (false, self.elements("quotas")),
-        };
-        for (index, quota) in quotas.iter().enumerate() {
-            let total = self.total_of(index).unwrap_or(0);
-            if !matches!(quota, Value::Integer(n) if 1 <= *n && (*n as u64) <= total) {
-                return if is_one {
-                    explain_range(lines, "the quota", quota, total)
-                } else {
-                    let number = index.saturating_add(1);
-                    explain_range(lines, format_args!("quota {number}"), quota, total)
-                };
-            }
         }
     }
 
