@@ -31,6 +31,16 @@ pub fn after_last(text: &str, sign: char) -> &str {
     }
 }
 
+/// Returns the number of the line in which a front of a text ends.
+fn line_of(front: &str) -> usize {
+    front.matches('\n').count().saturating_add(1)
+}
+
+/// Returns whether the front of a line opens a bracket text with a share, the only one of a text.
+fn is_only_share(front: &str, text: &str) -> bool {
+    front.ends_with("[0") && front.trim_start().len() == 2 && text.matches('.').count() == 1
+}
+
 impl File {
     /// Returns the elements of the array at a key of the top.
     pub fn elements(&self, key: &str) -> &[Value] {
@@ -56,19 +66,18 @@ impl File {
         self.table_of(member)?.get(key)
     }
 
-    /// Returns the number of the line that ends after a front of the text, and that line.
-    fn row_after(&self, front: &str) -> (usize, &str) {
+    /// Returns the line after which a front of the text breaks off.
+    pub fn row_after(&self, front: &str) -> &str {
         let ends = front.matches('\n').count();
-        let row = self.text.as_str().lines().nth(ends).unwrap_or("");
-        (ends.saturating_add(1), row)
+        self.text.as_str().lines().nth(ends).unwrap_or("")
     }
 
     /// Says which line has a key of the top, an element of it, or a key of the element: see `find`.
     pub fn explain_line(&self, lines: &mut Lines, top: &str, element: usize, key: Option<&str>) {
         match find(self.alloc, self.text.as_str(), top, element, key) {
             Ok(Some(offset)) => {
-                let (line, row) = self.row_after(self.text.as_str().get(..offset).unwrap_or(""));
-                lines.add_row(line, row.trim());
+                let before = self.text.as_str().get(..offset).unwrap_or("");
+                lines.add_row(line_of(before), self.row_after(before).trim());
             }
             Ok(None) => {}
             // memory: told at the end
@@ -87,23 +96,24 @@ impl File {
 
     /// Says where a text can't be read on, what the line has, why, and what helps.
     ///
-    /// It returns the line, and the text of it before that byte. The column is in characters.
-    pub fn explain_place(&self, lines: &mut Lines, offset: usize, message: &str) -> (&str, &str) {
+    /// The column is in characters.
+    pub fn explain_place(&self, lines: &mut Lines, offset: usize, message: &str) {
         let before = self.text.as_str().get(..offset).unwrap_or("");
-        let (line, row) = self.row_after(before);
         let front = after_last(before, '\n');
+        let line = line_of(before);
         let column = front.chars().count().saturating_add(1);
-        lines.add_row(format_args!("{line}, column {column}"), row);
+        lines.add_row(
+            format_args!("{line}, column {column}"),
+            self.row_after(before),
+        );
         lines.add(message);
-        let is_first = front.ends_with("[0") && front.trim_start().len() == 2;
         match self.text.as_bytes().get(offset) {
             Some(b'%' | b'/') => lines.add(GUIDE),
-            Some(b'.') if is_first && self.text.matches('.').count() == 1 => {
+            Some(b'.') if is_only_share(front, self.text.as_str()) => {
                 lines.add("a share of the total: write how many votes that is");
             }
             Some(b'.') => self.explain_factor(lines, '.'),
             _ => {}
         }
-        (row, front)
     }
 }

@@ -39,20 +39,37 @@ fn columns_of(line: &str) -> Option<&'static str> {
     }
 }
 
-/// Returns what helps with a value that breaks off before the rest of its line.
+/// Returns what helps against a common slip, if a value breaks off before the rest of its line.
 fn describe_slip(key: &str, value: &str, rest: &str) -> Option<&'static str> {
     let is_text = key.ends_with("name") || key.ends_with("title");
     match rest {
         ";" => Some("a line ends without a semicolon"),
         "," => Some("a line ends without a comma"),
         _ if rest.contains('=') => Some("each key begins a line of its own"),
-        _ if is_text && !value.starts_with(QUOTES) => {
-            Some("a text needs quotes, as in name = \"A\"")
-        }
-        _ if is_text && value.strip_suffix(rest).unwrap_or("").ends_with('\\') => {
+        _ if !is_text => None,
+        _ if !value.starts_with(QUOTES) => Some("a text needs quotes, as in name = \"A\""),
+        _ if value.strip_suffix(rest).unwrap_or("").ends_with('\\') => {
             Some("write \\\\ for a backslash")
         }
-        _ if is_text && rest.contains(QUOTES) => Some("write \\\" for a quote inside the quotes"),
+        _ if rest.contains(QUOTES) => Some("write \\\" for a quote inside the quotes"),
+        _ => None,
+    }
+}
+
+/// Returns what helps if a line breaks off with this message; none if its value is to be read.
+fn describe_break(message: &str, front: &str, key: &str, rest: &str) -> Option<&'static str> {
+    let key = key.trim_start_matches(['[', ' ', '\t']);
+    let is_of_member = key.starts_with("name") || key.starts_with("weight");
+    match message {
+        "number out of range" => Some(
+            "a weight is at most 1000000000000, and a quota at most the total of its weights",
+        ),
+        _ if rest.starts_with(CURLY) && !front.ends_with(DIGITS) => {
+            Some("write straight quotes: \" or '")
+        }
+        "duplicate key" if !front.trim().is_empty() => None,
+        "duplicate key" if is_of_member => Some(MEMBERS),
+        "duplicate key" if key.starts_with("member") && !rest.starts_with("[[") => Some(MEMBERS),
         _ => None,
     }
 }
@@ -123,16 +140,16 @@ impl File {
         }
         let has_comma = number.contains(',');
         if is_thousands && (!has_comma || 2 < signs) {
-            lines.add("write a number without separators between thousands, as in 1200000");
-        } else if has_comma {
-            lines.add("a number may have no comma");
-            let has_point = after_last(number, ',').contains('.');
-            let sign = if has_point { '.' } else { ',' };
-            if number.matches(sign).count() == 1 {
-                self.explain_factor(lines, sign);
-            }
-        } else {
-            lines.add("write a number in digits only");
+            return lines.add("write a number without separators between thousands, as in 1200000");
+        }
+        if !has_comma {
+            return lines.add("write a number in digits only");
+        }
+        lines.add("a number may have no comma");
+        let has_point = after_last(number, ',').contains('.');
+        let sign = if has_point { '.' } else { ',' };
+        if number.matches(sign).count() == 1 {
+            self.explain_factor(lines, sign);
         }
     }
 
@@ -161,8 +178,10 @@ impl File {
 
     /// Says where the text breaks off and why, and what helps against a common slip.
     fn explain_slip(&self, lines: &mut Lines, offset: usize, message: &str) {
-        let (row, front) = self.explain_place(lines, offset, message);
-        let row = before_first(row, '#');
+        self.explain_place(lines, offset, message);
+        let before = self.text.as_str().get(..offset).unwrap_or("");
+        let front = after_last(before, '\n');
+        let row = before_first(self.row_after(before), '#');
         let rest = row.get(front.len()..).unwrap_or("").trim();
         let key = before_first(row, '=');
         let value = row
@@ -171,29 +190,14 @@ impl File {
             .trim_start_matches('=')
             .trim();
         let key = key.trim();
-        match message {
-            "number out of range" => lines.add(
-                "a weight is at most 1000000000000, and a quota at most the total of its weights",
-            ),
-            _ if rest.starts_with(CURLY) && !front.ends_with(DIGITS) => {
-                lines.add("write straight quotes: \" or '");
-            }
-            "duplicate key" if front.trim().is_empty() => {
-                let key = key.trim_start_matches(['[', ' ', '\t']);
-                let is_of_member = key.starts_with("name") || key.starts_with("weight");
-                if is_of_member || key.starts_with("member") && !rest.starts_with("[[") {
-                    lines.add(MEMBERS);
-                }
-            }
+        if let Some(line) = describe_break(message, front, key, rest) {
+            lines.add(line);
+        } else if !front.contains('=') || key.contains('{') || value.starts_with('[') {
             // said by the message
-            _ if !front.contains('=') || key.contains('{') || value.starts_with('[') => {}
-            _ => match describe_slip(key, value, rest) {
-                Some(line) => lines.add(line),
-                None if key.ends_with("quota") || key.ends_with("weight") => {
-                    self.explain_number_slip(lines, value);
-                }
-                None => {}
-            },
+        } else if let Some(line) = describe_slip(key, value, rest) {
+            lines.add(line);
+        } else if key.ends_with("quota") || key.ends_with("weight") {
+            self.explain_number_slip(lines, value);
         }
     }
 }

@@ -1,7 +1,6 @@
 //! Numbers as people write them, and what turns those that are not whole into whole ones.
 use crate::file::{File, after_last, before_first};
 use crate::lines::Lines;
-use council_game::sanitize;
 use std::fmt::Display;
 use toml::Value;
 
@@ -31,30 +30,30 @@ pub fn kind(value: &Value) -> &'static str {
 ///
 /// The comma of an array counts for nothing, nor does what is in a comment or before a quote.
 fn most_decimals(text: &str, sign: char) -> (usize, usize) {
-    let mut most = (0usize, 0usize);
+    let mut decimals = 0usize;
+    let mut most = 0usize;
     for line in text.lines() {
         let line = after_last(before_first(line, '#'), '"');
         let is_array = sign == ',' && line.contains('[');
         let mut is_number = false;
         for part in line.split(sign) {
             let rest = part.trim_start_matches(DIGITS);
-            let digits = part.strip_suffix(rest).unwrap_or("");
             if is_number && !rest.starts_with(['e', 'E']) {
-                let decimals = digits.trim_end_matches('0');
-                most = (most.0.max(decimals.len()), most.1.max(digits.len()));
+                let digits = part.strip_suffix(rest).unwrap_or("");
+                decimals = decimals.max(digits.trim_end_matches('0').len());
+                most = most.max(digits.len());
             }
             is_number = !is_array && part.ends_with(DIGITS);
         }
     }
-    most
+    (decimals, most)
 }
 
 /// Says that a quota is not within its total; it is the only one, or that of a rule, from 1.
 pub fn explain_range(lines: &mut Lines, rule: usize, quota: impl Display + Drop, total: u64) {
     let name = NAMES.get(rule).unwrap_or(&"a quota");
     lines.add(format_args!(
-        "{name} is {}, and the weights add up to {total}: a quota is from 1 to that total",
-        sanitize(quota, 100)
+        "{name} is {quota}, and the weights add up to {total}: a quota is from 1 to that total"
     ));
 }
 

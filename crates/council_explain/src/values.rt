@@ -5,7 +5,7 @@ use crate::numbers::{explain_range, kind};
 use council_game::{GameFault, limits, sanitize};
 use std::num::{nearest_u64_to_f64, saturating_f64_to_u64};
 use std::slice;
-use toml::Value;
+use toml::{Table, Value};
 
 /// How each member begins.
 pub const MEMBERS: &str =
@@ -23,31 +23,44 @@ fn weight_of(member: &Value, rule: usize) -> Option<u64> {
     }
 }
 
+/// Returns whether a member may have a key, or else the top of a file.
+fn is_known(key: &str, is_member: bool) -> bool {
+    match key {
+        "title" | "quota" | "quotas" | "member" => !is_member,
+        "name" | "weight" | "weights" => is_member,
+        _ => false,
+    }
+}
+
+/// Returns the first key that the table of a member may not have, or that of the top.
+fn unknown_key(table: &Table, is_member: bool) -> Option<&str> {
+    for key in table.keys() {
+        if !is_known(key.as_str(), is_member) {
+            return Some(key.as_str());
+        }
+    }
+    None
+}
+
 impl File {
     /// Says which key the file, or else a member, may not have.
     pub fn explain_unknown_key(&self, lines: &mut Lines) {
-        for member in 0..=self.elements("member").len() {
-            let Some(table) = self.table_of(member) else {
-                continue;
-            };
-            for key in table.keys() {
-                let key = key.as_str();
-                let is_of_top = matches!(key, "title" | "quota" | "quotas" | "member");
-                let is_of_member = matches!(key, "name" | "weight" | "weights");
-                if member == 0 && !is_of_top {
-                    self.explain_key(lines, member, key);
-                    let keys = ": the keys are title, quota, quotas and member";
-                    return lines.add_of("at the top there is no key ", key, "", keys);
+        if let Some(key) = unknown_key(&self.table, false) {
+            self.explain_key(lines, 0, key);
+            let keys = ": the keys are title, quota, quotas and member";
+            return lines.add_of("at the top there is no key ", key, "", keys);
+        }
+        for member in 1..=self.elements("member").len() {
+            if let Some(table) = self.table_of(member)
+                && let Some(key) = unknown_key(table, true)
+            {
+                self.explain_key(lines, member, key);
+                let keys = ": its keys are name, weight and weights";
+                lines.add_of("a member has no key ", key, "", keys);
+                if is_known(key, false) {
+                    lines.add("what belongs to the game stands before the first [[member]]");
                 }
-                if member > 0 && !is_of_member {
-                    self.explain_key(lines, member, key);
-                    let keys = ": its keys are name, weight and weights";
-                    lines.add_of("a member has no key ", key, "", keys);
-                    if is_of_top {
-                        lines.add("what belongs to the game stands before the first [[member]]");
-                    }
-                    return;
-                }
+                return;
             }
         }
     }
