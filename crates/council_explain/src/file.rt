@@ -72,7 +72,7 @@ impl File {
         self.text.as_str().lines().nth(ends).unwrap_or("")
     }
 
-    /// Says which line has a key of the top, an element of it, or a key of the element: see `find`.
+    /// Says which line has a place that `find` finds, if it is there.
     pub fn explain_line(&self, lines: &mut Lines, top: &str, element: usize, key: Option<&str>) {
         match find(self.alloc, self.text.as_str(), top, element, key) {
             Ok(Some(offset)) => {

@@ -19,7 +19,7 @@ impl Lines {
         }
     }
 
-    /// Adds a line of words, a value of the file or a number, cut off if it is long, and words.
+    /// Adds a line of words, a value that is cut off if it is long, and words.
     pub fn add_of(&mut self, before: &str, what: impl Display + Drop, after: &str, wanted: &str) {
         self.add(format_args!("{before}{}{after}{wanted}", sanitize(what, 100)));
     }

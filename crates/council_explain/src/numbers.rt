@@ -49,7 +49,7 @@ fn most_decimals(text: &str, sign: char) -> (usize, usize) {
     (decimals, most)
 }
 
-/// Says that a quota is not within its total; it is the only one, or that of a rule, from 1.
+/// Says that a quota is not within its total; 0 is the only rule, 1 the first.
 pub fn explain_range(lines: &mut Lines, rule: usize, quota: impl Display + Drop, total: u64) {
     let name = NAMES.get(rule).unwrap_or(&"a quota");
     lines.add(format_args!(

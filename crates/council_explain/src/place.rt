@@ -91,10 +91,10 @@ fn element_at(alloc: Global, text: &str, element: usize) -> Result<usize, ParseE
     Ok(at)
 }
 
-/// Finds a key of the top, an element of it or a key of the element in a text in TOML.
+/// Returns the offset of a key of the top, an element of it or a key of that.
 ///
-/// Elements are counted from 1; 0 is the key of the top. The offset of the element is that of a key
-/// that it lacks.
+/// The text is TOML. Elements are counted from 1; 0 is the key of the top. A key that the element
+/// lacks is where the element begins.
 ///
 /// # Errors
 ///

@@ -148,7 +148,7 @@ impl File {
         }
     }
 
-    /// Says what is wrong with the quota or the quotas, or which keys do not go together.
+    /// Says what is wrong with quotas, or which keys do not go together.
     pub fn explain_quotas(&self, lines: &mut Lines, fault: GameFault) {
         self.explain_key(lines, 0, "quotas");
         self.explain_key(lines, 0, "quota");

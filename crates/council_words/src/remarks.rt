@@ -40,7 +40,7 @@ pub fn report_unopened(
     ExitCode::from(1)
 }
 
-/// Remarks on a text that a terminal may not show as it is; `what` is a name for it.
+/// Remarks on a text that a terminal may not show unchanged; `what` is a name for it.
 fn remark_on_text(rt: &(impl Eprint + AllocGlobal), text: &str, what: impl Display + Drop) {
     // memory: a remark is left out
     if let Ok(shown) = format!(in rt.alloc(); "{}", sanitize(text, text.len()))
@@ -83,7 +83,7 @@ pub fn remark_on_columns(arguments: &Arguments<'_>) -> Option<&'static str> {
     }
 }
 
-/// Remarks on commas between thousands in a bracket text: each of them ends a weight.
+/// Remarks on commas between thousands in a bracket text: they end weights.
 ///
 /// A weight after a comma has three digits, and begins with 0, or else a blank is after another
 /// comma. The bytes are those of the file.

@@ -32,7 +32,7 @@ MOST = 1000
 ITEM = re.compile(r"(From a table(?: of|,)|Rule [1-4]:|Left out:|Not read:|Taken as members:|Added:|Source:) ?.*", re.I)
 LIGHT = "".join([f" --s{rule}: {light};" for rule, (light, _) in enumerate(SHARES)] + [f" --{it.word()}: {it.light};" for it in INDICES])
 DARK = "".join([f" --s{rule}: {dark};" for rule, (_, dark) in enumerate(SHARES)] + [f" --{it.word()}: {it.dark};" for it in INDICES])
-# the fade on the right of .wide has a cover that scrolls with the table, so it shows only what is cut
+# (the fade of .wide has a cover that scrolls with the table, so it shows only if that is cut)
 STYLE = """
 :root { color-scheme: light dark; --ground: #fff; --ink: #1c1c1c; --soft: #5f6368; --line: #d8d8d8;LIGHT }
 @media (prefers-color-scheme: dark) { :root { --ground: #16181b; --ink: #e6e6e6; --soft: #a2a7ad; --line: #3a3e44;DARK } }
