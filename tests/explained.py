@@ -33,7 +33,7 @@ LONG = [
     ("odd = [", "[1],", "]\n"), ("odd = [", "[[\n],\n],", "]\n"), ("odd = [", "{a.b = 1},\n", "]\n"), ("odd = [", "[" * 70 + "]" * 70 + ",", "]\n"), ("", "# '\n", "odd = 1\n"), ("", "\n", "odd = 1\n"),
     ("odd = [", "'a',", "]\n"), ("odd = [", '"""\n""",', "]\n"), ("odd = '''", "[[member]]\n", "'''\n"), ('odd = "', "\\u0041", '"\n'), ("odd" + ".a" * 70 + " = [", "1,", "]\n"),
     ("quota = 1\nmember = [", "{},", "{odd = 1}]\n"), ("quota = 1\n", "[[member]]\n", "odd = 1\n"), ("quota = 1\n", "[[member]]\n[member.odd]\n", ""), ("", "[[odd]]\n", ""), (MEMBERS, "[[member.odd]]\n", ""),
-    (MEMBERS, "#\n", "odd = 1\n"), ("quotas = [", "1, ", "1]\n"), ("quotas = [1, 1]\n[[member]]\nname = 'A'\nweights = [", "1.5,\n", "1]\n"), ("title = '", "a", "'\n"), ("quota = ", "1", "\n"), ("quota = 0.", "1", "\n"),
+    ("member = [", "'',", "]\nodd = 1\n"), ("member = [", "{a.b = ''},", "]\nodd = 1\n"), ("member = [", "[],", "]\nodd = 1\n"), (MEMBERS, "#\n", "odd = 1\n"), ("quotas = [", "1, ", "1]\n"), ("quotas = [1, 1]\n[[member]]\nname = 'A'\nweights = [", "1.5,\n", "1]\n"), ("title = '", "a", "'\n"), ("quota = ", "1", "\n"), ("quota = 0.", "1", "\n"),
 ]
 
 
