@@ -84,7 +84,8 @@ def type_in(words, typed):
 
 
 if __name__ == "__main__":
-    # runs the words with a terminal as standard error, and with --both as standard output too, and passes on what it shows
+    # runs the words with a terminal as standard error, with --both as standard output too, and
+    # passes on what it shows
     both = sys.argv[1] == "--both"
     run = Run(sys.argv[1 + both :], stdout=None, both=both)
     status = run.read_all()
