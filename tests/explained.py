@@ -4,16 +4,19 @@
     explained.py PROGRAM NUMBER SEED
 
 makes games of one rule or two in TOML, in every way to write their headers, keys, texts and arrays, with comments and
-titles that look like headers and keys, and one fault in a line that is known. --explain must name that line. And it
-must know each quote that is none in TOML, and each letter that people write between thousands. Prints `ok NAME` or
-`FAILED NAME: why`.
+titles that look like headers and keys, and a fault of any kind. --explain must name the lines that toml_lines.py finds
+by the grammar, and a line that is known here for most faults. A file of 65,536 bytes of any kind must be explained in
+a tenth of a second. And it must know each quote that is none in TOML, and each letter that people write between
+thousands. Prints `ok NAME` or `FAILED NAME: why`.
 """
 import os
 import random
 import re
 import subprocess
 import sys
-import tempfile
+import time
+
+import toml_lines
 
 # what a text may have, that looks like something else
 DECOYS = ["it's", "[[member]]", "quota = 7", "weight = 1.5", "{", "}", "# no", '"', "name", "]", ",", "\\\\", "é"]
@@ -24,11 +27,21 @@ LETTERS = [(f"title = {it}A{it}", STRAIGHT) for it in "‘’‚‛“”„‟�
 LETTERS += [(f"quota = 1{it}234{it}567", THOUSANDS) for it in ",.'’ \u00a0\u2009\u202f"]
 
 
+# pieces of which a long file is made, with what is before and after them
+MEMBERS = "quota = 1\n[[member]]\nname = 'A'\nweight = 1\n"
+LONG = [
+    ("odd = [", "[1],", "]\n"), ("odd = [", "[[\n],\n],", "]\n"), ("odd = [", "{a.b = 1},\n", "]\n"), ("odd = [", "[" * 70 + "]" * 70 + ",", "]\n"), ("", "# '\n", "odd = 1\n"), ("", "\n", "odd = 1\n"),
+    ("odd = [", "'a',", "]\n"), ("odd = [", '"""\n""",', "]\n"), ("odd = '''", "[[member]]\n", "'''\n"), ('odd = "', "\\u0041", '"\n'), ("odd" + ".a" * 70 + " = [", "1,", "]\n"),
+    ("quota = 1\nmember = [", "{},", "{odd = 1}]\n"), ("quota = 1\n", "[[member]]\n", "odd = 1\n"), ("quota = 1\n", "[[member]]\n[member.odd]\n", ""), ("", "[[odd]]\n", ""), (MEMBERS, "[[member.odd]]\n", ""),
+    ("member = [", "'',", "]\nodd = 1\n"), ("member = [", "{a.b = ''},", "]\nodd = 1\n"), ("member = [", "[],", "]\nodd = 1\n"), (MEMBERS, "#\n", "odd = 1\n"), ("quotas = [", "1, ", "1]\n"), ("quotas = [1, 1]\n[[member]]\nname = 'A'\nweights = [", "1.5,\n", "1]\n"), ("title = '", "a", "'\n"), ("quota = ", "1", "\n"), ("quota = 0.", "1", "\n"),
+]
+
+
 class File:
     """A file that grows piece by piece, and in which some letters are escapes."""
 
     def __init__(self, chance):
-        self.chance, self.text = chance, ""
+        self.chance, self.text, self.same = chance, "", False
 
     def line(self):
         return self.text.count("\n") + 1
@@ -99,25 +112,39 @@ def member(file, pairs, wrong, escaped, after):
     return line
 
 
+def add_quota(file, wrong, several):
+    """Adds the quota or the quotas, with a fault or none."""
+    chance = file.chance
+    if wrong == "both":
+        file.add(f"quota = 1{file.blanks()}\n")
+    file.key("quotas" if several or wrong == "both" else "quota", False)
+    file.add("=")
+    number = chance.choice(["0", "-1", str(10**12)]) if wrong == "range" else chance.choice(["1.5", "'1'", "[[\n1]]"]) if wrong == "quota" else "1"
+    if several or wrong == "both":
+        file.array("1", number)
+    else:
+        file.add(number)
+    file.end()
+
+
 def add_top(file, wrong, several):
-    """Adds a title or none, and the quota or the quotas; returns the line of the title."""
+    """Adds a title or none, the quota or the quotas, and a key that no game has, if that is the fault; returns the line
+    of the title or the key."""
     chance, line = file.chance, None
+    if wrong == "key":
+        line = file.line()
+        file.add(chance.choice(["votes = [[\n1]]", "votes = {a = [\n{}, 1]}", "votes.quota = 1", '"vot\\u0065s" = 1', "'a.b' = 1", "members = [\n# ]\n]"]))
+        file.end()
     if chance.random() < 0.5:
         file.add(f"# {file.decoy()}")
         file.end()
     if wrong == "title" or chance.random() < 0.5:
-        line = file.line()
+        line = line or file.line()
         file.key("title", False)
         file.add(" = ")
         file.long_text(chance.randrange(2, 4) if wrong == "title" else 1)
         file.end()
-    file.key("quotas" if several else "quota", False)
-    file.add("=")
-    if several:
-        file.array("1", "1")
-    else:
-        file.add("1")
-    file.end()
+    add_quota(file, wrong, several)
     return line
 
 
@@ -125,9 +152,11 @@ def make_pairs(file, at, weight, wrong):
     """Returns the keys and values of a member, with the fault, in any order."""
     chance, several = file.chance, weight == "weights"
     bad = chance.choice(["1.5", '"3"', "{weight = 1}"])
-    pairs = {"name": f"{at} {file.decoy()}", weight: [str(at + 1), "1"] if several else at + 1}
+    pairs = {"name": f"{at} {file.decoy()}" if at or not file.same else "0", weight: [str(at + 1), "1"] if several else at + 1}
     if wrong == "name":
         pairs["name"] = "5"
+    elif wrong == "same":
+        pairs["name"] = "0"
     elif wrong == weight:
         pairs[weight] = ["1", bad] if several else bad
     elif wrong == "odd":
@@ -169,8 +198,15 @@ def make(chance):
     """Returns a file with a fault, and the line of the fault."""
     file, count = File(chance), chance.randrange(1, 6)
     weight = chance.choice(["weight", "weight", "weights"])
-    bad, wrong = chance.randrange(count), chance.choice(["name", weight, "odd", "title"])
+    bad, wrong = chance.randrange(count), chance.choice(["name", weight, "odd", "title", "key", "quota", "range", "both", "same", "table"])
+    if wrong == "same":
+        bad, count, file.same = bad + 1, count + 1, True
     line = add_top(file, wrong, weight == "weights")
+    if wrong == "table":
+        line = file.line()
+        file.add(chance.choice(["[member]\n", "member = {\n}\n", "[ 'member' ]\nname = 'A'\n", "member.name = 'A'\n", "member = 5\n"]))
+        return file, line
+    line = line if wrong in ("title", "key") else None
     inline = chance.random() < 0.4
     if inline:
         file.key("member", True)
@@ -178,11 +214,44 @@ def make(chance):
     for at in range(count):
         here = wrong if at == bad else None
         found = (add_inline if inline else add_member)(file, make_pairs(file, at, weight, here), here)
-        if here and wrong != "title":
+        if here and wrong not in ("title", "key"):
             line = found
     if inline:
         file.add("]\n")
     return file, line
+
+
+def explain(program, text):
+    """Returns the fault of a file, the lines that --explain names, and what it said."""
+    ran = subprocess.run([program, "--explain"], input=text.encode(), capture_output=True, check=False, timeout=60)
+    fault = ran.stderr.decode().split("\n")[0].removeprefix("council: ")
+    lines = [int(it) for it in re.findall(rb"^  line ([0-9]+): ", ran.stderr, re.M)]
+    return fault if ran.returncode == 3 and "not TOML" not in fault else None, lines, ran.stderr
+
+
+def find_wrong(program, number, chance):
+    """Returns what is wrong with explanations of generated files."""
+    failed = []
+    for at in range(number):
+        file, line = make(chance)
+        fault, lines, told = explain(program, file.text)
+        wanted = toml_lines.find_lines(toml_lines.read(file.text), fault) if fault else []
+        if not wanted or lines != wanted or line and lines[0] != line:
+            failed.append(f"game {at}, lines {wanted} or {line}: {told!r} for {file.text!r}")
+    return failed
+
+
+def find_slow(program):
+    """Returns which files of 65,536 bytes have a wrong line, or take longer than they may, and the longest time."""
+    failed, longest = [], 0
+    for before, piece, after in LONG:
+        text = before + piece * ((65536 - len((before + after).encode())) // len(piece.encode())) + after
+        start = time.monotonic()
+        fault, lines, told = explain(program, text)
+        longest = max(longest, time.monotonic() - start)
+        if fault and lines != toml_lines.find_lines(toml_lines.read(text), fault):
+            failed.append(f"lines {lines} of {before!r} {piece!r} {after!r}: {told[:200]!r}")
+    return failed + ([f"{longest:.3f} s"] if longest > 0.1 else []), longest
 
 
 def find_unknown(program):
@@ -197,24 +266,17 @@ def find_unknown(program):
 def main(words):
     if len(words) != 3:
         sys.exit("usage: explained.py PROGRAM NUMBER SEED")
-    program, number, seed = os.path.abspath(words[0]), int(words[1]), int(words[2])
-    chance, failed = random.Random(seed), []
-    with tempfile.TemporaryDirectory() as room:
-        for at in range(number):
-            file, line = make(chance)
-            with open(f"{room}/game", "w", encoding="utf-8", newline="") as it:
-                it.write(file.text)
-            ran = subprocess.run([program, "--explain", f"{room}/game"], capture_output=True, check=False, timeout=60)
-            found = re.search(rb"^  line ([0-9]+)(, column [0-9]+)?: ", ran.stderr, re.M)
-            if ran.returncode != 3 or b"not TOML" in ran.stderr or not found or int(found[1]) != line:
-                failed.append(f"game {at}, line {line}: {ran.stderr!r} for {file.text!r}")
+    program, number = os.path.abspath(words[0]), int(words[1])
+    failed = find_wrong(program, number, random.Random(int(words[2])))
     if failed:
         print(f"FAILED lines that --explain names: {len(failed)} of {number}, the first is {failed[0]}")
     else:
         print(f"ok lines that --explain names: {number} files")
+    slow, longest = find_slow(program)
+    print(f"FAILED long files that are explained: {slow[0]}" if slow else f"ok long files that are explained, in at most {1000 * longest:.0f} ms")
     unknown = find_unknown(program)
     print(f"FAILED letters that --explain knows: {unknown}" if unknown else "ok letters that --explain knows")
-    return int(bool(failed or unknown))
+    return int(bool(failed or slow or unknown))
 
 
 if __name__ == "__main__":

@@ -84,8 +84,10 @@ def type_in(words, typed):
 
 
 if __name__ == "__main__":
-    # runs the words with a terminal as standard error, and passes on what it shows
-    run = Run(sys.argv[1:], stdout=None)
+    # runs the words with a terminal as standard error, with --both as standard output too, and
+    # passes on what it shows
+    both = sys.argv[1] == "--both"
+    run = Run(sys.argv[1 + both :], stdout=None, both=both)
     status = run.read_all()
     os.write(2, run.told)
     sys.exit(status)

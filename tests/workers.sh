@@ -128,12 +128,13 @@ assert run.told.endswith(b"\x1b[A\r\x1b[Kcouncil: too many minimal winning coali
 END
     then ok "a late fault on a terminal"; else failed "a late fault on a terminal" "$(tail -n 1 "$temp/told")"; fi
     # a list of 1 MB: once they are shown, each slice is, one after the other; the line is wiped
-    # once, before the first byte of the report, which is on the same terminal, and nothing but a
-    # remark on the quota is written after it
+    # once, before the first byte of the report, which is on the same terminal, and nothing but the
+    # columns and a remark on the quota is written after it
     equal_members 20 6 >"$temp/twenty.txt"
     run --workers 1 --list "$temp/twenty.txt"
     {
         cat "$temp/out"
+        tail -n 1 "$top/tests/cases/terminal/columns.err" | tr -d '\r'
         echo "council: the quota is at most half of the total, so two coalitions without a common member could win"
     } | sed 's/$/\r/' >"$temp/report"
     if timeout "$seconds" python3 - "$program" "$temp/twenty.txt" "$temp/report" "$clock" >"$temp/told" 2>&1 <<'END'

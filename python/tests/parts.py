@@ -309,7 +309,7 @@ class Parts(unittest.TestCase):
         for words, more, told in [
             ((50, [50, 49, 1]), {}, ["the quota 50 is at most half of the total, 100, so two coalitions"]), ((51, [50, 49, 1]), {}, []), (([51, 50], [[50, 50], [50, 50]]), {}, []),
             (([1, 1], [[1, 1], [2, 2]]), {"by": "rule"}, ["the quota 1 of rule 1 is", "the quota 1 of rule 2 is"]), ((), {"game": "[51; 1,000, 49, 51]"}, ["a comma ends a weight, also between thousands"]),
-            ((), {"game": "[300; 1,500, 49]"}, ["a comma ends"]), ((), {"game": "[600; 100,500,49]"}, []), ((), {"game": "[51; 50, 49, 1]"}, []),
+            ((), {"game": "[300; 1,500, 49]"}, ["a comma ends"]), ((), {"game": "[300; 200,049,100, 50]"}, ["a comma ends"]), ((), {"game": "[061; 050, 49]"}, []), ((), {"game": "[600; 100,500,49]"}, []), ((), {"game": "[51; 50, 49, 1]"}, []),
         ]:
             with warnings.catch_warnings(record=True) as caught:
                 warnings.simplefilter("always")

@@ -109,5 +109,9 @@ class Shared(Tests):
                 ran = subprocess.run(["bash", "-c", f'exec "$@" {end}', "bash", sys.executable, TOOLS, tool], capture_output=True, env={**os.environ, "PYTHONUNBUFFERED": ""})
                 self.assertEqual((ran.returncode, told in ran.stderr.decode(), ran.stderr.count(b"\n")), (status, True, int(bool(told))), end)
 
+    def test_a_reader_that_has_enough(self):
+        ran = subprocess.run(["bash", "-c", f"\"$@\" <'{TOP}/examples/eec-1958.tsv' | true; echo ${{PIPESTATUS[0]}}", "bash", sys.executable, TOOLS, "export", "csv"], capture_output=True)
+        self.assertEqual((ran.stdout, ran.stderr), (b"141\n", b""))
+
 
 main("lists")

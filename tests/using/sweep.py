@@ -120,6 +120,8 @@ class Sweeps(Tests):
         self.assertIn(f"quotas up to 2,000 of rule 2 are {LOW}, 4,000", sweep("--rule", "2", "--from", "1000", "--step", "1000", "-", input=write_game("AB", [1, 1, 1], [[1, 2000, 1]] * 2)).err)
         for run in (sweep("-", "--from", "51", input=(slip := "[51; 1,000, 49, 1]")), Run("bars", "--game", put("slip.txt", slip), input=report(slip))):
             self.assertIn("a comma ends a weight", run.err)
+        low = Run("bars", "--game", put("slip.txt", "[25; 1,000, 49]"), input=report("[25; 1,000, 49]")).err
+        self.assertLess(low.index("a comma ends a weight"), low.index("the quota 25 is at most half"))
 
     def test_what_is_refused(self):
         kept = put("kept.svg", "kept")

@@ -8,12 +8,13 @@ ghost use Rattle.council_run.specs.Columns.{limit_with, report_of};
 ghost use Rattle.council_run.specs.Run.{IsOutcome};
 ghost use Rattle.council_run.specs.Plans.{is_too_many, lines_of_plan};
 
-use council_explain::{explain, remark_on_names, remark_on_quotas, remark_on_thousands};
+use council_explain::explain;
 use council_file::{parse_game, read_bytes};
 use council_game::{Game, GameFault, Gate, Plan, Sink, Source};
 use council_run::{Cause, Columns, LEAST_BITS, RunFault, number_by_states, report_game, status};
 use council_words::{
-    Arguments, Progress, collect_words, parse_arguments, report_unopened, say, say_more,
+    Arguments, Progress, collect_words, parse_arguments, remark_on_columns, remark_on_names,
+    remark_on_quotas, remark_on_thousands, report_unopened, say, say_more,
 };
 use mwc_gather::GatherFault;
 use mwc_walk::slice_count;
@@ -147,7 +148,7 @@ fn refuse_game(
 /// Reports on a game, whose file has these bytes, and returns the status.
 ///
 /// On a terminal it remarks on what may not be meant: in names first, and in numbers after the
-/// report.
+/// report. If that is on a terminal too, it first names the columns.
 fn report_on<R: AllocGlobal + Print + Eprint + Clock + Threads + Wait + Sync>(
     rt: &R,
     arguments: &Arguments<'_>,
@@ -162,6 +163,7 @@ fn report_on<R: AllocGlobal + Print + Eprint + Clock + Threads + Wait + Sync>(
         return refuse_game(rt, arguments, is_terminal, fault, game);
     }
     if is_terminal {
+        remark(rt, remark_on_columns(arguments));
         remark(rt, remark_on_thousands(bytes));
         remark(rt, remark_on_quotas(game));
     }
@@ -225,16 +227,18 @@ fn run_on_file<R: AllocGlobal + Files + Input + Print + Eprint + Clock + Threads
 
 /// Runs as the words of the command line ask.
 ///
-/// `is_typed` tells whether standard input is a terminal, and `is_terminal` whether standard error
-/// is one.
+/// `is_typed` tells whether standard input is a terminal, `is_terminal` whether standard error is
+/// one, and `is_shown` whether standard output is one.
 fn run<R: AllocGlobal + Files + Input + Print + Eprint + Clock + Threads + Wait + Sync>(
     rt: &R,
     words: &[String],
     is_typed: bool,
     is_terminal: bool,
+    is_shown: bool,
 ) -> ExitCode {
     match parse_arguments(rt, words) {
-        Ok(arguments) => {
+        Ok(mut arguments) => {
+            arguments.is_shown = is_shown;
             if is_typed && arguments.file.is_none() {
                 say(rt, "a game is read from standard input, up to its end");
             }
@@ -248,7 +252,8 @@ fn main(rt: HostRuntime) -> ExitCode {
     match collect_words(&rt) {
         Ok(words) => {
             let (is_typed, is_terminal) = (rt.stdin().is_terminal(), rt.stderr().is_terminal());
-            run(&rt, words.as_slice(), is_typed, is_terminal)
+            let is_shown = rt.stdout().is_terminal();
+            run(&rt, words.as_slice(), is_typed, is_terminal, is_shown)
         }
         Err(status) => status,
     }

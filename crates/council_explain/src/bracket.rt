@@ -1,94 +1,99 @@
 //! What is wrong with a bracket text `[q; w1, .., wn]`.
-use crate::explanation::Explanation;
-use crate::numbers::DIGITS;
+use crate::file::{File, before_first};
+use crate::lines::Lines;
+use crate::numbers::{DIGITS, explain_range};
 use council_game::GameFault;
 
-/// The rest of a text that breaks the grammar there, and what is expected.
-type Misfit<'a> = (&'a str, &'static str);
-
-/// What may stand between two numbers or signs.
-const BLANKS: &[char] = &[' ', '\t', '\r', '\n'];
-
-/// What may stand around a number.
-const AROUND: &[char] = &[' ', '\t', '\r', '\n', '[', ']'];
-
-/// Skips a sign, and the blanks after it.
-fn skip<'a>(text: &'a str, sign: char, expected: &'static str) -> Result<&'a str, Misfit<'a>> {
-    match text.strip_prefix(sign) {
-        Some(rest) => Ok(rest.trim_start_matches(BLANKS)),
-        None => Err((text, expected)),
-    }
+/// Returns the offset after the blanks from an offset on.
+fn skip_blanks(text: &str, at: usize) -> usize {
+    let rest = text.get(at..).unwrap_or("");
+    text.len()
+        .saturating_sub(rest.trim_start_matches([' ', '\t', '\r', '\n']).len())
 }
 
-/// Skips a number, and the blanks after it.
-fn skip_number(text: &str) -> Result<&str, Misfit<'_>> {
-    let rest = text.trim_start_matches(DIGITS);
-    match text.len().saturating_sub(rest.len()) {
-        0 => Err((text, "a weight is expected here, a whole number")),
-        1..=18 => Ok(rest.trim_start_matches(BLANKS)),
-        _ => Err((
-            text.get(18..).unwrap_or(""),
-            "a number has at most 18 digits",
-        )),
-    }
-}
-
-/// Skips what stands in the brackets.
-pub fn skip_rule(text: &str) -> Result<&str, Misfit<'_>> {
-    let rest = skip_number(text)?;
-    let weights = skip(rest, ';', "a semicolon is expected here, after the quota")?;
-    let mut rest = weights;
-    for _ in weights.split(',') {
-        rest = skip_number(rest)?;
-        match skip(rest, ',', "") {
-            Ok(after) => rest = after,
-            Err(_) => break,
+/// Returns the offset after a quota and weights, which begin at an offset.
+///
+/// # Errors
+///
+/// Where they break the grammar, and what is expected there.
+pub fn skip_rule(text: &str, start: usize) -> Result<usize, (usize, &'static str)> {
+    let mut at = start;
+    for number in 0..=text.len() {
+        let rest = text.get(at..).unwrap_or("");
+        match rest
+            .len()
+            .saturating_sub(rest.trim_start_matches(DIGITS).len())
+        {
+            0 => return Err((at, "a weight is expected here, a whole number")),
+            1..=18 => at = skip_blanks(
+                text,
+                text.len()
+                    .saturating_sub(rest.trim_start_matches(DIGITS).len()),
+            ),
+            _ => return Err((at.saturating_add(18), "a number has at most 18 digits")),
         }
+        match text.as_bytes().get(at) {
+            Some(b';') if number == 0 => {}
+            Some(b',') if number > 0 => {}
+            _ if number == 0 => return Err((at, "a semicolon is expected here, after the quota")),
+            _ => break,
+        }
+        at = skip_blanks(text, at.saturating_add(1));
     }
-    Ok(rest)
-}
-
-/// Skips the whole text.
-pub fn skip_text(text: &str) -> Result<&str, Misfit<'_>> {
-    let rest = skip(text.trim_start_matches(BLANKS), '[', "")?;
-    let expected = "a comma or a bracket is expected here, after the weight";
-    skip(skip_rule(rest)?, ']', expected)
+    Ok(at)
 }
 
 /// Returns the number that stands between blanks and brackets.
 fn number_in(text: &str) -> u64 {
-    let digits = text.trim_matches(AROUND);
+    let digits = text.trim_matches([' ', '\t', '\r', '\n', '[', ']']);
     u64::from_str_radix(digits, 10).unwrap_or(0)
 }
 
-impl Explanation<'_> {
+impl File {
     /// Says where the text breaks the grammar.
-    pub fn explain_misfit(&mut self) {
-        let text = self.text.trim_end();
-        let (rest, expected) = match skip_text(text) {
-            Ok(rest) => (rest, "nothing may follow the bracket"),
+    pub fn explain_misfit(&self, lines: &mut Lines) {
+        let text = self.text.as_str().trim_end();
+        let bracket = skip_blanks(text, 0);
+        let (offset, expected) = match skip_rule(
+            text,
+            skip_blanks(text, bracket.saturating_add(1)),
+        ) {
             Err(misfit) => misfit,
+            Ok(at) if text.as_bytes().get(at) == Some(&b']') => {
+                (
+                    skip_blanks(text, at.saturating_add(1)),
+                    "nothing may follow the bracket",
+                )
+            }
+            Ok(at) => (
+                at,
+                "a comma or a bracket is expected here, after the weight",
+            ),
         };
-        self.explain_place(text.len().saturating_sub(rest.len()), expected);
+        self.explain_place(lines, offset, expected);
     }
 
     /// Says which number of a text that keeps to the grammar is out of its range.
-    pub fn explain_bracket(&mut self, fault: GameFault) {
-        let (quota, weights) = self.text.split_once(';').unwrap_or((self.text, ""));
-        let mut total = 0u64;
-        for weight in weights.split(',') {
+    pub fn explain_bracket(&self, lines: &mut Lines, fault: GameFault) {
+        let quota = before_first(self.text.as_str(), ';');
+        let (mut count, mut total) = (0u64, 0u64);
+        for weight in self.text.as_str().split([';', ',']) {
+            count = count.saturating_add(1);
             total = total.saturating_add(number_in(weight));
         }
+        // the first number is the quota
+        let (quota, count) = (number_in(quota), count.saturating_sub(1));
         match fault {
-            GameFault::QuotaRange => {
-                self.explain_range("the quota", number_in(quota), total);
-            }
+            GameFault::QuotaRange => explain_range(lines, 0, quota, total.saturating_sub(quota)),
             GameFault::Members => {
-                let count = weights.split(',').count();
-                let wanted = "at most 40 are allowed";
-                self.line_of("the text has ", count, " weights: ", wanted);
+                lines.add_of(
+                    "the text has ",
+                    count,
+                    " weights: ",
+                    "at most 40 are allowed",
+                );
             }
-            _ => self.line("the greatest weight is 1000000000000"),
+            _ => lines.add("the greatest weight is 1000000000000"),
         }
     }
 }

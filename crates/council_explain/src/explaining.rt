@@ -1,5 +1,6 @@
 //! What a fault says of bytes.
-use crate::explanation::{Explanation, tree_of};
+use crate::file::File;
+use crate::lines::Lines;
 use council_game::{GameFault, Memory};
 use std::alloc::Global;
 use toml::Table;
@@ -7,35 +8,45 @@ use toml::de::Error;
 
 /// Returns whether the bytes are those of a spreadsheet or an archive.
 fn is_spreadsheet(bytes: &[u8]) -> bool {
-    bytes.starts_with(b"PK\x03\x04") || bytes.starts_with(b"\xD0\xCF\x11\xE0")
+    matches!(bytes, [b'P', b'K', 3, 4, ..] | [0xD0, 0xCF, 0x11, 0xE0, ..])
 }
 
-impl Explanation<'_> {
-    /// Says what a fault says of a file; an error says that it is no TOML.
-    fn explain_fault(&mut self, bytes: &[u8], error: Option<&Error>, fault: GameFault) {
+impl File {
+    /// Says what a fault says of the file; an error says that it is no TOML.
+    fn explain_fault(
+        &self,
+        lines: &mut Lines,
+        bytes: &[u8],
+        error: Option<&Error>,
+        fault: GameFault,
+    ) {
         match fault {
             GameFault::Memory => {}
-            GameFault::Read => self.line(
-                "a folder was named, or what can not be read: name a file that you may read",
-            ),
-            GameFault::TooLong | GameFault::Text if is_spreadsheet(bytes) => self.line(
+            GameFault::Read => {
+                lines.add(
+                    "a folder was named, or what can not be read: name a file that you may read",
+                );
+            }
+            GameFault::TooLong | GameFault::Text if is_spreadsheet(bytes) => lines.add(
                 "that is a spreadsheet's own file: save the table as CSV, and council-tools from-table makes a game file of it",
             ),
-            GameFault::TooLong => self.line(
-                "the file of a game of 40 members is much shorter: is it the right file?",
-            ),
-            GameFault::Text => self.explain_no_toml(bytes, error),
-            GameFault::Bracket => self.explain_misfit(),
-            _ if error.is_some() => self.explain_bracket(fault),
-            GameFault::UnknownKey => self.explain_unknown_key(),
-            GameFault::Title => self.explain_text(None),
-            GameFault::Rules => self.explain_rules(),
-            GameFault::Quota => self.explain_quota(),
-            GameFault::Members => self.explain_members(),
-            GameFault::Name { member } => self.explain_text(Some(usize::from(member))),
-            GameFault::SameName { member } => self.explain_same_name(usize::from(member)),
-            GameFault::Weight { member } => self.explain_weight(usize::from(member)),
-            GameFault::QuotaRange => self.explain_quota_range(),
+            GameFault::TooLong => {
+                lines.add(
+                    "the file of a game of 40 members is much shorter: is it the right file?",
+                );
+            }
+            GameFault::Text => self.explain_no_toml(lines, bytes, error),
+            GameFault::Bracket => self.explain_misfit(lines),
+            _ if error.is_some() => self.explain_bracket(lines, fault),
+            GameFault::UnknownKey => self.explain_unknown_key(lines),
+            GameFault::Title => self.explain_text(lines, 0),
+            GameFault::Rules | GameFault::Quota | GameFault::QuotaRange => {
+                self.explain_quotas(lines, fault);
+            }
+            GameFault::Members => self.explain_members(lines),
+            GameFault::Name { member } => self.explain_text(lines, usize::from(member)),
+            GameFault::SameName { member } => self.explain_same_name(lines, usize::from(member)),
+            GameFault::Weight { member } => self.explain_weight(lines, usize::from(member)),
         }
     }
 }
@@ -53,21 +64,21 @@ pub fn explain(alloc: Global, bytes: &[u8], fault: GameFault) -> Result<String, 
     // some editors write these before a text
     let bytes = bytes.strip_prefix(b"\xEF\xBB\xBF").unwrap_or(bytes);
     let text = String::from_utf8_lossy(alloc, bytes)?;
-    let (table, error) = match tree_of(alloc, text.as_str())? {
+    let (table, error) = match toml::table_from_str(alloc, text.as_str()) {
         Ok(table) => (table, None),
+        // memory: a growth was refused
+        Err(error) if error.is_memory() => return Err(Memory),
         Err(error) => (Table::new(alloc), Some(error)),
     };
-    let mut explanation = Explanation {
-        alloc,
-        text: text.as_str(),
-        table: &table,
-        lines: String::new(alloc),
+    let file = File { alloc, text, table };
+    let mut lines = Lines {
+        text: String::new(alloc),
         failed: false,
     };
-    explanation.explain_fault(bytes, error.as_ref(), fault);
-    if explanation.failed {
+    file.explain_fault(&mut lines, bytes, error.as_ref(), fault);
+    if lines.failed {
         // memory: a growth was refused
         return Err(Memory);
     }
-    Ok(explanation.lines)
+    Ok(lines.text)
 }

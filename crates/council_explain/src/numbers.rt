@@ -1,19 +1,17 @@
 //! Numbers as people write them, and what turns those that are not whole into whole ones.
-use crate::explanation::{Explanation, short};
+use crate::file::{File, after_last, before_first};
+use crate::lines::Lines;
 use std::fmt::Display;
 use toml::Value;
 
 /// The digits of a number.
 pub const DIGITS: &[char] = &['0', '1', '2', '3', '4', '5', '6', '7', '8', '9'];
 
-/// What begins an exponent.
-const EXPONENT: &[char] = &['e', 'E'];
-
-/// The signs of a percentage and of a fraction.
-const SHARE: &[char] = &['%', '/'];
-
 /// What is said of a percentage and of a fraction.
 pub const GUIDE: &str = "docs/GUIDE.md says how percentages and fractions become whole numbers";
+
+/// The names of the only quota, and of those of several rules.
+const NAMES: [&str; 5] = ["the quota", "quota 1", "quota 2", "quota 3", "quota 4"];
 
 /// Returns how a line tells the kind of a value, after the value.
 pub fn kind(value: &Value) -> &'static str {
@@ -28,57 +26,54 @@ pub fn kind(value: &Value) -> &'static str {
     }
 }
 
-/// Returns the most digits after a sign in a line, without zeros at their end and with them.
-fn decimals_of(line: &str, sign: char) -> (usize, usize) {
-    let mut most = (0usize, 0usize);
-    let mut is_number = false;
-    for part in line.split(sign) {
-        let rest = part.trim_start_matches(DIGITS);
-        let digits = part.strip_suffix(rest).unwrap_or("");
-        if is_number && !rest.starts_with(EXPONENT) {
-            let decimals = digits.trim_end_matches('0');
-            most = (most.0.max(decimals.len()), most.1.max(digits.len()));
-        }
-        is_number = part.ends_with(DIGITS);
-    }
-    most
-}
-
-/// Returns the most decimals of a number in a text.
-///
-/// First without zeros at their end, and then with them.
+/// Returns the most decimals of a number: without zeros at their end, and with them.
 ///
 /// The comma of an array counts for nothing, nor does what is in a comment or before a quote.
 fn most_decimals(text: &str, sign: char) -> (usize, usize) {
-    let mut most = (0usize, 0usize);
+    let mut decimals = 0usize;
+    let mut most = 0usize;
     for line in text.lines() {
-        let (line, _) = line.split_once('#').unwrap_or((line, ""));
-        let (_, line) = line.rsplit_once('"').unwrap_or(("", line));
-        if sign != ',' || !line.contains('[') {
-            let (decimals, digits) = decimals_of(line, sign);
-            most = (most.0.max(decimals), most.1.max(digits));
+        let line = after_last(before_first(line, '#'), '"');
+        let is_array = sign == ',' && line.contains('[');
+        let mut is_number = false;
+        for part in line.split(sign) {
+            let rest = part.trim_start_matches(DIGITS);
+            if is_number && !rest.starts_with(['e', 'E']) {
+                let digits = part.strip_suffix(rest).unwrap_or("");
+                decimals = decimals.max(digits.trim_end_matches('0').len());
+                most = most.max(digits.len());
+            }
+            is_number = !is_array && part.ends_with(DIGITS);
         }
     }
-    most
+    (decimals, most)
 }
 
-impl Explanation<'_> {
+/// Says that a quota is not within its total; 0 is the only rule, 1 the first.
+pub fn explain_range(lines: &mut Lines, rule: usize, quota: impl Display + Drop, total: u64) {
+    let name = NAMES.get(rule).unwrap_or(&"a quota");
+    lines.add(format_args!(
+        "{name} is {quota}, and the weights add up to {total}: a quota is from 1 to that total"
+    ));
+}
+
+impl File {
     /// Says what a value is that is no quota or weight, and what helps.
-    pub fn explain_number(&mut self, value: &Value, wanted: &str) {
+    pub fn explain_number(&self, lines: &mut Lines, value: &Value, wanted: &str) {
         if let Value::Integer(weight) = value {
             let range = "a weight is from 0 to 1000000000000";
-            return self.line_of("", weight, " is out of range: ", range);
+            return lines.add_of("", weight, " is out of range: ", range);
         }
-        self.line_of("", value, kind(value), wanted);
+        lines.add_of("", value, kind(value), wanted);
         match value {
             Value::Float(number) => {
                 let is_whole = number.fract() == 0.0 && 0.0 <= *number && *number <= 1e12;
-                if is_whole && most_decimals(self.text, '.').0 == 0 {
-                    self.line_of("write ", number.abs(), "", "");
+                if is_whole && most_decimals(self.text.as_str(), '.').0 == 0 {
+                    lines.add_of("write ", number.abs(), "", "");
                 }
-                self.explain_factor('.');
+                self.explain_factor(lines, '.');
             }
-            Value::String(text) if text.contains(SHARE) => self.line(GUIDE),
+            Value::String(text) if text.contains(['%', '/']) => lines.add(GUIDE),
             _ => {}
         }
     }
@@ -87,23 +82,15 @@ impl Explanation<'_> {
     ///
     /// It says nothing if there are no decimals, or more than the greatest weight has zeros. Three
     /// decimals may also be thousands.
-    pub fn explain_factor(&mut self, sign: char) {
-        let (decimals, digits) = most_decimals(self.text, sign);
+    pub fn explain_factor(&self, lines: &mut Lines, sign: char) {
+        let (decimals, digits) = most_decimals(self.text.as_str(), sign);
         if 0 < decimals
             && let Some(factor) = "1000000000000".get(..=decimals)
         {
-            self.line_of("multiply all weights and the quota by ", factor, "", "");
+            lines.add_of("multiply all weights and the quota by ", factor, "", "");
         }
         if digits == 3 {
-            self.line("leave out a point or a comma that separates thousands");
+            lines.add("leave out a point or a comma that separates thousands");
         }
-    }
-
-    /// Says that a quota of that name is not within its total.
-    pub fn explain_range(&mut self, name: &str, quota: impl Display + Drop, total: u64) {
-        self.line(format_args!(
-            "{name} is {}, and the weights add up to {total}: a quota is from 1 to that total",
-            short(quota)
-        ));
     }
 }

@@ -1,34 +1,15 @@
 //! What is wrong with the keys and values of a file in TOML.
-use crate::explanation::{Explanation, elements, short, value_of};
-use crate::numbers::kind;
-use council_game::limits;
+use crate::file::File;
+use crate::lines::Lines;
+use crate::numbers::{explain_range, kind};
+use council_game::{GameFault, limits, sanitize};
 use std::num::{nearest_u64_to_f64, saturating_f64_to_u64};
 use std::slice;
-use toml::Value;
+use toml::{Table, Value};
 
 /// How each member begins.
 pub const MEMBERS: &str =
     "each member begins with a line [[member]], with two brackets on each side";
-
-/// What a name and a title are.
-const NAME: &str = "a name is a text in quotes, of 1 to 64 bytes, on one line";
-
-const TITLE: &str = "a title is a text in quotes, of at most 200 bytes, on one line";
-
-/// The names of the only quota, and of several.
-const QUOTA: &[&str] = &["the quota"];
-
-const QUOTAS: &[&str] = &["quota 1", "quota 2", "quota 3", "quota 4"];
-
-/// The keys that a file may have at its top, and those of a member.
-const TOP_KEYS: &[&str] = &["title", "quota", "quotas", "member"];
-
-const MEMBER_KEYS: &[&str] = &["name", "weight", "weights"];
-
-/// Returns whether a key is one of these.
-fn is_among(key: &str, keys: &[&str]) -> bool {
-    keys.contains(&key)
-}
 
 /// Returns the weight of a member under a rule, if it is a whole number; 0 for one below 0.
 fn weight_of(member: &Value, rule: usize) -> Option<u64> {
@@ -42,29 +23,42 @@ fn weight_of(member: &Value, rule: usize) -> Option<u64> {
     }
 }
 
-impl Explanation<'_> {
-    /// Says which key the file, or else a member, may not have.
-    pub fn explain_unknown_key(&mut self) {
-        for key in self.table.keys() {
-            if !is_among(key.as_str(), TOP_KEYS) {
-                self.explain_key(None, key.as_str());
-                let keys = "the keys are title, quota, quotas and member";
-                return self.line_of("at the top there is no key ", key, ": ", keys);
-            }
+/// Returns whether a member may have a key, or else the top of a file.
+fn is_known(key: &str, is_member: bool) -> bool {
+    match key {
+        "title" | "quota" | "quotas" | "member" => !is_member,
+        "name" | "weight" | "weights" => is_member,
+        _ => false,
+    }
+}
+
+/// Returns the first key that the table of a member may not have, or that of the top.
+fn unknown_key(table: &Table, is_member: bool) -> Option<&str> {
+    for key in table.keys() {
+        if !is_known(key.as_str(), is_member) {
+            return Some(key.as_str());
         }
-        for (index, member) in elements(self.table, "member").iter().enumerate() {
-            let Value::Table(table) = member else {
-                continue;
-            };
-            for key in table.keys() {
-                if is_among(key.as_str(), MEMBER_KEYS) {
-                    continue;
-                }
-                self.explain_key(Some(index.saturating_add(1)), key.as_str());
-                let keys = "its keys are name, weight and weights";
-                self.line_of("a member has no key ", key, ": ", keys);
-                if is_among(key.as_str(), TOP_KEYS) {
-                    self.line("what belongs to the game stands before the first [[member]]");
+    }
+    None
+}
+
+impl File {
+    /// Says which key the file, or else a member, may not have.
+    pub fn explain_unknown_key(&self, lines: &mut Lines) {
+        if let Some(key) = unknown_key(&self.table, false) {
+            self.explain_key(lines, 0, key);
+            let keys = ": the keys are title, quota, quotas and member";
+            return lines.add_of("at the top there is no key ", key, "", keys);
+        }
+        for member in 1..=self.elements("member").len() {
+            if let Some(table) = self.table_of(member)
+                && let Some(key) = unknown_key(table, true)
+            {
+                self.explain_key(lines, member, key);
+                let keys = ": its keys are name, weight and weights";
+                lines.add_of("a member has no key ", key, "", keys);
+                if is_known(key, false) {
+                    lines.add("what belongs to the game stands before the first [[member]]");
                 }
                 return;
             }
@@ -72,148 +66,163 @@ impl Explanation<'_> {
     }
 
     /// Says what is wrong with the name of a member, or else with the title.
-    pub fn explain_text(&mut self, member: Option<usize>) {
-        let (key, most, wanted) = match member {
-            Some(_) => ("name", limits::NAME_BYTES, NAME),
-            None => ("title", limits::TITLE_BYTES, TITLE),
+    pub fn explain_text(&self, lines: &mut Lines, member: usize) {
+        let (key, most, wanted) = if member == 0 {
+            let title = "a title is a text in quotes, of at most 200 bytes, on one line";
+            ("title", limits::TITLE_BYTES, title)
+        } else {
+            let name = "a name is a text in quotes, of 1 to 64 bytes, on one line";
+            ("name", limits::NAME_BYTES, name)
         };
-        self.explain_key(member, key);
-        match value_of(self.table, member, key) {
-            None => self.line_of("the member has no ", key, ": ", wanted),
+        self.explain_key(lines, member, key);
+        match self.value_of(member, key) {
+            None => lines.add_of("the member has no ", key, ": ", wanted),
             Some(Value::String(text)) if (1..=most).contains(&text.len()) => {
                 let control = "a TAB, the end of a line or another control character";
-                self.line_of("the text has ", control, ": ", wanted);
+                lines.add_of("the text has ", control, ": ", wanted);
             }
             Some(Value::String(text)) => {
-                self.line_of("the text has ", text.len(), " bytes: ", wanted);
+                lines.add_of("the text has ", text.len(), " bytes: ", wanted);
             }
-            Some(value) => self.line_of("", value, kind(value), wanted),
+            Some(value) => lines.add_of("", value, kind(value), wanted),
         }
     }
 
     /// Says which earlier member has the name of this one.
-    pub fn explain_same_name(&mut self, member: usize) {
-        self.explain_key(Some(member), "name");
-        let name = value_of(self.table, Some(member), "name");
+    pub fn explain_same_name(&self, lines: &mut Lines, member: usize) {
+        self.explain_key(lines, member, "name");
+        let Some(Value::String(name)) = self.value_of(member, "name") else {
+            return;
+        };
         for earlier in 1..member {
-            if let Some(Value::String(text)) = name
-                && value_of(self.table, Some(earlier), "name") == name
+            if let Some(Value::String(text)) = self.value_of(earlier, "name")
+                && text == name
             {
-                let wanted = "each name stands once";
-                self.line(format_args!("member {earlier} is named {} too: {wanted}", short(text)));
-                return self.explain_key(Some(earlier), "name");
+                let wanted = "too: each name stands once";
+                let shown = sanitize(text.as_str(), 100);
+                lines.add(format_args!("member {earlier} is named {shown} {wanted}"));
+                return self.explain_key(lines, earlier, "name");
             }
         }
     }
 
     /// Says what is wrong with the weight or the weights of a member.
-    pub fn explain_weight(&mut self, member: usize) {
+    pub fn explain_weight(&self, lines: &mut Lines, member: usize) {
         let wanted = "a weight is a whole number from 0 to 1000000000000, without quotes";
-        let rules = elements(self.table, "quotas").len();
+        let rules = self.elements("quotas").len();
         let key = if rules == 0 { "weight" } else { "weights" };
-        self.explain_key(Some(member), key);
-        match value_of(self.table, Some(member), key) {
-            None => self.line_of("the member has no ", key, ": ", "each member has its own"),
-            Some(value) if rules == 0 => self.explain_number(value, wanted),
+        self.explain_key(lines, member, key);
+        match self.value_of(member, key) {
+            None => lines.add_of("the member has no ", key, "", ": each member has its own"),
+            Some(value) if rules == 0 => self.explain_number(lines, value, wanted),
             Some(Value::Array(weights)) if weights.len() == rules => {
                 for weight in weights.as_slice() {
-                    if !matches!(weight, Value::Integer(n) if 0 <= *n && *n <= 1_000_000_000_000) {
-                        return self.explain_number(weight, wanted);
+                    if !matches!(weight, Value::Integer(0..=1_000_000_000_000)) {
+                        return self.explain_number(lines, weight, wanted);
                     }
                 }
             }
-            Some(_) => self.line("weights are an array, with a number for each rule"),
+            Some(_) => lines.add("weights are an array, with a number for each rule"),
         }
     }
 
     /// Says that there is no member, or too many, or that they are no tables.
-    pub fn explain_members(&mut self) {
+    pub fn explain_members(&self, lines: &mut Lines) {
         match self.table.get("member") {
-            None => self.line_of("the file has no ", "member", ": ", MEMBERS),
+            None => lines.add_of("the file has no ", "member", ": ", MEMBERS),
             Some(Value::Array(members)) if (1..=limits::MEMBERS).contains(&members.len()) => {
-                self.line("a member is a table with a name and a weight");
+                lines.add("a member is a table with a name and a weight");
             }
             Some(Value::Array(members)) => {
-                let wanted = "1 to 40 are allowed";
-                self.line_of("the file has ", members.len(), " members: ", wanted);
+                lines.add_of(
+                    "the file has ",
+                    members.len(),
+                    " members: ",
+                    "1 to 40 are allowed",
+                );
             }
             Some(value) => {
-                self.explain_key(None, "member");
-                self.line_of("member", kind(value), "", MEMBERS);
+                self.explain_key(lines, 0, "member");
+                lines.add_of("member", kind(value), "", MEMBERS);
             }
         }
     }
 
-    /// Says what is wrong with the quota, or that there is none.
-    pub fn explain_quota(&mut self) {
-        self.explain_key(None, "quota");
-        if let Some(value) = self.table.get("quota") {
-            self.explain_share(value, 0, "a quota is a whole number, without quotes");
-        } else if self.table.is_empty() {
-            self.line("the file holds no game: it has neither a quota nor a member");
+    /// Says what is wrong with quotas, or which keys do not go together.
+    pub fn explain_quotas(&self, lines: &mut Lines, fault: GameFault) {
+        self.explain_key(lines, 0, "quotas");
+        self.explain_key(lines, 0, "quota");
+        let is_rules = matches!(fault, GameFault::Rules);
+        let (first, quotas) = match self.table.get("quota") {
+            Some(quota) if !is_rules => (0, slice::from_ref(quota)),
+            _ => (1, self.elements("quotas")),
+        };
+        for (rule, quota) in quotas.iter().enumerate() {
+            let total = self.total_of(rule);
+            match quota {
+                Value::Integer(quota) if matches!(fault, GameFault::QuotaRange) => {
+                    let total = total.unwrap_or(0);
+                    if *quota < 1 || i64::try_from(total).unwrap_or(i64::MAX) < *quota {
+                        return explain_range(lines, rule.saturating_add(first), quota, total);
+                    }
+                }
+                Value::Integer(_) => {}
+                _ if is_rules => {
+                    return self.explain_share(
+                        lines,
+                        quota,
+                        total,
+                        "quotas are 1 to 4 whole numbers",
+                    );
+                }
+                _ => {
+                    let wanted = "a quota is a whole number, without quotes";
+                    return self.explain_share(lines, quota, total, wanted);
+                }
+            }
+        }
+        lines.add(self.describe_rules(is_rules));
+    }
+
+    /// Returns which keys do not go together, or are not there.
+    fn describe_rules(&self, is_rules: bool) -> &'static str {
+        let has_quota = self.table.contains_key("quota");
+        let rules = self.elements("quotas").len();
+        if !is_rules && self.table.is_empty() {
+            "the file holds no game: it has neither a quota nor a member"
+        } else if !is_rules {
+            "the file has no quota: write a line such as quota = 51 before the members"
+        } else if has_quota && self.table.contains_key("quotas") {
+            "quota and quotas are both there: a game has one of them"
+        } else if has_quota || (1..=limits::RULES).contains(&rules) {
+            "weight goes with quota, and weights go with quotas"
         } else {
-            self.line("the file has no quota: write a line such as quota = 51 before the members");
+            "quotas are an array of 1 to 4 whole numbers"
         }
     }
 
-    /// Says what is wrong with the quota of a rule, and how many votes a share of whole weights is.
-    fn explain_share(&mut self, quota: &Value, rule: usize, wanted: &str) {
-        match (quota, self.total_of(rule)) {
+    /// Says what is wrong with a quota, and how many votes a share of whole weights is.
+    fn explain_share(&self, lines: &mut Lines, quota: &Value, total: Option<u64>, wanted: &str) {
+        match (quota, total) {
             (Value::Float(share), Some(total)) if 0.0 < *share && *share < 1.0 && 0 < total => {
-                self.line_of("", quota, kind(quota), wanted);
+                lines.add_of("", quota, kind(quota), wanted);
                 // 0.29 of 100 is 28.999999999999996
                 let votes = *share * nearest_u64_to_f64(total);
                 let slack = votes * 1e-15 + 1e-9;
                 let least = saturating_f64_to_u64(votes - slack).saturating_add(1);
                 let more = saturating_f64_to_u64(votes + slack).saturating_add(1);
-                self.line(format_args!(
+                lines.add(format_args!(
                     "a share of the total: write {least} for at least {share} of {total}, {more} for more than that"
                 ));
             }
-            _ => self.explain_number(quota, wanted),
-        }
-    }
-
-    /// Says which keys do not go together, or what is wrong with the quotas.
-    pub fn explain_rules(&mut self) {
-        let quotas = elements(self.table, "quotas");
-        let has_quota = self.table.contains_key("quota");
-        self.explain_key(None, "quotas");
-        self.explain_key(None, "quota");
-        for (rule, quota) in quotas.iter().enumerate() {
-            if !matches!(quota, Value::Integer(_)) {
-                return self.explain_share(quota, rule, "quotas are 1 to 4 whole numbers");
-            }
-        }
-        if has_quota && self.table.contains_key("quotas") {
-            self.line("quota and quotas are both there: a game has one of them");
-        } else if has_quota || (1..=limits::RULES).contains(&quotas.len()) {
-            self.line("weight goes with quota, and weights go with quotas");
-        } else {
-            self.line("quotas are an array of 1 to 4 whole numbers");
-        }
-    }
-
-    /// Says which quota of a file is not within its total.
-    pub fn explain_quota_range(&mut self) {
-        self.explain_key(None, "quota");
-        self.explain_key(None, "quotas");
-        let (names, quotas) = match self.table.get("quota") {
-            Some(quota) => (QUOTA, slice::from_ref(quota)),
-            None => (QUOTAS, elements(self.table, "quotas")),
-        };
-        for (index, quota) in quotas.iter().enumerate() {
-            let total = self.total_of(index).unwrap_or(0);
-            if !matches!(quota, Value::Integer(n) if 1 <= *n && (*n as u64) <= total) {
-                return self.explain_range(names.get(index).unwrap_or(&"a quota"), quota, total);
-            }
+            _ => self.explain_number(lines, quota, wanted),
         }
     }
 
     /// Returns the total of the weights under a rule, if they are whole numbers.
     fn total_of(&self, rule: usize) -> Option<u64> {
         let mut total = 0u64;
-        for member in elements(self.table, "member") {
+        for member in self.elements("member") {
             total = total.saturating_add(weight_of(member, rule)?);
         }
         Some(total)

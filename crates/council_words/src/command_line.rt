@@ -98,6 +98,33 @@ fn refuse_words(rt: &(impl AllocGlobal + Print + Eprint), words: &[String]) -> E
     }
 }
 
+/// Returns what helps with an option that the program does not have, if people look for it here.
+fn tip_for(word: &str) -> Option<&'static str> {
+    match word {
+        "--banzhaf" | "--penrose" | "--shapley" | "--shapley-shubik" => {
+            Some("--swings adds the Banzhaf index, Penrose's measure and the Shapley-Shubik index")
+        }
+        "--csv" | "--json" | "--latex" | "--markdown" => {
+            Some("council-tools export makes csv, json, latex or markdown of a report")
+        }
+        _ => None,
+    }
+}
+
+/// Prints what helps with an unknown option among the words, and returns whether it is known.
+fn refuse_option(rt: &impl Eprint, words: &[String]) -> bool {
+    for word in words {
+        let word = word.as_str();
+        if let Some(tip) = tip_for(word) {
+            let _ = eprintln!(rt;
+                "error: unexpected argument '{word}' found\n\n  tip: {tip}\n\nUsage: council [OPTIONS] [FILE]\n\nFor more information, try '--help'."
+            );
+            return true;
+        }
+    }
+    false
+}
+
 /// Parses the words of the command line, of which the first is no argument.
 ///
 /// # Errors
@@ -111,6 +138,7 @@ pub fn parse_arguments<'a>(
     match read_words(rt.alloc(), words) {
         Ok(arguments) => Ok(arguments),
         Err(ErrorKind::OutOfMemory) => Err(out_of_memory(rt)),
+        Err(ErrorKind::UnknownArgument) if refuse_option(rt, words) => Err(ExitCode::from(2)),
         Err(_) => Err(refuse_words(rt, words)),
     }
 }

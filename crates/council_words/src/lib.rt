@@ -18,5 +18,8 @@ mod words;
 
 pub use command_line::{collect_words, parse_arguments};
 pub use progress::Progress;
-pub use remarks::{report_unopened, say, say_more};
+pub use remarks::{
+    remark_on_columns, remark_on_names, remark_on_quotas, remark_on_thousands, report_unopened,
+    say, say_more,
+};
 pub use words::{Arguments, read_words};

@@ -21,6 +21,8 @@ pub struct Arguments<'a> {
     pub only_swings: bool,
     /// Explain on standard error why a game is refused.
     pub explain: bool,
+    /// Whether the report goes to a terminal. The words do not say it: the caller does.
+    pub is_shown: bool,
 }
 
 const ABOUT: &str = "Lists the minimal winning coalitions of a weighted voting game, and computes
@@ -267,6 +269,7 @@ fn arguments_of<'a>(matches: &ArgMatches<'a>) -> Arguments<'a> {
         swings: matches.get_flag("swings"),
         only_swings: matches.get_flag("only-swings"),
         explain: matches.get_flag("explain"),
+        is_shown: false,
     }
 }
 

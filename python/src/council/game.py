@@ -119,9 +119,10 @@ def describe_low_quotas(quotas: Sequence[int], totals: Sequence[int]) -> list[st
 
 
 def find_slips(text: str) -> list[str]:
-    """Returns what is hardly meant in a game file: thousands with commas in a bracket text."""
+    """Returns what is hardly meant in a bracket text: commas between thousands. A weight after a comma
+    has three digits, and begins with 0, or else a blank is after another comma."""
     is_bracket = re.match(r"\s*\[\s*\d", text)
-    has_thousands = re.search(r"\b0\d\d\b", text) or (re.search(r"\d,\d{3}\b", text) and re.search(r",\s", text))
+    has_thousands = re.search(r",\s*0\d\d\b", text) or (re.search(r",\d{3}\b", text) and re.search(r",\s", text))
     return ["a comma ends a weight, also between thousands: 1,000 is read as 1 and 0"] if is_bracket and has_thousands else []
 
 

@@ -39,12 +39,13 @@ council <- function(quota, weights, names = NULL, title = "", file = NULL, game 
   table
 }
 
-# Warns of what is hardly meant: quotas of at most half, and thousands in a bracket text, whose
-# commas end a weight.
+# Warns of what is hardly meant: quotas of at most half, and commas between thousands in a bracket
+# text. A weight after a comma has three digits, and begins with 0, or else a blank is after another
+# comma.
 warn_of_slips <- function(bytes, quota, total) {
   text <- rawToChar(bytes)
   has <- function(pattern) grepl(pattern, text, perl = TRUE, useBytes = TRUE)
-  if (has("^\\s*\\[\\s*[0-9]") && (has("\\b0[0-9]{2}\\b") || (has("[0-9],[0-9]{3}\\b") && has(",\\s")))) {
+  if (has("^\\s*\\[\\s*[0-9]") && (has(",\\s*0[0-9]{2}\\b") || (has(",[0-9]{3}\\b") && has(",\\s")))) {
     warning("a comma ends a weight, also between thousands: 1,000 is read as 1 and 0", call. = FALSE)
   }
   if (all(2 * quota <= total)) {

@@ -75,7 +75,7 @@ stopifnot(
 warned <- function(expr) tryCatch({ expr; "nothing" }, warning = conditionMessage)
 stopifnot(
   grepl("at most half", warned(council(50, c(50, 49, 1)))), warned(council(51, c(50, 49, 1))) == "nothing", warned(council(c(50, 51), cbind(c(50, 50), c(50, 50)))) == "nothing",
-  grepl("thousands", warned(council(game = "[1051; 1,000, 49, 1, 1000]"))), grepl("thousands", warned(council(game = "[300; 1,500, 49, 1]"))), warned(council(game = "[600; 100,500,49]")) == "nothing"
+  grepl("thousands", warned(council(game = "[1051; 1,000, 49, 1, 1000]"))), grepl("thousands", warned(council(game = "[300; 1,500, 49, 1]"))), grepl("thousands", warned(council(game = "[300; 200,049,100, 50]"))), warned(council(game = "[600; 100,500,49]")) == "nothing"
 )
 
 # a table by rule and by member

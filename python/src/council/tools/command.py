@@ -127,6 +127,10 @@ def run(main: Callable[[list[str]], None], words: list[str]) -> int:
         return tell("what was read is not UTF-8", 1)
     except MemoryError:
         return tell("out of memory", 5)
+    except BrokenPipeError:
+        # the reader of the output has enough of it, as `head`: this ends as a signal would end it
+        drop(sys.stdout)
+        return 141
     except OSError as it:
         if it.filename is not None:
             return tell(f"{it.filename}: {it.strerror}", 1)
@@ -187,17 +191,13 @@ def read_lines(path: str, make: Callable[[TextIO], T]) -> T:
 
 
 def read_report(path: str) -> Report:
-    """Reads the report in a file; - is standard input. Low quotas are warned of."""
-    report = read_lines(path, Report.read)
-    warn_of_low_quotas(report.quotas, report.totals)
-    return report
+    """Reads the report in a file; - is standard input."""
+    return read_lines(path, Report.read)
 
 
 def read_comments(path: Optional[str], report: Report) -> tuple[list[str], list[Unit]]:
     """Returns the comments of the game file of a report, and the units of its rules; none if there
-    is no file."""
-    if path is None:
-        return [], read_units([], len(report.quotas))
+    is no file. Warns of what is hardly meant in the file, and then of low quotas."""
 
     def make(file: TextIO) -> str:
         text = file.read(GAME_FILE + 1)
@@ -208,5 +208,6 @@ def read_comments(path: Optional[str], report: Report) -> tuple[list[str], list[
             note(it)
         return text
 
-    comments = find_comments(read_lines(path, make))
+    comments = [] if path is None else find_comments(read_lines(path, make))
+    warn_of_low_quotas(report.quotas, report.totals)
     return comments, read_units(comments, len(report.quotas))

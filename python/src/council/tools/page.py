@@ -24,7 +24,7 @@ from ..finding import NotFound, find_program
 from ..game import Unit, write_game
 from ..members import Coalition
 from ..reports import Fault, Report
-from .command import MANY, Words, add_index, choose_indices, read_comments, read_lines, warn_of_low_quotas
+from .command import MANY, Words, add_index, choose_indices, read_comments, read_lines
 from .drawing import SHARES, escape_xml, name_share, write_quota
 
 MOST = 1000
@@ -32,6 +32,7 @@ MOST = 1000
 ITEM = re.compile(r"(From a table(?: of|,)|Rule [1-4]:|Left out:|Not read:|Look at|Options:|Taken as members:|Added:|Source:) ?.*", re.I)
 LIGHT = "".join([f" --s{rule}: {light};" for rule, (light, _) in enumerate(SHARES)] + [f" --{it.word()}: {it.light};" for it in INDICES])
 DARK = "".join([f" --s{rule}: {dark};" for rule, (_, dark) in enumerate(SHARES)] + [f" --{it.word()}: {it.dark};" for it in INDICES])
+# (the fade of .wide has a cover that scrolls with the table, so it shows only if that is cut)
 STYLE = """
 :root { color-scheme: light dark; --ground: #fff; --ink: #1c1c1c; --soft: #5f6368; --line: #d8d8d8;LIGHT }
 @media (prefers-color-scheme: dark) { :root { --ground: #16181b; --ink: #e6e6e6; --soft: #a2a7ad; --line: #3a3e44;DARK } }
@@ -44,7 +45,7 @@ h1, h2 { overflow-wrap: anywhere; }
 h1 { font-size: 1.6rem; line-height: 1.25; margin-top: 0; margin-bottom: .5rem; }
 h2 { font-size: 1.15rem; margin-top: 2rem; margin-bottom: .5rem; }
 section + section { border-top: 2px solid var(--line); margin-top: 3rem; padding-top: 1.5rem; }
-.wide { overflow: auto; position: relative; max-width: none; max-height: 90vh; }
+.wide { overflow: auto; position: relative; max-width: none; max-height: 90vh; background: linear-gradient(to left, var(--ground) 50%, transparent) right / 4rem 100% no-repeat local, linear-gradient(to left, var(--line), transparent) right / 2rem 100% no-repeat; }
 table { border-collapse: separate; border-spacing: 0; width: 100%; font-variant-numeric: tabular-nums; }
 th, td { padding: .3rem .5rem; border-bottom: 1px solid var(--line); text-align: right; vertical-align: middle; }
 th { vertical-align: bottom; line-height: 1.25; position: sticky; top: 0; z-index: 1; background: var(--ground); }
@@ -70,7 +71,6 @@ pre { overflow-x: auto; border: 1px solid var(--line); padding: .6rem; font-size
 .soft, small { color: var(--soft); }
 p, li { overflow-wrap: anywhere; }
 footer { margin-top: 3rem; border-top: 2px solid var(--line); font-size: .9rem; }
-@media (max-width: 900px) { .wide { background: linear-gradient(to left, var(--line), transparent) right / 2rem 100% no-repeat; } }
 @media (max-width: 480px) {
   th, td { padding: .3rem .35rem; }
   th bdi, td bdi { max-width: 8rem; }
@@ -328,5 +328,3 @@ def main(args: list[str]) -> None:
     reports = [read(path, game, words) for path, game in zip(words.reports, games)]
     for line in write_page(reports, find_version(words.program)):
         print(line)
-    for it in reports:
-        warn_of_low_quotas(it.quotas, it.totals)

@@ -5,7 +5,7 @@
 from __future__ import annotations
 
 from ..decimals import write_fraction
-from .command import MANY, Words, add_index, add_report, choose_indices, make_printable, read_report
+from .command import MANY, Words, add_index, add_report, choose_indices, make_printable, read_report, warn_of_low_quotas
 
 
 def main(args: list[str]) -> None:
@@ -14,6 +14,7 @@ def main(args: list[str]) -> None:
     add_index(reader, **MANY)
     words = reader.parse_words(args)
     report = read_report(words.report)
+    warn_of_low_quotas(report.quotas, report.totals)
     indices = choose_indices([report], words.index)
     heading = ["", "Weight", *(it.title for it in indices)]
     rows = []

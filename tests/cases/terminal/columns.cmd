@@ -1,0 +1,1 @@
+python3 "$TOP/tests/terminal.py" --both council game
