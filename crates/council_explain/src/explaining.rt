@@ -43,6 +43,7 @@ impl File {
             GameFault::Rules | GameFault::Quota | GameFault::QuotaRange => {
                 self.explain_quotas(lines, fault);
             }
+            GameFault::Ways => self.explain_ways(lines),
             GameFault::Members => self.explain_members(lines),
             GameFault::Name { member } => self.explain_text(lines, usize::from(member)),
             GameFault::SameName { member } => self.explain_same_name(lines, usize::from(member)),

@@ -10,5 +10,6 @@ mod no_toml;
 mod numbers;
 mod place;
 mod values;
+mod ways;
 
 pub use explaining::explain;

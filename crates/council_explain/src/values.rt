@@ -26,7 +26,7 @@ fn weight_of(member: &Value, rule: usize) -> Option<u64> {
 /// Returns whether a member may have a key, or else the top of a file.
 fn is_known(key: &str, is_member: bool) -> bool {
     match key {
-        "title" | "quota" | "quotas" | "member" => !is_member,
+        "title" | "quota" | "quotas" | "ways" | "member" => !is_member,
         "name" | "weight" | "weights" => is_member,
         _ => false,
     }
@@ -47,7 +47,7 @@ impl File {
     pub fn explain_unknown_key(&self, lines: &mut Lines) {
         if let Some(key) = unknown_key(&self.table, false) {
             self.explain_key(lines, 0, key);
-            let keys = ": the keys are title, quota, quotas and member";
+            let keys = ": the keys are title, quota, quotas, ways and member";
             return lines.add_of("at the top there is no key ", key, "", keys);
         }
         for member in 1..=self.elements("member").len() {
