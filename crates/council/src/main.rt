@@ -2,11 +2,16 @@
 //! indices that rest on them.
 #![tactic(auto)]
 
-ghost use Rattle.std.specs.Prelude.{◌≡◌, Ok};
+ghost use Rattle.std.specs.Prelude.{◌≡◌, ◌⊎◌, Ok, ⊤};
+ghost use Rattle.std.specs.Process.{exit_status};
+ghost use Rattle.council.specs.Program.{Ends, columns_of};
+ghost use Rattle.council_file.specs.Reads.{Reads};
 ghost use Rattle.council_report.specs.Outcome.{Writes};
 ghost use Rattle.council_run.specs.Columns.{limit_with, report_of};
 ghost use Rattle.council_run.specs.Run.{IsOutcome};
 ghost use Rattle.council_run.specs.Plans.{is_too_many, lines_of_plan};
+ghost use Rattle.council_run.specs.Status.{status_of};
+ghost use Rattle.council_run.specs.declared.fault.Cause.TheVariants as cause;
 
 use council_explain::{explain, remark_on_names, remark_on_quotas, remark_on_thousands};
 use council_file::{parse_game, read_bytes};
@@ -49,7 +54,9 @@ fn advise(
     arguments: &Arguments<'_>,
     is_terminal: bool,
     fault: RunFault,
-) -> ExitCode {
+) -> ExitCode
+    ensures { exit_status result ≡ status_of fault.cause }
+{
     if (arguments.explain || is_terminal)
         && let Some(line) = advice(fault.cause, arguments.explain)
     {
@@ -66,7 +73,9 @@ fn remark(rt: &impl Eprint, line: Option<&'static str>) {
 }
 
 /// Returns which numbers the arguments ask for.
-fn columns_of(arguments: &Arguments<'_>) -> Columns {
+fn columns_of(arguments: &Arguments<'_>) -> Columns
+    ensures { result ≡ columns_of arguments.now.swings arguments.now.only_swings }
+{
     if arguments.only_swings {
         Columns::Swings
     } else if arguments.swings {
@@ -74,33 +83,6 @@ fn columns_of(arguments: &Arguments<'_>) -> Columns {
     } else {
         Columns::Minimal
     }
-}
-
-/// Writes the report of a game, as the arguments ask.
-fn report<R: AllocGlobal + Threads + Wait + Sync, G: Gate + Sync, W: Sink>(
-    rt: &R,
-    arguments: &Arguments<'_>,
-    columns: Columns,
-    game: &Game,
-    gate: &G,
-    writer: &mut W,
-) -> Result<u64, RunFault>
-    ensures { IsOutcome (report_of columns (lines_of_plan arguments.now.plan arguments.now.options))
-        (limit_with columns arguments.now.plan arguments.now.options.most (is_too_many result))
-        (λ answer. answer ≡ Ok game.now)
-        (λ text. Writes W.held W.is_write W.is_flush text writer.old writer.new)
-        (writer.new ≡ writer.old) result }
-{
-    report_game(
-        rt,
-        rt.alloc(),
-        game,
-        &arguments.options,
-        gate,
-        writer,
-        arguments.plan,
-        columns,
-    )
 }
 
 /// Returns how many slices there are, unless the game has very few members.
@@ -112,16 +94,32 @@ fn slices_of(arguments: &Arguments<'_>) -> u16 {
     }
 }
 
-/// Reports on a game to standard output, and shows the progress on a terminal.
-fn print_report<R: AllocGlobal + Print + Eprint + Clock + Threads + Wait + Sync>(
+/// Writes the report of a game, as the arguments ask, and shows the progress on a terminal.
+fn write_report<R: AllocGlobal + Eprint + Clock + Threads + Wait + Sync, W: Sink>(
     rt: &R,
     arguments: &Arguments<'_>,
     is_terminal: bool,
     game: &Game,
-) -> Result<u64, RunFault> {
+    writer: &mut W,
+) -> Result<u64, RunFault>
+    ensures { let columns = columns_of arguments.now.swings arguments.now.only_swings in
+        IsOutcome (report_of columns (lines_of_plan arguments.now.plan arguments.now.options))
+        (limit_with columns arguments.now.plan arguments.now.options.most (is_too_many result))
+        (λ answer. answer ≡ Ok game.now)
+        (λ text. Writes W.held W.is_write W.is_flush text writer.old writer.new)
+        (writer.new ≡ writer.old) result }
+{
     let progress = Progress::new(rt, is_terminal, slices_of(arguments));
-    let columns = columns_of(arguments);
-    let outcome = report(rt, arguments, columns, game, &progress, &mut io::writer(rt));
+    let outcome = report_game(
+        rt,
+        rt.alloc(),
+        game,
+        &arguments.options,
+        &progress,
+        writer,
+        arguments.plan,
+        columns_of(arguments),
+    );
     progress.wipe();
     outcome
 }
@@ -133,7 +131,9 @@ fn refuse_game(
     is_terminal: bool,
     fault: RunFault,
     game: &Game,
-) -> ExitCode {
+) -> ExitCode
+    ensures { exit_status result ≡ status_of fault.cause }
+{
     say(rt, fault.cause);
     if arguments.explain
         && fault.is_too_many()
@@ -148,24 +148,30 @@ fn refuse_game(
 ///
 /// On a terminal it remarks on what may not be meant: in names first, and in numbers after the
 /// report.
-fn report_on<R: AllocGlobal + Print + Eprint + Clock + Threads + Wait + Sync>(
+fn report_on<R: AllocGlobal + Eprint + Clock + Threads + Wait + Sync, W: Sink>(
     rt: &R,
     arguments: &Arguments<'_>,
     is_terminal: bool,
     game: &Game,
     bytes: &[u8],
-) -> ExitCode {
+    writer: &mut W,
+) -> ExitCode
+    ensures { Ends (columns_of arguments.now.swings arguments.now.only_swings) arguments.now.plan arguments.now.options
+        (λ answer. answer ≡ Ok game.now)
+        (λ text. Writes W.held W.is_write W.is_flush text writer.old writer.new)
+        (writer.new ≡ writer.old) result }
+{
     if is_terminal {
         remark_on_names(rt, game);
     }
-    if let Err(fault) = print_report(rt, arguments, is_terminal, game) {
+    if let Err(fault) = write_report(rt, arguments, is_terminal, game, writer) {
         return refuse_game(rt, arguments, is_terminal, fault, game);
     }
     if is_terminal {
         remark(rt, remark_on_thousands(bytes));
         remark(rt, remark_on_quotas(game));
     }
-    ExitCode::SUCCESS
+    ExitCode::from(0)
 }
 
 /// Says why a file has no game, and returns the status; the bytes are those that were read.
@@ -175,7 +181,9 @@ fn refuse_file(
     is_terminal: bool,
     fault: GameFault,
     bytes: &[u8],
-) -> ExitCode {
+) -> ExitCode
+    ensures { exit_status result ≡ status_of (cause.Game fault) }
+{
     say(rt, fault);
     let status = advise(rt, arguments, is_terminal, RunFault::from(fault));
     if arguments.explain
@@ -186,40 +194,51 @@ fn refuse_file(
     status
 }
 
-/// Reads the bytes of the file, or of standard input if none is named.
-fn read_file<R: AllocGlobal + Files + Input>(
-    rt: &R,
-    file: Option<&str>,
-) -> io::Result<Result<Vec<u8>, GameFault>> {
-    match file {
-        Some(path) => Ok(read_bytes(rt.alloc(), &mut fs::open(rt, path)?)),
-        None => Ok(read_bytes(rt.alloc(), &mut rt.reader())),
-    }
-}
-
-/// Reports on the game of these bytes, and returns the status.
-fn run_on<R: AllocGlobal + Print + Eprint + Clock + Threads + Wait + Sync>(
+/// Reads a game, writes its report, and returns the status.
+///
+/// It cannot print: whatever the reader and the writer are, the contract says which calls they got.
+fn run_on<R: AllocGlobal + Eprint + Clock + Threads + Wait + Sync, I: Source, W: Sink>(
     rt: &R,
     arguments: &Arguments<'_>,
     is_terminal: bool,
-    bytes: &[u8],
-) -> ExitCode {
-    match parse_game(rt.alloc(), bytes) {
-        Ok(game) => report_on(rt, arguments, is_terminal, &game, bytes),
-        Err(fault) => refuse_file(rt, arguments, is_terminal, fault, bytes),
+    reader: &mut I,
+    writer: &mut W,
+) -> ExitCode
+    ensures { Ends (columns_of arguments.now.swings arguments.now.only_swings) arguments.now.plan arguments.now.options
+        (Reads I.left I.is_read reader.old reader.new)
+        (λ text. Writes W.held W.is_write W.is_flush text writer.old writer.new)
+        (writer.new ≡ writer.old) result }
+{
+    let bytes = match read_bytes(rt.alloc(), reader) {
+        Ok(bytes) => bytes,
+        Err(fault) => return refuse_file(rt, arguments, is_terminal, fault, &[]),
+    };
+    match parse_game(rt.alloc(), &bytes) {
+        Ok(game) => report_on(rt, arguments, is_terminal, &game, &bytes, writer),
+        Err(fault) => refuse_file(rt, arguments, is_terminal, fault, &bytes),
     }
 }
 
 /// Runs on the file that the arguments name, or on standard input.
-fn run_on_file<R: AllocGlobal + Files + Input + Print + Eprint + Clock + Threads + Wait + Sync>(
+///
+/// The writer gets one report or nothing, and the status fits what it got.
+fn run_on_file<R: AllocGlobal + Files + Input + Eprint + Clock + Threads + Wait + Sync, W: Sink>(
     rt: &R,
     arguments: &Arguments<'_>,
     is_terminal: bool,
-) -> ExitCode {
-    match read_file(rt, arguments.file) {
-        Ok(Ok(bytes)) => run_on(rt, arguments, is_terminal, &bytes),
-        Ok(Err(fault)) => refuse_file(rt, arguments, is_terminal, fault, &[]),
-        Err(error) => report_unopened(rt, arguments, is_terminal, error),
+    writer: &mut W,
+) -> ExitCode
+    ensures { (exit_status result ≡ 1) × (writer.new ≡ writer.old)
+        ⊎ Ends (columns_of arguments.now.swings arguments.now.only_swings) arguments.now.plan arguments.now.options
+        (λ _. ⊤) (λ text. Writes W.held W.is_write W.is_flush text writer.old writer.new)
+        (writer.new ≡ writer.old) result }
+{
+    match arguments.file {
+        None => run_on(rt, arguments, is_terminal, &mut rt.reader(), writer),
+        Some(path) => match fs::open(rt, path) {
+            Ok(mut file) => run_on(rt, arguments, is_terminal, &mut file, writer),
+            Err(error) => report_unopened(rt, arguments, is_terminal, error),
+        },
     }
 }
 
@@ -238,7 +257,7 @@ fn run<R: AllocGlobal + Files + Input + Print + Eprint + Clock + Threads + Wait 
             if is_typed && arguments.file.is_none() {
                 say(rt, "a game is read from standard input, up to its end");
             }
-            run_on_file(rt, &arguments, is_terminal)
+            run_on_file(rt, &arguments, is_terminal, &mut io::writer(rt))
         }
         Err(status) => status,
     }

@@ -1,4 +1,7 @@
 //! What the program says on standard error, beside its progress.
+ghost use Rattle.std.specs.Prelude.{◌≡◌};
+ghost use Rattle.std.specs.Process.{exit_status};
+
 use crate::words::Arguments;
 use council_game::sanitize;
 use std::fmt::Display;
@@ -26,7 +29,9 @@ pub fn report_unopened(
     arguments: &Arguments<'_>,
     is_terminal: bool,
     error: io::Error,
-) -> ExitCode {
+) -> ExitCode
+    ensures { exit_status result ≡ 1 }
+{
     say(rt, "the game file cannot be opened");
     if arguments.explain {
         let path = sanitize(arguments.file.unwrap_or(""), LONGEST_PATH);
