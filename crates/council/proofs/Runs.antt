@@ -1,5 +1,5 @@
 -- How a run of the program ends.
-use Rattle.std.proofs.Common.{◌≡◌, ◌≢◌, ℕ, List, Bool, Option, Result, Ok, Err, [], refl, subst, sym, inr}
+use Rattle.std.proofs.Common.{◌≡◌, ◌≢◌, ℕ, List, Option, Result, Ok, Err, [], refl, inr}
 use Rattle.std.specs.Process.{exit_status}
 use Rattle.std.specs.declared.process.ExitCode.{ExitCode}
 use Rattle.council_file.specs.File.{game_of}
@@ -16,7 +16,6 @@ use Rattle.council_run.specs.Status.{status_of}
 use Rattle.council_run.specs.declared.columns.Columns.{Columns}
 use Rattle.council_run.specs.declared.fault.Cause.{Cause}
 use Rattle.council_run.specs.declared.fault.Cause.TheVariants as cause
-use Rattle.council_run.specs.declared.fault.RunFault.{RunFault}
 use Rattle.mwc_gather.specs.declared.fault.GatherFault.TheVariants as gather
 use Rattle.std.specs.declared.io.Error.{Error}
 use Rattle.council.specs.Program.{Ends}
