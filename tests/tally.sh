@@ -204,7 +204,7 @@ bracket() {
 random 40 1000000000000
 bracket $((total / 2 + 1))
 counted "40 random weights up to 10^12" "$temp/half.txt" 4373613453 2195520996 1959310211
-# ---- swings: the figures of another program, which adds up the subsets of two halves of the members
+# ---- swings: the figures of another program, which adds up the subsets of two halves of the game
 name="swings of 40 random weights up to 10^12, by some million states"
 run --only-swings "$temp/half.txt"
 if succeeded "$name"; then

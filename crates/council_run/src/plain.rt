@@ -26,7 +26,7 @@ fn list_winning(alloc: Global, game: &Game) -> Result<Vec<Coalition>, Memory>
 
 /// Counts the swings of a game of at most 20 members.
 ///
-/// This fallback never runs: such a game has fewer than `MOST_STATES` states, but no clause says so.
+/// This never runs: such a game has fewer than `MOST_STATES` states, though no clause says so.
 pub(crate) fn plain_swings(alloc: Global, game: &Game) -> Result<Swings, Memory>
     requires { length game.now.names ≤ PLAIN_MEMBERS }
     ensures { IfOk result (AreWinningCounts game.now) }
