@@ -41,7 +41,7 @@ FURTHER = [
         ("mwc_pipe", "ring_out", "RingOut", "end"),
         ("mwc_pipe", "rest", "Rest", "next"),
     ]),
-    ("The program", 81, [("council", "main", None, "run_on")]),
+    ("The program", 84, [("council", "main", None, "end_on")]),
     ("The calls from C", 233, [("council_c", "call", None, None)]),
 ]
 # in reading order: the first pattern that fits a module
@@ -61,7 +61,7 @@ The [headline](PROOF.md#the-headline) is the contract of four calls: `replay` of
 clauses of these calls, the three laws of `mwc_pipe` that sum up `replay`, and the definitions
 below: those that the clauses name, and those that these name in turn, in reading order. For these
 calls that is all. The last sections list what further contracts add, each beyond those before it:
-of the program, `run_on` of `council`, and of the calls from C. The rest of `crates/*/specs` serves
+of the program, `end_on` of `council`, and of the calls from C. The rest of `crates/*/specs` serves
 other contracts or the proofs.
 
 One sentence of the headline needs more, because no clause of the four calls says it: each worker's

@@ -26,10 +26,14 @@ abbrev pub status_after : Result ℕ RunFault → ℕ
 status_after (Ok len) = 0
 status_after (Err fault) = status_of fault.cause
 
--- There was one run, with the outcome that the columns, the plan and the options ask for; the
--- status is that of its outcome.
+-- the outcome of a run that shows these columns, by this plan and these options
+abbrev pub IsOutcomeOf : Columns → Plan → Options → (Result GameView GameFault → Type 0) → (List ℕ → Result ℕ ReportFault → Type 0)
+    → Type 0 → Result ℕ RunFault → Type 0
+IsOutcomeOf columns plan o Read Write Kept outcome =
+    IsOutcome (report_of columns (lines_of_plan plan o)) (limit_with columns plan o.most (is_too_many outcome)) Read Write Kept outcome
+
+-- the status is that of such an outcome
 abbrev pub Ends : Columns → Plan → Options → (Result GameView GameFault → Type 0) → (List ℕ → Result ℕ ReportFault → Type 0)
     → Type 0 → ExitCode → Type 0
-Ends columns plan o Read Write Kept status = (outcome : Result ℕ RunFault)
-    × IsOutcome (report_of columns (lines_of_plan plan o)) (limit_with columns plan o.most (is_too_many outcome)) Read Write Kept outcome
-    × (exit_status status ≡ status_after outcome)
+Ends columns plan o Read Write Kept status =
+    (outcome : Result ℕ RunFault) × IsOutcomeOf columns plan o Read Write Kept outcome × (exit_status status ≡ status_after outcome)

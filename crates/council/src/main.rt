@@ -2,16 +2,11 @@
 //! indices that rest on them.
 #![tactic(auto)]
 
-ghost use Rattle.std.specs.Prelude.{◌≡◌, ◌⊎◌, Ok, ⊤};
+ghost use Rattle.std.specs.Prelude.{◌≡◌, ◌⊎◌, Err, MatchResult, Ok, ⊤};
 ghost use Rattle.std.specs.Process.{exit_status};
-ghost use Rattle.council.specs.Program.{Ends, columns_of};
+ghost use Rattle.council.specs.Program.{Ends, IsOutcomeOf, columns_of};
 ghost use Rattle.council_file.specs.Reads.{Reads};
 ghost use Rattle.council_report.specs.Outcome.{Writes};
-ghost use Rattle.council_run.specs.Columns.{limit_with, report_of};
-ghost use Rattle.council_run.specs.Run.{IsOutcome};
-ghost use Rattle.council_run.specs.Plans.{is_too_many, lines_of_plan};
-ghost use Rattle.council_run.specs.Status.{status_of};
-ghost use Rattle.council_run.specs.declared.fault.Cause.TheVariants as cause;
 
 use council_explain::{explain, remark_on_names, remark_on_quotas, remark_on_thousands};
 use council_file::{parse_game, read_bytes};
@@ -22,6 +17,7 @@ use council_words::{
 };
 use mwc_gather::GatherFault;
 use mwc_walk::slice_count;
+use std::alloc::Global;
 use std::io::IsTerminal;
 use std::process::ExitCode;
 use std::rt::Files;
@@ -48,21 +44,13 @@ fn advice(cause: Cause, is_explained: bool) -> Option<&'static str> {
     }
 }
 
-/// Says with `--explain` or on a terminal what helps against a fault, and returns the status.
-fn advise(
-    rt: &impl Eprint,
-    arguments: &Arguments<'_>,
-    is_terminal: bool,
-    fault: RunFault,
-) -> ExitCode
-    ensures { exit_status result ≡ status_of fault.cause }
-{
+/// Says with `--explain` or on a terminal what helps against a fault.
+fn advise(rt: &impl Eprint, arguments: &Arguments<'_>, is_terminal: bool, cause: Cause) {
     if (arguments.explain || is_terminal)
-        && let Some(line) = advice(fault.cause, arguments.explain)
+        && let Some(line) = advice(cause, arguments.explain)
     {
         say_more(rt, line);
     }
-    ExitCode::from(status(&fault))
 }
 
 /// Prints a line on standard error, if there is one.
@@ -102,10 +90,8 @@ fn write_report<R: AllocGlobal + Eprint + Clock + Threads + Wait + Sync, W: Sink
     game: &Game,
     writer: &mut W,
 ) -> Result<u64, RunFault>
-    ensures { let columns = columns_of arguments.now.swings arguments.now.only_swings in
-        IsOutcome (report_of columns (lines_of_plan arguments.now.plan arguments.now.options))
-        (limit_with columns arguments.now.plan arguments.now.options.most (is_too_many result))
-        (λ answer. answer ≡ Ok game.now)
+    ensures { IsOutcomeOf (columns_of arguments.now.swings arguments.now.only_swings) arguments.now.plan
+        arguments.now.options (λ answer. answer ≡ Ok game.now)
         (λ text. Writes W.held W.is_write W.is_flush text writer.old writer.new)
         (writer.new ≡ writer.old) result }
 {
@@ -124,16 +110,14 @@ fn write_report<R: AllocGlobal + Eprint + Clock + Threads + Wait + Sync, W: Sink
     outcome
 }
 
-/// Says why a game has no report, and returns the status.
+/// Says why a game has no report.
 fn refuse_game(
     rt: &(impl Eprint + AllocGlobal),
     arguments: &Arguments<'_>,
     is_terminal: bool,
     fault: RunFault,
     game: &Game,
-) -> ExitCode
-    ensures { exit_status result ≡ status_of fault.cause }
-{
+) {
     say(rt, fault.cause);
     if arguments.explain
         && fault.is_too_many()
@@ -141,10 +125,10 @@ fn refuse_game(
     {
         say_more(rt, format_args!("there are {number} of them"));
     }
-    advise(rt, arguments, is_terminal, fault)
+    advise(rt, arguments, is_terminal, fault.cause);
 }
 
-/// Reports on a game, whose file has these bytes, and returns the status.
+/// Reports on a game, whose file has these bytes.
 ///
 /// On a terminal it remarks on what may not be meant: in names first, and in numbers after the
 /// report.
@@ -155,46 +139,62 @@ fn report_on<R: AllocGlobal + Eprint + Clock + Threads + Wait + Sync, W: Sink>(
     game: &Game,
     bytes: &[u8],
     writer: &mut W,
-) -> ExitCode
-    ensures { Ends (columns_of arguments.now.swings arguments.now.only_swings) arguments.now.plan arguments.now.options
-        (λ answer. answer ≡ Ok game.now)
+) -> Result<u64, RunFault>
+    ensures { IsOutcomeOf (columns_of arguments.now.swings arguments.now.only_swings) arguments.now.plan
+        arguments.now.options (λ answer. answer ≡ Ok game.now)
         (λ text. Writes W.held W.is_write W.is_flush text writer.old writer.new)
         (writer.new ≡ writer.old) result }
 {
     if is_terminal {
         remark_on_names(rt, game);
     }
-    if let Err(fault) = write_report(rt, arguments, is_terminal, game, writer) {
-        return refuse_game(rt, arguments, is_terminal, fault, game);
-    }
-    if is_terminal {
+    let outcome = write_report(rt, arguments, is_terminal, game, writer);
+    if let Err(fault) = outcome {
+        refuse_game(rt, arguments, is_terminal, fault, game);
+    } else if is_terminal {
         remark(rt, remark_on_thousands(bytes));
         remark(rt, remark_on_quotas(game));
     }
-    ExitCode::from(0)
+    outcome
 }
 
-/// Says why a file has no game, and returns the status; the bytes are those that were read.
+/// Says why a file has no game; the bytes are those that were read.
 fn refuse_file(
     rt: &(impl Eprint + AllocGlobal),
     arguments: &Arguments<'_>,
     is_terminal: bool,
     fault: GameFault,
     bytes: &[u8],
-) -> ExitCode
-    ensures { exit_status result ≡ status_of (cause.Game fault) }
-{
+) {
     say(rt, fault);
-    let status = advise(rt, arguments, is_terminal, RunFault::from(fault));
+    advise(rt, arguments, is_terminal, Cause::Game(fault));
     if arguments.explain
         && let Ok(lines) = explain(rt.alloc(), bytes, fault)
     {
         let _ = eprint!(rt; "{lines}");
     }
-    status
 }
 
-/// Reads a game, writes its report, and returns the status.
+/// Reads a game, and keeps its bytes.
+fn read_game<I: Source>(
+    alloc: Global,
+    reader: &mut I,
+    bytes: &mut Vec<u8>,
+) -> Result<Game, GameFault>
+    ensures { MatchResult result
+        (λ game. Reads I.left I.is_read reader.old reader.new (Ok game))
+        (λ fault. Reads I.left I.is_read reader.old reader.new (Err fault)) }
+{
+    match read_bytes(alloc, reader) {
+        Ok(read) => {
+            *bytes = read;
+            parse_game(alloc, bytes)
+        }
+        Err(fault) => Err(fault),
+    }
+}
+
+/// Reads a game and writes its report.
 ///
 /// It cannot print: whatever the reader and the writer are, the contract says which calls they got.
 fn run_on<R: AllocGlobal + Eprint + Clock + Threads + Wait + Sync, I: Source, W: Sink>(
@@ -203,25 +203,44 @@ fn run_on<R: AllocGlobal + Eprint + Clock + Threads + Wait + Sync, I: Source, W:
     is_terminal: bool,
     reader: &mut I,
     writer: &mut W,
-) -> ExitCode
-    ensures { Ends (columns_of arguments.now.swings arguments.now.only_swings) arguments.now.plan arguments.now.options
-        (Reads I.left I.is_read reader.old reader.new)
+) -> Result<u64, RunFault>
+    ensures { IsOutcomeOf (columns_of arguments.now.swings arguments.now.only_swings) arguments.now.plan
+        arguments.now.options (Reads I.left I.is_read reader.old reader.new)
         (λ text. Writes W.held W.is_write W.is_flush text writer.old writer.new)
         (writer.new ≡ writer.old) result }
 {
-    let bytes = match read_bytes(rt.alloc(), reader) {
-        Ok(bytes) => bytes,
-        Err(fault) => return refuse_file(rt, arguments, is_terminal, fault, &[]),
-    };
-    match parse_game(rt.alloc(), &bytes) {
+    let mut bytes = Vec::new(rt.alloc());
+    match read_game(rt.alloc(), reader, &mut bytes) {
         Ok(game) => report_on(rt, arguments, is_terminal, &game, &bytes, writer),
-        Err(fault) => refuse_file(rt, arguments, is_terminal, fault, &bytes),
+        Err(fault) => {
+            refuse_file(rt, arguments, is_terminal, fault, &bytes);
+            Err(RunFault::from(fault))
+        }
     }
 }
 
-/// Runs on the file that the arguments name, or on standard input.
+/// Runs on a reader and a writer, and returns the status.
+fn end_on<R: AllocGlobal + Eprint + Clock + Threads + Wait + Sync, I: Source, W: Sink>(
+    rt: &R,
+    arguments: &Arguments<'_>,
+    is_terminal: bool,
+    reader: &mut I,
+    writer: &mut W,
+) -> ExitCode
+    ensures { Ends (columns_of arguments.now.swings arguments.now.only_swings) arguments.now.plan
+        arguments.now.options (Reads I.left I.is_read reader.old reader.new)
+        (λ text. Writes W.held W.is_write W.is_flush text writer.old writer.new)
+        (writer.new ≡ writer.old) result }
+{
+    match run_on(rt, arguments, is_terminal, reader, writer) {
+        Ok(_) => ExitCode::from(0),
+        Err(fault) => ExitCode::from(status(&fault)),
+    }
+}
+
+/// Runs on the file that the arguments name, or on standard input, and returns the status.
 ///
-/// The writer gets one report or nothing, and the status fits what it got.
+/// The writer gets one report or nothing.
 fn run_on_file<R: AllocGlobal + Files + Input + Eprint + Clock + Threads + Wait + Sync, W: Sink>(
     rt: &R,
     arguments: &Arguments<'_>,
@@ -229,14 +248,15 @@ fn run_on_file<R: AllocGlobal + Files + Input + Eprint + Clock + Threads + Wait 
     writer: &mut W,
 ) -> ExitCode
     ensures { (exit_status result ≡ 1) × (writer.new ≡ writer.old)
-        ⊎ Ends (columns_of arguments.now.swings arguments.now.only_swings) arguments.now.plan arguments.now.options
-        (λ _. ⊤) (λ text. Writes W.held W.is_write W.is_flush text writer.old writer.new)
+        ⊎ Ends (columns_of arguments.now.swings arguments.now.only_swings) arguments.now.plan
+        arguments.now.options (λ _. ⊤)
+        (λ text. Writes W.held W.is_write W.is_flush text writer.old writer.new)
         (writer.new ≡ writer.old) result }
 {
     match arguments.file {
-        None => run_on(rt, arguments, is_terminal, &mut rt.reader(), writer),
+        None => end_on(rt, arguments, is_terminal, &mut rt.reader(), writer),
         Some(path) => match fs::open(rt, path) {
-            Ok(mut file) => run_on(rt, arguments, is_terminal, &mut file, writer),
+            Ok(mut file) => end_on(rt, arguments, is_terminal, &mut file, writer),
             Err(error) => report_unopened(rt, arguments, is_terminal, error),
         },
     }
