@@ -235,24 +235,16 @@ fn a_worker_whose_ring_is_full_sleeps_until_words_are_taken(rt: HostRuntime) {
 fn each_worker_is_woken_by_its_own_waker(rt: HostRuntime) {
     let alloc = rt.alloc();
     let game = equal_game(&rt, alloc, 2, 1);
-    let job = Job {
-        guarded: Guarded::new(&game, &NoGate),
-        bits: 1,
-        most: 2,
-    };
-    let wakers = Wakers::new();
-    // what the gatherer wakes here nobody else does
-    let others = Wakers::new();
+    let job = Job { guarded: Guarded::new(&game, &NoGate), bits: 1, most: 2 };
+    // what the gatherer wakes by the others nobody else does
+    let (wakers, others) = (Wakers::new(), Wakers::new());
     let workers = &others.workers[..2];
     let rt = &rt;
     thread::scope(thread::scope_env(), rt, |scope| {
         let first = WorkerHandle::open(scope, rt, alloc, &job, 0, &wakers).expect(rt, "a worker");
         let second = WorkerHandle::open(scope, rt, alloc, &job, 1, &wakers).expect(rt, "a worker");
         let mut handles = [first, second];
-        let mut scheduler = Scheduler {
-            marks: Marks::new(2),
-            stopped: false,
-        };
+        let mut scheduler = Scheduler { marks: Marks::new(2), stopped: false };
         let mut row = new_row(alloc).expect(rt, "a row");
         for is_read in [false, true] {
             for worker in workers {

@@ -90,8 +90,7 @@ fn write_report<R: AllocGlobal + Eprint + Clock + Threads + Wait + Sync, W: Sink
     game: &Game,
     writer: &mut W,
 ) -> Result<u64, RunFault>
-    ensures { IsOutcomeOf (columns_of arguments.now.swings arguments.now.only_swings) arguments.now.plan
-        arguments.now.options (λ answer. answer ≡ Ok game.now)
+    ensures { IsOutcomeOf arguments.now (λ answer. answer ≡ Ok game.now)
         (λ text. Writes W.held W.is_write W.is_flush text writer.old writer.new)
         (writer.new ≡ writer.old) result }
 {
@@ -140,8 +139,7 @@ fn report_on<R: AllocGlobal + Eprint + Clock + Threads + Wait + Sync, W: Sink>(
     bytes: &[u8],
     writer: &mut W,
 ) -> Result<u64, RunFault>
-    ensures { IsOutcomeOf (columns_of arguments.now.swings arguments.now.only_swings) arguments.now.plan
-        arguments.now.options (λ answer. answer ≡ Ok game.now)
+    ensures { IsOutcomeOf arguments.now (λ answer. answer ≡ Ok game.now)
         (λ text. Writes W.held W.is_write W.is_flush text writer.old writer.new)
         (writer.new ≡ writer.old) result }
 {
@@ -204,8 +202,7 @@ fn run_on<R: AllocGlobal + Eprint + Clock + Threads + Wait + Sync, I: Source, W:
     reader: &mut I,
     writer: &mut W,
 ) -> Result<u64, RunFault>
-    ensures { IsOutcomeOf (columns_of arguments.now.swings arguments.now.only_swings) arguments.now.plan
-        arguments.now.options (Reads I.left I.is_read reader.old reader.new)
+    ensures { IsOutcomeOf arguments.now (Reads I.left I.is_read reader.old reader.new)
         (λ text. Writes W.held W.is_write W.is_flush text writer.old writer.new)
         (writer.new ≡ writer.old) result }
 {
@@ -227,8 +224,7 @@ fn end_on<R: AllocGlobal + Eprint + Clock + Threads + Wait + Sync, I: Source, W:
     reader: &mut I,
     writer: &mut W,
 ) -> ExitCode
-    ensures { Ends (columns_of arguments.now.swings arguments.now.only_swings) arguments.now.plan
-        arguments.now.options (Reads I.left I.is_read reader.old reader.new)
+    ensures { Ends arguments.now (Reads I.left I.is_read reader.old reader.new)
         (λ text. Writes W.held W.is_write W.is_flush text writer.old writer.new)
         (writer.new ≡ writer.old) result }
 {
@@ -248,8 +244,7 @@ fn run_on_file<R: AllocGlobal + Files + Input + Eprint + Clock + Threads + Wait 
     writer: &mut W,
 ) -> ExitCode
     ensures { (exit_status result ≡ 1) × (writer.new ≡ writer.old)
-        ⊎ Ends (columns_of arguments.now.swings arguments.now.only_swings) arguments.now.plan
-        arguments.now.options (λ _. ⊤)
+        ⊎ Ends arguments.now (λ _. ⊤)
         (λ text. Writes W.held W.is_write W.is_flush text writer.old writer.new)
         (writer.new ≡ writer.old) result }
 {

@@ -9,6 +9,7 @@ use power_index::{Counts, Swings};
 use std::alloc::Global;
 
 /// Lists the winning coalitions of a game of at most 20 members.
+#[tactic(auto, using(crate::proofs::Filled::less))]
 fn list_winning(alloc: Global, game: &Game) -> Result<Vec<Coalition>, Memory>
     requires { length game.now.names ≤ PLAIN_MEMBERS }
     ensures { IfOk result (λ list. list.items ≡ winning_coalitions game.now) }

@@ -60,35 +60,11 @@ fn a_tally_has_its_threads_and_slices(rt: HostRuntime) {
     assert_same(&rt, found, (true, 65_535), "slices, workers");
 }
 
-/// Reports on a game of 12 members, and returns how many members were decided and slices passed.
-fn begun<R: Abort + Threads + Wait + Sync>(
-    rt: &R,
-    alloc: Global,
-    plan: Plan,
-    columns: Columns,
-) -> (u64, u64) {
-    let game = game_of_rules(rt, alloc, &[(7, &[1; 12])]);
-    let watch = Watch::new();
-    let mut written = Vec::new(alloc);
-    let options = options(2, 1);
-    let answer = report_game(
-        rt,
-        alloc,
-        &game,
-        &options,
-        &watch,
-        &mut written,
-        plan,
-        columns,
-    );
-    assert!(rt; answer.is_ok());
-    (watch.decided(), watch.passes())
-}
-
 /// A count by states decides each of 12 members once; a list has two slices.
 #[test]
 fn only_what_is_shown_is_begun(rt: HostRuntime) {
-    let alloc = rt.alloc();
+    let (alloc, options) = (rt.alloc(), options(2, 1));
+    let game = game_of_rules(&rt, alloc, &[(7, &[1; 12])]);
     for (plan, columns, wanted) in [
         (Plan::List, Columns::Minimal, (0, 2)),
         (Plan::Count, Columns::Minimal, (12, 0)),
@@ -96,7 +72,12 @@ fn only_what_is_shown_is_begun(rt: HostRuntime) {
         (Plan::Count, Columns::Both, (24, 0)),
         (Plan::Either, Columns::Swings, (12, 0)),
     ] {
-        let found = begun(&rt, alloc, plan, columns);
+        let (watch, mut text) = (Watch::new(), Vec::new(alloc));
+        let answer = report_game(
+            &rt, alloc, &game, &options, &watch, &mut text, plan, columns,
+        );
+        assert!(rt; answer.is_ok());
+        let found = (watch.decided(), watch.passes());
         assert_same(&rt, found, wanted, "members, slices");
     }
 }
