@@ -1,10 +1,10 @@
 //! The plain form of the whole program, to measure the proved one against: Rust with only the
 //! standard library, one thread, and a `BufWriter` for the report.
 //!
-//! `report_baseline FILE [--most N]` reads a game as `[q; w1, .., wn]` or as a game file of the plain
-//! form that `examples/` has (a key and its value on a line), lists its minimal winning coalitions by
-//! a depth-first walk with bounds that leaves aside what has a member too many, and prints the report
-//! that `council` prints. It checks little: it is for games that are right.
+//! `report_baseline FILE [--most N]` reads a game as `[q; w1, .., wn]` or as a game file of the
+//! plain form that `examples/` has (a key and its value on a line), lists its minimal winning
+//! coalitions by a depth-first walk with bounds that leaves aside what has a member too many, and
+//! prints the report that `council` prints. It checks little: it is for games that are right.
 
 use std::env;
 use std::fs;
