@@ -1,11 +1,10 @@
 //! The plain form of the whole program, to measure the proved one against: Rust with only the
 //! standard library, one thread, and a `BufWriter` for the report.
 //!
-//! `report_baseline FILE [--most N] [--list]` reads a game as `[q; w1, .., wn]` or as a game file
-//! of the plain form that `examples/` has (a key and its value on a line), lists its minimal
-//! winning coalitions by a depth-first walk with bounds that leaves aside what has a member too
-//! many, and prints the report that `council` prints for these options. It checks little: it is for
-//! games that are right.
+//! `report_baseline FILE [--most N]` reads a game as `[q; w1, .., wn]` or as a game file of the
+//! plain form that `examples/` has (a key and its value on a line), lists its minimal winning
+//! coalitions by a depth-first walk with bounds that leaves aside what has a member too many, and
+//! prints the report that `council` prints. It checks little: it is for games that are right.
 
 use std::env;
 use std::fs;
@@ -246,31 +245,7 @@ fn fraction(top: u128, bottom: u128) -> String {
     )
 }
 
-fn write_coalition(game: &Game, mask: u64, out: &mut impl Write) -> io::Result<()> {
-    let members = game.names.len();
-    let inside = || {
-        (0..members)
-            .filter(|place| mask >> (members - 1 - place) & 1 == 1)
-            .map(|place| game.ranked[place])
-    };
-    write!(out, "coalition\t{}\t", mask.count_ones())?;
-    for (number, rule) in game.rules.iter().enumerate() {
-        let weight: u64 = inside().map(|member| rule.weights[member]).sum();
-        write!(out, "{}{weight}", if number == 0 { "" } else { "/" })?;
-    }
-    for member in inside() {
-        out.write_all(b"\t")?;
-        out.write_all(game.names[member].as_bytes())?;
-    }
-    out.write_all(b"\n")
-}
-
-fn write_report(
-    game: &Game,
-    list: &[u64],
-    with_list: bool,
-    out: &mut impl Write,
-) -> io::Result<()> {
+fn write_report(game: &Game, list: &[u64], out: &mut impl Write) -> io::Result<()> {
     let members = game.names.len();
     if let Some(title) = &game.title {
         writeln!(out, "title\t{title}")?;
@@ -288,11 +263,6 @@ fn write_report(
     )?;
     writeln!(out, "minimal\t{}", list.len())?;
     let counts = count(list, members);
-    if with_list {
-        for &mask in list {
-            write_coalition(game, mask, out)?;
-        }
-    }
     let seats: u32 = list.iter().map(|mask| mask.count_ones()).sum();
     for (member, name) in game.names.iter().enumerate() {
         let place = game.ranked.iter().position(|other| *other == member).unwrap_or(0);
@@ -314,20 +284,16 @@ fn write_report(
 fn main() -> ExitCode {
     let mut file = None;
     let mut most = 1_000_000;
-    let mut with_list = false;
     let mut words = env::args().skip(1);
     while let Some(word) = words.next() {
         match word.as_str() {
-            "--list" => with_list = true,
             "--most" => most = words.next().and_then(|word| word.parse().ok()).unwrap_or(0),
             _ => file = Some(word),
         }
     }
     let text = file.and_then(|file| fs::read_to_string(file).ok());
     let Some(game) = text.as_deref().and_then(Game::read) else {
-        eprintln!(
-            "usage: report_baseline FILE [--most N] [--list], where FILE is a game of a plain form"
-        );
+        eprintln!("usage: report_baseline FILE [--most N], where FILE is a game of a plain form");
         return ExitCode::from(2);
     };
     let mut walk = Walk::new(&game, most);
@@ -336,7 +302,7 @@ fn main() -> ExitCode {
         return ExitCode::from(4);
     }
     let mut out = BufWriter::with_capacity(1 << 16, io::stdout().lock());
-    match write_report(&game, &walk.found, with_list, &mut out) {
+    match write_report(&game, &walk.found, &mut out) {
         Ok(()) => ExitCode::SUCCESS,
         Err(_) => ExitCode::from(5),
     }

@@ -1,21 +1,19 @@
 #!/usr/bin/env bash
-# How long the proved program takes over a plain program of the same work, in two tables. The plain
-# one is bench/report_baseline.rs, and for tallies by sums bench/sums_baseline.rs, each Rust with
-# only the standard library in one thread. Each program is timed as a whole, from its start to its
-# end, with its report going to /dev/null.
+# How long the proved program takes over a plain program of the same work, bench/report_baseline.rs:
+# Rust with only the standard library, in one thread. Each is timed as a whole, from its start to
+# its end, and its report goes to /dev/null. It is no test: nothing fails if a run is slow.
 #
-# The first table: the least time of RUNS runs (11) of the plain program, in seconds, and that of
-# the proved one over it, with 1, 2 and 4 workers; the four take turns, and a slow spell of the
-# machine meets all of them. Then the greatest resident memory of the plain program in MiB, and the
-# proved one's over it. The second: the longest of ten runs, in seconds, beside as many busy loops
-# as there are processors. It is no test, and nothing fails at a slow run.
+# The first table is that of docs/ARCHITECTURE.md: the median of RUNS runs (11) of the plain program
+# in seconds, and that of the proved one over it, with 1 and 4 workers. They take turns, so a slow
+# spell of the machine meets all. The second has tallies, which are counted by states: how many
+# coalitions, the median in seconds, and the memory. The last has the longest of ten runs in
+# seconds, beside as many busy loops as there are processors.
 #
-# How well threads wait is in no contract, and no test tells it: a wake-up that is lost costs a
-# millisecond. It shows here. A bell that is never rung, or a turn that rings nobody, makes a ring
-# that is full or empty cost that millisecond each time: the list of 658,008 coalitions goes in some
-# 1,300 rows, and takes a second. Looks that are never renewed make each wait a sleep: 2 and
-# 4 workers gain little over 1. Looks that never become fewer hold processors that others want: the
-# last table, beside busy loops, rises.
+# No contract says how well threads wait. A lost wake-up costs a millisecond. If a waker is never
+# called, each ring that is full or empty costs one: then a list of 658,008 coalitions, which goes
+# in some 1,300 rows, takes a second. If a backoff is never renewed, each wait is a sleep, and 4
+# workers gain little over 1. If looks never become fewer, they hold processors that others want,
+# and the times of the last table rise.
 #
 # bench/run.sh [PROGRAM]   PROGRAM is crates/council/out/council if it is not given
 set -eu
@@ -73,11 +71,7 @@ memory() {
 }
 
 ratio() {
-    if [ "$1" = - ] || [ "$2" = - ]; then
-        echo -
-    else
-        awk -v over="$1" -v under="$2" 'BEGIN { printf "%.2f", over / under }'
-    fi
+    awk -v over="$1" -v under="$2" 'BEGIN { printf "%.2f", over / under }'
 }
 
 seconds() {
@@ -91,48 +85,36 @@ notation() {
     echo "[$quota; $(echo "$@" | sed 's/ /, /g')]"
 }
 
-# Whether the proved program knows --tally.
-tallies() {
-    "$council" --help | grep -q -- --tally
+# The median of these numbers.
+median() {
+    printf '%s\n' "$@" | sort -n | sed -n "$((($# + 1) / 2))p"
 }
 
-# row NAME FILE PLAIN_WORDS COUNCIL_WORDS: a line of the first table.
+# row NAME FILE: a line of the first table.
 row() {
-    local name=$1 file=$2 plain_words council_words run time workers plain_memory ratios=()
-    local -A least=()
-    read -ra plain_words <<<"$3"
-    read -ra council_words <<<"$4"
-    if ! cmp -s <("$temp/plain" "$file" "${plain_words[@]}") <("$council" "$file" "${council_words[@]}"); then
+    local name=$1 file=$2 run plain=() one=() four=()
+    if ! cmp -s <("$temp/plain" "$file" --most 4000000) <("$council" "$file" --most 4000000); then
         echo "$name: the two reports differ" >&2
         exit 1
     fi
-    # by no worker: the plain program
     for ((run = 0; run < runs; run++)); do
-        for workers in 0 1 2 4; do
-            if [ "$workers" -eq 0 ]; then
-                time=$(micros "$temp/plain" "$file" "${plain_words[@]}")
-            else
-                time=$(micros "$council" "$file" "${council_words[@]}" --workers "$workers")
-            fi
-            [ -n "${least[$workers]:-}" ] && [ "${least[$workers]}" -le "$time" ] || least[$workers]=$time
-        done
+        plain+=("$(micros "$temp/plain" "$file" --most 4000000)")
+        one+=("$(micros "$council" "$file" --most 4000000 --workers 1)")
+        four+=("$(micros "$council" "$file" --most 4000000 --workers 4)")
     done
-    for workers in 1 2 4; do
-        ratios+=("$(ratio "${least[$workers]}" "${least[0]}")")
-    done
-    plain_memory=$(memory "$temp/plain" "$file" "${plain_words[@]}")
-    printf '%-26s %-8s %8s %6s %6s %6s %8s %6s\n' "$name" "$5" "$(seconds "${least[0]}")" "${ratios[@]}" \
-        "$([ "$plain_memory" = - ] && echo - || awk -v kib="$plain_memory" 'BEGIN { printf "%.1f", kib / 1024 }')" \
-        "$(ratio "$(memory "$council" "$file" "${council_words[@]}" --workers 4)" "$plain_memory")"
+    plain=$(median "${plain[@]}")
+    printf '%-34s %7s %5s %5s\n' "$name" "$(seconds "$plain")" \
+        "$(ratio "$(median "${one[@]}")" "$plain")" "$(ratio "$(median "${four[@]}")" "$plain")"
 }
 
-# The lines of a game: without the list, with it, and by --tally.
-rows() {
-    row "$1" "$2" '--most 4000000' '--most 4000000' ''
-    row "$1" "$2" '--most 4000000 --list' '--most 4000000 --list' --list
-    if tallies; then
-        row "$1" "$2" '--most 4000000' --tally --tally
-    fi
+# tally NAME FILE: a line of the second table.
+tally() {
+    local name=$1 file=$2 run times=()
+    for ((run = 0; run < runs; run++)); do
+        times+=("$(micros "$council" --tally "$file")")
+    done
+    printf '%-26s %20s %8s %8s\n' "$name" "$("$council" --tally "$file" | awk '$1 == "minimal" { print $2 }')" \
+        "$(seconds "$(median "${times[@]}")")" "$(memory "$council" --tally "$file")"
 }
 
 mapfile -t ones < <(for ((i = 0; i < 40; i++)); do echo 1; done)
@@ -141,57 +123,23 @@ notation 5 "${ones[@]}" >"$temp/five.txt"
 notation 6 "${ones[@]}" >"$temp/six.txt"
 # a fifth of the total
 notation 4521 "${falling[@]}" >"$temp/falling.txt"
-printf '%-26s %-8s %8s %6s %6s %6s %8s %6s\n' game words 'plain s' 'by 1' 'by 2' 'by 4' MiB 'by 4'
-rows '27 members' examples/eu-27-nice-votes.toml
-rows '40 equal, quota 5' "$temp/five.txt"
-rows '40 equal, quota 6' "$temp/six.txt"
-rows '30 members, a fifth' "$temp/falling.txt"
-rows '27 members, three rules' examples/eu-27-nice.toml
-mapfile -t directors < <(repeat 39 '1, 0')
-rules_file '2, 1' '0, 1' "${directors[@]}" >"$temp/chair.toml"
-mapfile -t houses < <(repeat 20 '1, 0' && repeat 20 '0, 1')
-rules_file '2, 2' "${houses[@]}" >"$temp/houses.toml"
 mapfile -t seats < <(repeat 1 '1, 0, 0' && repeat 9 '0, 1, 0' && repeat 17 '0, 0, 1')
 rules_file '1, 5, 9' "${seats[@]}" >"$temp/president.toml"
-random_file 1 2 >"$temp/random-2.toml"
-random_file 5 3 >"$temp/random-3.toml"
-random_file 6 4 >"$temp/random-4.toml"
-rows 'chair and 39' "$temp/chair.toml"
-rows 'two houses of 20' "$temp/houses.toml"
-rows 'president, two houses' "$temp/president.toml"
-rows '26 random, two rules' "$temp/random-2.toml"
-rows '26 random, three rules' "$temp/random-3.toml"
-rows '26 random, four rules' "$temp/random-4.toml"
+printf '%-34s %7s %5s %5s\n' game plain 1 4
+row '27 members' examples/eu-27-nice-votes.toml
+row '40 equal, quota 5' "$temp/five.txt"
+row '40 equal, quota 6' "$temp/six.txt"
+row '30 members, a fifth' "$temp/falling.txt"
+row '27 members, three rules' examples/eu-27-nice.toml
+row 'president, two houses' "$temp/president.toml"
 
-# Games of one rule, and of weights and heads, are counted by sums, and those of many weights that
-# have nothing in common by halves: their time does not follow the number of coalitions. The plain
-# program counts all of them by sums.
 echo
-echo "tallies by sums: the least of $runs runs, in seconds, and memory"
-printf '%-26s %20s %8s %8s %6s %8s\n' game coalitions 'plain s' seconds over KiB
-rustc -O -o "$temp/sums" bench/sums_baseline.rs
-least_of() {
-    local run time least=
-    for ((run = 0; run < runs; run++)); do
-        time=$(micros "$@")
-        if [ -z "$least" ] || [ "$time" -lt "$least" ]; then least=$time; fi
-    done
-    echo "$least"
-}
-sums() {
-    local name=$1 file=$2 least plain
-    "$council" --tally --notation "$file" >"$temp/report"
-    grep '^notation' "$temp/report" >"$temp/notation"
-    least=$(least_of "$council" --tally "$file")
-    plain=$(least_of "$temp/sums" "$temp/notation")
-    printf '%-26s %20s %8s %8s %6s %8s\n' "$name" "$(awk '$1 == "minimal" { print $2 }' "$temp/report")" \
-        "$(seconds "$plain")" "$(seconds "$least")" "$(ratio "$least" "$plain")" "$(memory "$council" --tally "$file")"
-}
+printf '%-26s %20s %8s %8s\n' tally coalitions seconds KiB
 notation 20 "${ones[@]}" >"$temp/twenty.txt"
-sums '40 equal, quota 20' "$temp/twenty.txt"
-sums '27 members' examples/eu-27-nice-votes.toml
-sums '27 members, Lisbon' examples/eu-27-lisbon.toml
-sums '36 members, Lisbon' examples/eu-36-lisbon.toml
+tally '40 equal, quota 20' "$temp/twenty.txt"
+tally '27 members' examples/eu-27-nice-votes.toml
+tally '27 members, Lisbon' examples/eu-27-lisbon.toml
+tally '36 members, Lisbon' examples/eu-36-lisbon.toml
 for most in 100 1000 10000 60000; do
     x=7
     total=0
@@ -202,7 +150,7 @@ for most in 100 1000 10000 60000; do
         total=$((total + x % most + 1))
     done
     notation $((total / 2 + 1)) "${weights[@]}" >"$temp/random-$most.txt"
-    sums "40 random up to $most" "$temp/random-$most.txt"
+    tally "40 random up to $most" "$temp/random-$most.txt"
 done
 
 echo
@@ -212,9 +160,9 @@ for ((i = 0; i < processors; i++)); do
     busy+=($!)
 done
 echo "beside $processors busy loops, the longest of ten runs in seconds"
-printf '%-26s %8s %8s %8s %8s\n' game plain 'by 1' 'by 2' 'by 4'
+printf '%-26s %8s %8s %8s\n' game plain 1 4
 longest=("$(seconds "$(longest 10 "$temp/plain" examples/eu-27-nice-votes.toml)")")
-for workers in 1 2 4; do
+for workers in 1 4; do
     longest+=("$(seconds "$(longest 10 "$council" examples/eu-27-nice-votes.toml --workers "$workers")")")
 done
-printf '%-26s %8s %8s %8s %8s\n' '27 members' "${longest[@]}"
+printf '%-26s %8s %8s %8s\n' '27 members' "${longest[@]}"

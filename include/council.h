@@ -36,8 +36,8 @@ enum council_status {
 	COUNCIL_GAME = 3,      /* the bytes or arrays hold no game: you get the first fault */
 	COUNCIL_TOO_MANY = 4,  /* there are more minimal winning coalitions than most, or than there is room for */
 	COUNCIL_MEMORY = 5,    /* memory was refused */
-	COUNCIL_STATES = 6,    /* the swings take too many states */
-	COUNCIL_TOO_LONG = 7   /* the walk made as many visits as it may; only of council_indices */
+	COUNCIL_STATES = 6,    /* the swings of more than 20 members take too many states */
+	COUNCIL_TOO_LONG = 7   /* of more than 20 members: the walk made as many visits as it may; only of council_indices */
 };
 
 /*

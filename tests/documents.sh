@@ -138,11 +138,11 @@ if needs python3 "tools/reference.py has every public item"; then
 fi
 
 # ---- docs/FORMATS.md has each text that the program prints
-sed -n 's/.*GameFault::.* => .*"\(.*\)".*/\1/p' "$top"/crates/council_game/src/fault.rt >"$temp/texts"
+sed -n 's/", member, "/{member}/; s/.*GameFault::.* => .*_text("\(.*\)").*/\1/p' "$top"/crates/council_game/src/fault.rt >"$temp/texts"
 [ "$(wc -l <"$temp/texts")" = "$(grep -cE '^            GameFault::.* => [0-9]+,$' "$top"/crates/council_game/src/fault.rt)" ] ||
     failed "each fault of a game has a text" "they were not found in crates/council_game/src/fault.rt"
-sed -n 's/.*#\[error("\(.*\)")\].*/\1/p' "$top"/crates/mwc_gather/src/fault.rt "$top"/crates/council_run/src/fault.rt \
-    "$top"/crates/mwc_tally/src/*.rt | grep -v '^{0}$' >>"$temp/texts"
+sed -n 's/.* => short_text("\(.*\)").*/\1/p' "$top"/crates/mwc_gather/src/fault.rt "$top"/crates/council_run/src/fault.rt >>"$temp/texts"
+sed -n 's/.*#\[error("\(.*\)")\].*/\1/p' "$top"/crates/mwc_tally/src/*.rt >>"$temp/texts"
 sed -n 's/.*eprintln!(rt; "council: \([^{"]*\)".*/\1/p' "$top"/crates/council/src/*.rt >>"$temp/texts"
 sort -u "$temp/texts" >"$temp/each"
 while IFS= read -r text; do

@@ -46,6 +46,7 @@ list_searches() {
     for slip in WAKES_NOBODY FILLS_IN_SILENCE SLEEPS_AT_ONCE SENDS_NO_DONE SENDS_NO_END TASKS=0; do
         echo "1 WORKERS=1 RING=1 $slip"
     done
+    echo "1 WORKERS=2 RING=1 WAKES_WORKER_0"
 }
 
 list_searches | xargs -P 4 -L 1 bash -c 'expect "$@"' expect

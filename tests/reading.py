@@ -8,11 +8,10 @@
 It follows the `use` lines of crates/NAME/specs and the `ghost use` lines of crates/NAME/src. Lines are
 those of definitions: no blank lines, comments or `use` lines.
 
-The last part of the list has what the calls of RINGS mention beyond that: what a worker sent, and what the ends of its
-ring show of it, with the words of rtrb by which these ends are seen.
+The last parts have what the calls of FURTHER mention beyond that, each beyond those before it.
 
 Prints `ok reading: what` or `FAILED reading: why` for each of these: docs/TRUST.md is this page; its list
-has at most LIMIT lines, and the last part RINGS_LIMIT more; no module of a folder `Inner` or `Shared` is in it;
+has at most LIMIT lines, and each further part as many as FURTHER says; no module of a folder `Inner` or `Shared` is in it;
 those folders have all definitions that no public contract reaches, and no others; and each definition that
 docs/DEFINITIONS.md names, as `Module.name`, exists.
 """
@@ -24,7 +23,6 @@ import textwrap
 
 # lower them with each definition that goes; never raise them without a reason
 LIMIT = 439
-RINGS_LIMIT = 57
 # crate, source module, type or None, function or None for all
 HEADLINE = [
     ("mwc_pipe", "trace", None, "replay"),
@@ -35,11 +33,16 @@ HEADLINE = [
     ("mwc_gather", "gathered", "Gathered", "in_order"),
     ("council_run", "runs", None, "run"),
 ]
-# what says that each ring was read to its end and gave what the worker sent
-RINGS = [
-    ("mwc_gather", "worker", None, "work"),
-    ("mwc_pipe", "ring_out", "RingOut", "end"),
-    ("mwc_pipe", "rest", "Rest", "next"),
+# for each further part its title, how many lines it has at most, and its calls
+FURTHER = [
+    # what says that each ring was read to its end and gave what the worker sent
+    ("The rings", 57, [
+        ("mwc_gather", "worker", None, "work"),
+        ("mwc_pipe", "ring_out", "RingOut", "end"),
+        ("mwc_pipe", "rest", "Rest", "next"),
+    ]),
+    ("The program", 84, [("council", "main", None, "end_on")]),
+    ("The calls from C", 233, [("council_c", "call", None, None)]),
 ]
 # in reading order: the first pattern that fits a module
 PARTS = [
@@ -56,13 +59,15 @@ HEAD = """
 The [headline](PROOF.md#the-headline) is the contract of four calls: `replay` of `mwc_pipe`,
 `gather` and `Gathered::in_order` of `mwc_gather`, and `run` of `council_run`. To trust it, read the
 clauses of these calls, the three laws of `mwc_pipe` that sum up `replay`, and the definitions
-below: those that the clauses name, and those that these name in turn, in reading order. The rest of
-`crates/*/specs` serves other contracts or the proofs.
+below: those that the clauses name, and those that these name in turn, in reading order. For these
+calls that is all. The last sections list what further contracts add, each beyond those before it:
+of the program, `end_on` of `council`, and of the calls from C. The rest of `crates/*/specs` serves
+other contracts or the proofs.
 
 One sentence of the headline needs more, because no clause of the four calls says it: each worker's
 ring was read to its end and gave what the worker sent. It rests on the contracts of
 `mwc_gather::work`, `RingOut::end` and `Rest::next`, which hold whatever `gather` then returns, and
-on private clauses of the gatherer. The last section lists what the three public contracts add.
+on private clauses of the gatherer. The section on rings lists what the three public contracts add.
 
 A limit has a name here, such as `MEMBERS`; `are_these_numbers` in
 `crates/council_game/src/limits.rt` says its number. In the clauses of `gather`, `guarded.now` is
@@ -103,6 +108,13 @@ What a worker sends, a whole or a cut sending, as words; which ring an end is of
 `rtrb` by which contracts see the ends: all that was sent, what was received, what is known to be
 inside. What was received, and then what is left, is all that was sent: that is the clause `fifo` of
 `Consumer::slots_after` in `rtrb`.
+""",
+    "The program": """
+Which report the arguments ask for, also one with swings, and with which status the program ends.
+`report_game` of `council_run` needs no others.
+""",
+    "The calls from C": """
+The numbers, masks and texts that the calls of `council.h` give, and each status.
 """,
 }
 TOP = os.path.join(os.path.dirname(os.path.abspath(__file__)), "..")
@@ -257,29 +269,32 @@ def reading_list():
     return lines, total
 
 
-def rings_list():
-    """The lines of the last part of the list, and how many lines of definitions it names."""
-    seen, other = closure(roots_of(HEADLINE))
-    here, words = closure(roots_of(RINGS))
-    here, words = sorted(here - seen), {k for k in words - other if ".declared." not in k[0]}
-    for path in glob.glob(f"{CRATES}/mwc_pipe/src/*.rt"):
-        # by which words of rtrb the ends are seen
-        for module, names in re.findall(r"^    ghost use (Rattle\.rtrb\.[\w.]+)\.\{(.*)\};$", open(path, encoding="utf-8").read(), re.M):
-            words |= {(module, name) for name in names.split(", ")}
-    count = sum(len(defs[k]) for k in here)
-    lines = [f"## The rings: {len(here)} more definitions, {count} lines"]
-    for module in sorted({k[0] for k in here}):
-        names = ", ".join(f"`{k[1]}`" for k in here if k[0] == module)
-        lines.append(f"- {module[7:].replace('.specs.', '/specs/')}.antt: {names}")
-    for module in sorted({k[0] for k in words}):
-        lines.append(f"- {module[7:]}: " + ", ".join(f"`{k[1]}`" for k in sorted(words) if k[0] == module))
-    return lines, count
+def further_lists():
+    """The lines of each further part, how many lines of definitions it names, and the most."""
+    parts, (seen, other) = [], closure(roots_of(HEADLINE))
+    for title, limit, calls in FURTHER:
+        here, words = closure(roots_of(calls))
+        here, words = here - seen, {k for k in words - other if ".declared." not in k[0]}
+        for path in (path for crate in {call[0] for call in calls} for path in glob.glob(f"{CRATES}/{crate}/src/*.rt")):
+            # by which words of rtrb the ends of a ring are seen
+            for module, names in re.findall(r"^    ghost use (Rattle\.rtrb\.[\w.]+)\.\{(.*)\};$", open(path, encoding="utf-8").read(), re.M):
+                words |= {(module, name) for name in names.split(", ")}
+        seen, other = seen | here, other | words
+        count = sum(len(defs[k]) for k in here)
+        lines = [f"## {title}: {len(here)} more definitions, {count} lines"]
+        for module in sorted({k[0] for k in here}):
+            names = ", ".join(f"`{k[1]}`" for k in sorted(here) if k[0] == module)
+            lines.append(f"- {module[7:].replace('.specs.', '/specs/')}.antt: {names}")
+        for module in sorted({k[0] for k in words}):
+            lines.append(f"- {module[7:]}: " + ", ".join(f"`{k[1]}`" for k in sorted(words) if k[0] == module))
+        parts.append((lines, count, limit))
+    return parts
 
 
 def page():
-    """The page that has both lists."""
+    """The page that has all lists."""
     text = HEAD.lstrip("\n")
-    for line in reading_list()[0] + rings_list()[0]:
+    for line in reading_list()[0] + [line for lines, _, _ in further_lists() for line in lines]:
         title = re.match(r"## (.*?):", line)
         text += f"\n{line}\n{INTRODUCTIONS[title.group(1)]}\n" if title else textwrap.fill(
             line, 98, subsequent_indent="  ", break_long_words=False, break_on_hyphens=False) + "\n"
@@ -292,7 +307,7 @@ def inner():
     for path in glob.glob(f"{CRATES}/*/src/lib.rt") + glob.glob(f"{CRATES}/*/src/main.rt"):
         for m in re.finditer(r"^pub use [\w:]+::\{?([\w,\s]+)\}?;", open(path, encoding="utf-8").read(), re.M):
             given |= {(path.split("/")[-3], name.strip()) for name in m.group(1).split(",")}
-    shown = set(closure(roots_of(HEADLINE))[0])
+    shown = roots_of(HEADLINE + [call for _, _, calls in FURTHER for call in calls])
     for (crate, module, owner, name), (text, names, seen_from) in functions.items():
         if module == "laws" or (crate, owner or name) in given and seen_from != "pub(crate) " and (owner or seen_from):
             shown |= mentioned(text, *names)
@@ -306,14 +321,15 @@ def report(good, what, why=""):
 
 def check():
     lines, total = reading_list()
-    rings, more = rings_list()
-    lines += rings
+    further = further_lists()
+    lines += [line for part, _, _ in further for line in part]
     wanted = page().split("\n")
     shown = open(os.path.join(TOP, "docs", "TRUST.md"), encoding="utf-8").read().split("\n")
     odd = [line for line in wanted + shown if (line in wanted) != (line in shown)]
     results = [report(shown == wanted, "docs/TRUST.md is the page of --page", f", but for: {odd[0] if odd else 'the order'}")]
     results.append(report(total <= LIMIT, f"{total} lines of definitions, at most {LIMIT}"))
-    results.append(report(more <= RINGS_LIMIT, f"{more} lines of definitions for the rings, at most {RINGS_LIMIT}"))
+    for part, more, limit in further:
+        results.append(report(more <= limit, f"{part[0].split(':')[0][3:]}: {more} lines more, at most {limit}"))
     inside = [line for line in lines if "/Inner" in line or "/Shared" in line]
     results.append(report(not inside, "no definition of a folder Inner or Shared", f": {inside}"))
     unshown = set(inner())

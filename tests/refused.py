@@ -6,8 +6,9 @@
     tests/refused.py [CRATE/NAME..]     tries these, or all
 
 refused/CRATE has edits of the crate CRATE, in the form of its must-fail edits. They are put into a
-copy of these crates and those below, for which `rt ci` proves only what it has not proved on this
-machine. Each line says `ok`, or `FAILED` or `skipped` and why.
+copy of these crates and those below. Where `rt check` has left the libraries below, it takes these
+and what it kept of the crate; else `rt ci` proves first what it has not proved on this machine. Each
+line says `ok`, or `FAILED` or `skipped` and why.
 """
 import glob
 import hashlib
@@ -64,15 +65,18 @@ def try_edits(names):
         shutil.copy(f"{TOP}/HANDLES", room)
         with open(f"{room}/crates.txt", "w", encoding="utf-8") as it:
             it.writelines(line for line in read(f"{TOP}/crates.txt").splitlines(True) if line.split(" ")[0].split(":")[0] in crates)
+        own = {name.split("/")[0] for name in names}
+        is_kept = all(os.path.isdir(f"{TOP}/crates/{crate}/out/{'incremental' if crate in own else 'rlib'}") for crate in crates)
         for crate in crates:
-            for part in ("src", "specs", "proofs"):
+            kept = [] if not is_kept else ["out"] if crate in own else ["out/rlib"]
+            for part in ["src", "specs", "proofs", *kept]:
                 if os.path.isdir(f"{TOP}/crates/{crate}/{part}"):
-                    shutil.copytree(f"{TOP}/crates/{crate}/{part}", f"{room}/crates/{crate}/{part}")
+                    shutil.copytree(f"{TOP}/crates/{crate}/{part}", f"{room}/crates/{crate}/{part}", symlinks=True)
         for name in names:
-            crate, own = name.split("/")
+            crate, edit = name.split("/")
             os.makedirs(f"{room}/crates/{crate}/must-fail", exist_ok=True)
-            shutil.copy(f"{EDITS}/{name}.edit", f"{room}/crates/{crate}/must-fail/{own}.edit")
-        run = subprocess.run(["rt", "ci"], cwd=room, stdout=subprocess.PIPE, stderr=subprocess.STDOUT, text=True, check=False)
+            shutil.copy(f"{EDITS}/{name}.edit", f"{room}/crates/{crate}/must-fail/{edit}.edit")
+        run = subprocess.run(["rt", "must-fail", *own] if is_kept else ["rt", "ci"], cwd=room, stdout=subprocess.PIPE, stderr=subprocess.STDOUT, text=True, check=False)
         return dict(re.findall(r"must-fail (\S+)\.edit: (.*)", run.stdout)), run.stdout.strip().splitlines()[-3:]
 
 

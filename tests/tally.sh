@@ -204,6 +204,22 @@ bracket() {
 random 40 1000000000000
 bracket $((total / 2 + 1))
 counted "40 random weights up to 10^12" "$temp/half.txt" 4373613453 2195520996 1959310211
+# ---- swings: the figures of another program, which adds up the subsets of two halves of the game
+name="swings of 40 random weights up to 10^12, by some million states"
+run --only-swings "$temp/half.txt"
+if succeeded "$name"; then
+    found=$(awk '$1 == "winning" { print $2 } $1 == "member" { print $4 }' "$temp/out" | sed -n '1p; 2p; $p' | tr '\n' ' ')
+    if [ "$found" = "549755813888 71274520538 7365253578 " ]; then ok "$name"; else failed "$name" "$found"; fi
+fi
+# under two rules they take too many states; if memory is refused before, that is another status
+rows=()
+for ((member = 0; member < 40; member++)); do rows+=("${weights[member]}, ${weights[(member + 7) % 40]}"); done
+write_rules "$((total / 2 + 1)), $((total / 2 + 1))" "${rows[@]}"
+run --swings "$temp/rules.toml"
+refused "--swings of too many states" 6 "too many states for the swings"
+(ulimit -v 200000 && exec timeout "$seconds" "$program" --only-swings "$temp/rules.toml") >"$temp/out" 2>"$temp/err"
+status=$?
+refused "--only-swings in too little memory" 5 "out of memory"
 # of the first 10^9, and of each other as much less as its rank
 weights=() total=0
 for rank in {1..40}; do weights+=($((1000000000 / rank))) && total=$((total + 1000000000 / rank)); done

@@ -231,6 +231,37 @@ fn a_worker_whose_ring_is_full_sleeps_until_words_are_taken(rt: HostRuntime) {
     });
 }
 
+#[test]
+fn each_worker_is_woken_by_its_own_waker(rt: HostRuntime) {
+    let alloc = rt.alloc();
+    let game = equal_game(&rt, alloc, 2, 1);
+    let job = Job { guarded: Guarded::new(&game, &NoGate), bits: 1, most: 2 };
+    // what the gatherer wakes by the others nobody else does
+    let (wakers, others) = (Wakers::new(), Wakers::new());
+    let workers = &others.workers[..2];
+    let rt = &rt;
+    thread::scope(thread::scope_env(), rt, |scope| {
+        let first = WorkerHandle::open(scope, rt, alloc, &job, 0, &wakers).expect(rt, "a worker");
+        let second = WorkerHandle::open(scope, rt, alloc, &job, 1, &wakers).expect(rt, "a worker");
+        let mut handles = [first, second];
+        let mut scheduler = Scheduler { marks: Marks::new(2), stopped: false };
+        let mut row = new_row(alloc).expect(rt, "a row");
+        for is_read in [false, true] {
+            for worker in workers {
+                looks_before_sleep(rt, &mut Backoff::new(), worker);
+            }
+            if is_read {
+                scheduler.read_all(rt, &job, &mut handles, row.as_mut_slice(), &others);
+            } else {
+                scheduler.assign_first(rt, &job, &mut handles, &others);
+            }
+            assert!(rt; !is_asleep(&workers[0]) && !is_asleep(&workers[1]));
+        }
+        let [first, second] = handles;
+        assert!(rt; first.finish(rt).is_ok() && second.finish(rt).is_ok());
+    });
+}
+
 /// Lets a worker begin its slice when the gatherer has slept often.
 #[derive(Drop)]
 struct AfterSleep<'a> {

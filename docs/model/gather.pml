@@ -18,6 +18,12 @@
 #define ROW 2
 /* the number of the gatherer's waker; that of a worker is its own number */
 #define GATHERER WORKERS
+/* whom the gatherer wakes for worker i */
+#ifdef WAKES_WORKER_0
+#define WOKEN 0
+#else
+#define WOKEN i
+#endif
 
 /* words: a coalition, the end of a slice, the end of the work, or its end after one coalition too
  * many; tasks: a slice, or that there is none. Open changes nothing, and is left out. */
@@ -164,7 +170,7 @@ init {
             :: taken == 0 -> goto assign_next
             fi
         };
-        wake(i);
+        wake(WOKEN);
 assign_next:
         atomic {
             if
@@ -173,7 +179,7 @@ assign_next:
             :: idle[i] && !dismissed[i] && !stopped && given < SLICES -> idle[i] = false; given++; tasks[i]!Slice
             fi
         };
-        wake(i);
+        wake(WOKEN);
 next:
         atomic {
             i++;

@@ -433,7 +433,7 @@ static void run_threads(void)
 		pthread_join(threads[i], NULL);
 }
 
-/* ---- visits: 40 members with weights of nine digits under two rules have too many states */
+/* ---- visits and states: 40 members with weights of ten digits under two rules have too many states */
 static void run_visits(void)
 {
 	struct game game = {.rules = 2, .members = MEMBERS};
@@ -441,8 +441,8 @@ static void run_visits(void)
 	struct council_summary summary = no_summary();
 	uint64_t state = 3;
 	for (size_t i = 0; i < MEMBERS; i++) {
-		game.weights[i] = draw(&state, 1000000000);
-		game.weights[MEMBERS + i] = 1000000000 - game.weights[i];
+		game.weights[i] = draw(&state, 10000000000);
+		game.weights[MEMBERS + i] = draw(&state, 10000000000);
 		game.quotas[0] += game.weights[i] / 2;
 		game.quotas[1] += game.weights[MEMBERS + i] / 2;
 	}
@@ -451,6 +451,8 @@ static void run_visits(void)
 	for (uint64_t visits = 1; visits <= 1000000; visits *= 1000000)
 		if (council_indices(game.quotas, 2, game.weights, 2 * MEMBERS, false, visits, results, MEMBERS, &summary) != COUNCIL_TOO_LONG)
 			fail("a walk ended", (long)visits);
+	if (council_indices(game.quotas, 2, game.weights, 2 * MEMBERS, true, 1, results, MEMBERS, &summary) != COUNCIL_STATES)
+		fail("swings of too many states", 0);
 	if (memcmp(before, results, sizeof results) || summary.fault || summary.member || summary.rule)
 		fail("too long, and something was written", 0);
 }

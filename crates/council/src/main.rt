@@ -2,11 +2,11 @@
 //! indices that rest on them.
 #![tactic(auto)]
 
-ghost use Rattle.std.specs.Prelude.{◌≡◌, Ok};
+ghost use Rattle.std.specs.Prelude.{◌≡◌, ◌⊎◌, Err, MatchResult, Ok, ⊤};
+ghost use Rattle.std.specs.Process.{exit_status};
+ghost use Rattle.council.specs.Program.{Ends, IsOutcomeOf, columns_of};
+ghost use Rattle.council_file.specs.Reads.{Reads};
 ghost use Rattle.council_report.specs.Outcome.{Writes};
-ghost use Rattle.council_run.specs.Columns.{limit_with, report_of};
-ghost use Rattle.council_run.specs.Run.{IsOutcome};
-ghost use Rattle.council_run.specs.Plans.{is_too_many, lines_of_plan};
 
 use council_explain::explain;
 use council_file::{parse_game, read_bytes};
@@ -18,6 +18,7 @@ use council_words::{
 };
 use mwc_gather::GatherFault;
 use mwc_walk::slice_count;
+use std::alloc::Global;
 use std::io::IsTerminal;
 use std::process::ExitCode;
 use std::rt::Files;
@@ -44,19 +45,13 @@ fn advice(cause: Cause, is_explained: bool) -> Option<&'static str> {
     }
 }
 
-/// Says with `--explain` or on a terminal what helps against a fault, and returns the status.
-fn advise(
-    rt: &impl Eprint,
-    arguments: &Arguments<'_>,
-    is_terminal: bool,
-    fault: RunFault,
-) -> ExitCode {
+/// Says with `--explain` or on a terminal what helps against a fault.
+fn advise(rt: &impl Eprint, arguments: &Arguments<'_>, is_terminal: bool, cause: Cause) {
     if (arguments.explain || is_terminal)
-        && let Some(line) = advice(fault.cause, arguments.explain)
+        && let Some(line) = advice(cause, arguments.explain)
     {
         say_more(rt, line);
     }
-    ExitCode::from(status(&fault))
 }
 
 /// Prints a line on standard error, if there is one.
@@ -67,7 +62,9 @@ fn remark(rt: &impl Eprint, line: Option<&'static str>) {
 }
 
 /// Returns which numbers the arguments ask for.
-fn columns_of(arguments: &Arguments<'_>) -> Columns {
+fn columns_of(arguments: &Arguments<'_>) -> Columns
+    ensures { result ≡ columns_of arguments.now.swings arguments.now.only_swings }
+{
     if arguments.only_swings {
         Columns::Swings
     } else if arguments.swings {
@@ -75,33 +72,6 @@ fn columns_of(arguments: &Arguments<'_>) -> Columns {
     } else {
         Columns::Minimal
     }
-}
-
-/// Writes the report of a game, as the arguments ask.
-fn report<R: AllocGlobal + Threads + Wait + Sync, G: Gate + Sync, W: Sink>(
-    rt: &R,
-    arguments: &Arguments<'_>,
-    columns: Columns,
-    game: &Game,
-    gate: &G,
-    writer: &mut W,
-) -> Result<u64, RunFault>
-    ensures { IsOutcome (report_of columns (lines_of_plan arguments.now.plan arguments.now.options))
-        (limit_with columns arguments.now.plan arguments.now.options.most (is_too_many result))
-        (λ answer. answer ≡ Ok game.now)
-        (λ text. Writes W.held W.is_write W.is_flush text writer.old writer.new)
-        (writer.new ≡ writer.old) result }
-{
-    report_game(
-        rt,
-        rt.alloc(),
-        game,
-        &arguments.options,
-        gate,
-        writer,
-        arguments.plan,
-        columns,
-    )
 }
 
 /// Returns how many slices there are, unless the game has very few members.
@@ -113,28 +83,41 @@ fn slices_of(arguments: &Arguments<'_>) -> u16 {
     }
 }
 
-/// Reports on a game to standard output, and shows the progress on a terminal.
-fn print_report<R: AllocGlobal + Print + Eprint + Clock + Threads + Wait + Sync>(
+/// Writes the report of a game, as the arguments ask, and shows the progress on a terminal.
+fn write_report<R: AllocGlobal + Eprint + Clock + Threads + Wait + Sync, W: Sink>(
     rt: &R,
     arguments: &Arguments<'_>,
     is_terminal: bool,
     game: &Game,
-) -> Result<u64, RunFault> {
+    writer: &mut W,
+) -> Result<u64, RunFault>
+    ensures { IsOutcomeOf arguments.now (λ answer. answer ≡ Ok game.now)
+        (λ text. Writes W.held W.is_write W.is_flush text writer.old writer.new)
+        (writer.new ≡ writer.old) result }
+{
     let progress = Progress::new(rt, is_terminal, slices_of(arguments));
-    let columns = columns_of(arguments);
-    let outcome = report(rt, arguments, columns, game, &progress, &mut io::writer(rt));
+    let outcome = report_game(
+        rt,
+        rt.alloc(),
+        game,
+        &arguments.options,
+        &progress,
+        writer,
+        arguments.plan,
+        columns_of(arguments),
+    );
     progress.wipe();
     outcome
 }
 
-/// Says why a game has no report, and returns the status.
+/// Says why a game has no report.
 fn refuse_game(
     rt: &(impl Eprint + AllocGlobal),
     arguments: &Arguments<'_>,
     is_terminal: bool,
     fault: RunFault,
     game: &Game,
-) -> ExitCode {
+) {
     say(rt, fault.cause);
     if arguments.explain
         && fault.is_too_many()
@@ -142,86 +125,137 @@ fn refuse_game(
     {
         say_more(rt, format_args!("there are {number} of them"));
     }
-    advise(rt, arguments, is_terminal, fault)
+    advise(rt, arguments, is_terminal, fault.cause);
 }
 
-/// Reports on a game, whose file has these bytes, and returns the status.
+/// Reports on a game, whose file has these bytes.
 ///
 /// On a terminal it remarks on what may not be meant: in names first, and in numbers after the
 /// report. If that is on a terminal too, it first names the columns.
-fn report_on<R: AllocGlobal + Print + Eprint + Clock + Threads + Wait + Sync>(
+fn report_on<R: AllocGlobal + Eprint + Clock + Threads + Wait + Sync, W: Sink>(
     rt: &R,
     arguments: &Arguments<'_>,
     is_terminal: bool,
     game: &Game,
     bytes: &[u8],
-) -> ExitCode {
+    writer: &mut W,
+) -> Result<u64, RunFault>
+    ensures { IsOutcomeOf arguments.now (λ answer. answer ≡ Ok game.now)
+        (λ text. Writes W.held W.is_write W.is_flush text writer.old writer.new)
+        (writer.new ≡ writer.old) result }
+{
     if is_terminal {
         remark_on_names(rt, game);
     }
-    if let Err(fault) = print_report(rt, arguments, is_terminal, game) {
-        return refuse_game(rt, arguments, is_terminal, fault, game);
-    }
-    if is_terminal {
+    let outcome = write_report(rt, arguments, is_terminal, game, writer);
+    if let Err(fault) = outcome {
+        refuse_game(rt, arguments, is_terminal, fault, game);
+    } else if is_terminal {
         remark(rt, remark_on_columns(arguments));
         remark(rt, remark_on_thousands(bytes));
         remark(rt, remark_on_quotas(game));
     }
-    ExitCode::SUCCESS
+    outcome
 }
 
-/// Says why a file has no game, and returns the status; the bytes are those that were read.
+/// Says why a file has no game; the bytes are those that were read.
 fn refuse_file(
     rt: &(impl Eprint + AllocGlobal),
     arguments: &Arguments<'_>,
     is_terminal: bool,
     fault: GameFault,
     bytes: &[u8],
-) -> ExitCode {
+) {
     say(rt, fault);
-    let status = advise(rt, arguments, is_terminal, RunFault::from(fault));
+    advise(rt, arguments, is_terminal, Cause::Game(fault));
     if arguments.explain
         && let Ok(lines) = explain(rt.alloc(), bytes, fault)
     {
         let _ = eprint!(rt; "{lines}");
     }
-    status
 }
 
-/// Reads the bytes of the file, or of standard input if none is named.
-fn read_file<R: AllocGlobal + Files + Input>(
-    rt: &R,
-    file: Option<&str>,
-) -> io::Result<Result<Vec<u8>, GameFault>> {
-    match file {
-        Some(path) => Ok(read_bytes(rt.alloc(), &mut fs::open(rt, path)?)),
-        None => Ok(read_bytes(rt.alloc(), &mut rt.reader())),
+/// Reads a game, and keeps its bytes.
+fn read_game<I: Source>(
+    alloc: Global,
+    reader: &mut I,
+    bytes: &mut Vec<u8>,
+) -> Result<Game, GameFault>
+    ensures { MatchResult result
+        (λ game. Reads I.left I.is_read reader.old reader.new (Ok game))
+        (λ fault. Reads I.left I.is_read reader.old reader.new (Err fault)) }
+{
+    match read_bytes(alloc, reader) {
+        Ok(read) => {
+            *bytes = read;
+            parse_game(alloc, bytes)
+        }
+        Err(fault) => Err(fault),
     }
 }
 
-/// Reports on the game of these bytes, and returns the status.
-fn run_on<R: AllocGlobal + Print + Eprint + Clock + Threads + Wait + Sync>(
+/// Reads a game and writes its report.
+///
+/// It cannot print: whatever the reader and the writer are, the contract says which calls they got.
+fn run_on<R: AllocGlobal + Eprint + Clock + Threads + Wait + Sync, I: Source, W: Sink>(
     rt: &R,
     arguments: &Arguments<'_>,
     is_terminal: bool,
-    bytes: &[u8],
-) -> ExitCode {
-    match parse_game(rt.alloc(), bytes) {
-        Ok(game) => report_on(rt, arguments, is_terminal, &game, bytes),
-        Err(fault) => refuse_file(rt, arguments, is_terminal, fault, bytes),
+    reader: &mut I,
+    writer: &mut W,
+) -> Result<u64, RunFault>
+    ensures { IsOutcomeOf arguments.now (Reads I.left I.is_read reader.old reader.new)
+        (λ text. Writes W.held W.is_write W.is_flush text writer.old writer.new)
+        (writer.new ≡ writer.old) result }
+{
+    let mut bytes = Vec::new(rt.alloc());
+    match read_game(rt.alloc(), reader, &mut bytes) {
+        Ok(game) => report_on(rt, arguments, is_terminal, &game, &bytes, writer),
+        Err(fault) => {
+            refuse_file(rt, arguments, is_terminal, fault, &bytes);
+            Err(RunFault::from(fault))
+        }
     }
 }
 
-/// Runs on the file that the arguments name, or on standard input.
-fn run_on_file<R: AllocGlobal + Files + Input + Print + Eprint + Clock + Threads + Wait + Sync>(
+/// Runs on a reader and a writer, and returns the status.
+fn end_on<R: AllocGlobal + Eprint + Clock + Threads + Wait + Sync, I: Source, W: Sink>(
     rt: &R,
     arguments: &Arguments<'_>,
     is_terminal: bool,
-) -> ExitCode {
-    match read_file(rt, arguments.file) {
-        Ok(Ok(bytes)) => run_on(rt, arguments, is_terminal, &bytes),
-        Ok(Err(fault)) => refuse_file(rt, arguments, is_terminal, fault, &[]),
-        Err(error) => report_unopened(rt, arguments, is_terminal, error),
+    reader: &mut I,
+    writer: &mut W,
+) -> ExitCode
+    ensures { Ends arguments.now (Reads I.left I.is_read reader.old reader.new)
+        (λ text. Writes W.held W.is_write W.is_flush text writer.old writer.new)
+        (writer.new ≡ writer.old) result }
+{
+    match run_on(rt, arguments, is_terminal, reader, writer) {
+        Ok(_) => ExitCode::from(0),
+        Err(fault) => ExitCode::from(status(&fault)),
+    }
+}
+
+/// Runs on the file that the arguments name, or on standard input, and returns the status.
+///
+/// The writer gets one report or nothing.
+fn run_on_file<R: AllocGlobal + Files + Input + Eprint + Clock + Threads + Wait + Sync, W: Sink>(
+    rt: &R,
+    arguments: &Arguments<'_>,
+    is_terminal: bool,
+    writer: &mut W,
+) -> ExitCode
+    ensures { (exit_status result ≡ 1) × (writer.new ≡ writer.old)
+        ⊎ Ends arguments.now (λ _. ⊤)
+        (λ text. Writes W.held W.is_write W.is_flush text writer.old writer.new)
+        (writer.new ≡ writer.old) result }
+{
+    match arguments.file {
+        None => end_on(rt, arguments, is_terminal, &mut rt.reader(), writer),
+        Some(path) => match fs::open(rt, path) {
+            Ok(mut file) => end_on(rt, arguments, is_terminal, &mut file, writer),
+            Err(error) => report_unopened(rt, arguments, is_terminal, error),
+        },
     }
 }
 
@@ -242,7 +276,7 @@ fn run<R: AllocGlobal + Files + Input + Print + Eprint + Clock + Threads + Wait 
             if is_typed && arguments.file.is_none() {
                 say(rt, "a game is read from standard input, up to its end");
             }
-            run_on_file(rt, &arguments, is_terminal)
+            run_on_file(rt, &arguments, is_terminal, &mut io::writer(rt))
         }
         Err(status) => status,
     }

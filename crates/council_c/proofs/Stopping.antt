@@ -18,4 +18,4 @@ stops-on columns limit bytes g (cause.Gather gather.TooMany) holds h many = (g, 
 stops-on columns limit bytes g (cause.Gather fault) holds h many = let same = many fault refl in cc
 stops-on columns limit bytes g cause.Write holds h many = absurd h
 stops-on columns limit bytes g cause.Memory holds h many = (g, holds)
-stops-on columns limit bytes g cause.States holds h many = (h, (g, holds))
+stops-on columns limit bytes g cause.States holds h many = (g, holds, h)

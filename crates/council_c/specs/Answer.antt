@@ -1,9 +1,8 @@
 -- What a call answers.
 use Rattle.std.specs.Prelude.{◌≡◌, ℕ, List, ◌++◌, length, take, drop, ◌⊎◌, true, false, Ok, Err, Option, ⊤, codes}
-use Rattle.std.specs.Fmt.Cut.{IsTextOrCut}
 use Rattle.council_game.specs.declared.fault.GameFault.TheVariants as game
 use Rattle.council_game.specs.Game.{GameView}
-use Rattle.council_run.specs.Columns.{ShowsSwings, report_of}
+use Rattle.council_run.specs.Columns.{MayHaveManyStates, report_of}
 use Rattle.council_run.specs.declared.columns.Columns.{Columns}
 use Rattle.council_run.specs.Run.{Holds, IsWithin}
 use Rattle.council_run.specs.Status.{status_of, text_of}
@@ -30,7 +29,7 @@ Reports columns o bytes before after len =
     (are_wrong o ≡ false) × FillsBy (report_of columns (lines_of_call o)) (limit_of columns o) bytes before after len
 
 -- The bytes hold this fault, or a game of which no report was made. No read, write, thread or ring
--- is a cause, and too many states are one only if swings are shown.
+-- is a cause, and too many states are one only if swings of more than 20 members are shown.
 abbrev pub StopsOn : Columns → Option ℕ → List ℕ → Cause → Type 0
 StopsOn columns limit bytes (cause.Game game.Read) = ⊥
 StopsOn columns limit bytes (cause.Game game.Memory) = ⊤
@@ -39,7 +38,7 @@ StopsOn columns limit bytes (cause.Gather gather.TooMany) = (g : GameView) × Ho
 StopsOn columns limit bytes (cause.Gather fault) = ⊥
 StopsOn columns limit bytes cause.Write = ⊥
 StopsOn columns limit bytes cause.Memory = (g : GameView) × Holds bytes (Ok g)
-StopsOn columns limit bytes cause.States = ShowsSwings columns × ((g : GameView) × Holds bytes (Ok g))
+StopsOn columns limit bytes cause.States = (g : GameView) × Holds bytes (Ok g) × MayHaveManyStates columns g
 
 -- Why there is none: the options are wrong, or they are right and a run on these bytes stops so.
 abbrev pub StopsCall : Columns → CouncilOptions → List ℕ → Fault → Type 0
@@ -54,11 +53,10 @@ text_of_call fault.Options = codes "bad options"
 text_of_call fault.TooLong = codes "too many visits"
 text_of_call (fault.Run why) = text_of why
 
--- The buffer shows what the fault says, and `len` is its length. If it could not be formatted, it
--- ends in three dots.
+-- the buffer shows what the fault says, and `len` is its length
 abbrev pub Tells : Fault → List ℕ → List ℕ → ℕ → Type 0
 Tells why before after len =
-    (text : List ℕ) × IsTextOrCut 100 (text_of_call why) text × (len ≡ length text) × Shows text before after
+    (len ≡ length (text_of_call why)) × Shows (text_of_call why) before after
 
 -- the status, as the program ends with it
 abbrev pub status_of_call : Fault → ℕ

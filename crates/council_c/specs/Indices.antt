@@ -1,6 +1,7 @@
 -- What a call for the numbers of arrays answers.
-use Rattle.std.specs.Prelude.{◌≡◌, ◌*◌, ◌-◌, ◌^◌, ◌==◌, ◌&&◌, ℕ, Bool, true, false, List, length, map, Result, Ok, Err, ◌⊎◌, ⊤, if◌then◌else◌}
+use Rattle.std.specs.Prelude.{◌≡◌, ◌<◌, ◌*◌, ◌-◌, ◌^◌, ◌==◌, ◌&&◌, ℕ, Bool, true, false, List, length, map, Result, Ok, Err, ◌⊎◌, ⊤, if◌then◌else◌}
 use Rattle.council_game.specs.Faults.{number_of}
+use Rattle.council_game.specs.declared.limits.TheConstants.{PLAIN_MEMBERS}
 use Rattle.council_game.specs.Game.{GameView}
 use Rattle.council_game.specs.Members.{members}
 use Rattle.council_game.specs.declared.fault.GameFault.{GameFault}
@@ -49,8 +50,8 @@ IsFaultOf quotas weights n why rule = ⊥
 -- why the numbers of a game are not computed
 abbrev pub StopsOnGame : Bool → ℕ → GameView → Fault → Type 0
 StopsOnGame swings visits g (fault.Run cause.Memory) = ⊤
-StopsOnGame swings visits g (fault.Run cause.States) = swings ≡ true
-StopsOnGame swings visits g fault.TooLong = IsTooLong (most_visits visits) g
+StopsOnGame swings visits g (fault.Run cause.States) = (swings ≡ true) × (PLAIN_MEMBERS < length g.names)
+StopsOnGame swings visits g fault.TooLong = (PLAIN_MEMBERS < length g.names) × IsTooLong (most_visits visits) g
 StopsOnGame swings visits g why = ⊥
 
 -- why there are no numbers: a fault of the game, or one on the way to its numbers

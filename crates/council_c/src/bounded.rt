@@ -1,15 +1,17 @@
 //! Counting the coalitions of a game in one thread, for at most so long.
-ghost use Rattle.std.specs.Prelude.{◌≡◌, ◌≤◌, IfNone, IfOk, IfSome, []};
+ghost use Rattle.std.specs.Prelude.{◌≡◌, ◌<◌, ◌≤◌, IfNone, IfOk, IfSome, [], length};
+ghost use Rattle.council_game.specs.declared.limits.TheConstants.{PLAIN_MEMBERS};
 ghost use Rattle.council_game.specs.Game.{votes_of};
 ghost use Rattle.council_c.specs.Bounded.{IsTooLong};
 ghost use Rattle.mwc_walk.specs.WalkView.{given};
 ghost use Rattle.power_index.specs.Tables.{AreCountsOfGame};
 
-use council_game::{Game, Memory, NoGate};
+use council_game::{Game, Memory, NoGate, limits, plain_list};
 use council_run::{MOST_STATES, choose_game, count_states, on_heap};
 use mwc_walk::laws::one_slice_is_the_whole;
 use mwc_walk::{Seek, Walk};
 use power_index::Counts;
+use power_index::laws::minimal_coalitions_can_be_counted;
 use std::alloc::Global;
 
 /// Counts the coalitions that a walk over a whole game gives, or returns none if it has made
@@ -55,9 +57,21 @@ fn count_within(alloc: Global, game: &Game, visits: u64) -> Result<Option<Box<Co
     }
 }
 
+/// Counts the coalitions of a game of at most 20 members by trying each.
+fn count_plain(alloc: Global, game: &Game) -> Result<Box<Counts>, Memory>
+    requires { length game.now.names ≤ PLAIN_MEMBERS }
+    ensures { IfOk result (λ counts. AreCountsOfGame game.now counts.value) }
+{
+    game.was_checked();
+    minimal_coalitions_can_be_counted();
+    let all = plain_list(alloc, game)?;
+    on_heap(alloc, Counts::of(game, &all))
+}
+
 /// Counts the coalitions of a game by states, or if these are too many by a walk.
 ///
-/// The walk makes at most `visits` visits; the result is `None` if it has not ended by then.
+/// The walk makes at most `visits` visits; the result is `None` if it has not ended by then. With
+/// at most 20 members each coalition is tried instead.
 ///
 /// # Errors
 ///
@@ -68,10 +82,11 @@ pub(crate) fn count_or_stop(
     visits: u64,
 ) -> Result<Option<Box<Counts>>, Memory>
     ensures counts { IfOk result (λ o. IfSome o (λ counts. AreCountsOfGame game.now counts.value)) }
-    ensures long { IfOk result (λ o. IfNone o (IsTooLong visits game.now)) }
+    ensures long { IfOk result (λ o. IfNone o ((PLAIN_MEMBERS < length game.now.names) × IsTooLong visits game.now)) }
 {
     match count_states(alloc, game, MOST_STATES, &NoGate)? {
         Some(counts) => Ok(Some(counts)),
+        None if game.members() <= limits::PLAIN_MEMBERS => Ok(Some(count_plain(alloc, game)?)),
         None => count_within(alloc, game, visits),
     }
 }

@@ -1,11 +1,12 @@
 //! Why there is no report.
 ghost use Rattle.std.specs.Prelude.{◌≡◌, Some};
+ghost use Rattle.std.specs.Fmt.InlineText.{inline_text};
 ghost use Rattle.council_c.specs.Answer.{Tells, status_of_call, text_of_call};
 ghost use Rattle.council_c.specs.declared.fault.Fault.TheVariants as fault;
 ghost use Rattle.council_run.specs.declared.fault.Cause.TheVariants as cause;
 
 use crate::page::put;
-use council_game::Memory;
+use council_game::{Memory, short_text};
 use council_run::{Cause, RunFault, status};
 use std::fmt;
 use std::fmt::InlineText;
@@ -27,11 +28,7 @@ impl fmt::Display for Fault {
     ghost output = { λ fault. Some (text_of_call fault) };
 
     fn fmt<W: fmt::Write>(&self, f: &mut fmt::Formatter<W>) -> fmt::Result {
-        match *self {
-            Fault::Options => f.write_str("bad options"),
-            Fault::Run(cause) => cause.fmt(f),
-            Fault::TooLong => f.write_str("too many visits"),
-        }
+        f.write_str(self.text().as_str())
     }
 }
 
@@ -63,11 +60,22 @@ impl Fault {
         }
     }
 
+    /// Returns the text of the fault.
+    fn text(self) -> InlineText<100>
+        ensures { inline_text result ≡ text_of_call self }
+    {
+        match self {
+            Fault::Options => short_text("bad options"),
+            Fault::Run(cause) => cause.text(),
+            Fault::TooLong => short_text("too many visits"),
+        }
+    }
+
     /// Puts its text into a buffer, as much as fits, and returns how long the text is.
     pub(crate) fn put_words(self, room: &mut [u8]) -> u64
         ensures { Tells self room.old room.new result }
     {
-        let text = InlineText::<100>::of(self);
+        let text = self.text();
         let bytes = text.as_str().as_bytes();
         put(bytes, room);
         bytes.len() as u64

@@ -1,11 +1,12 @@
 //! The numbers of the game that arrays hold.
-ghost use Rattle.std.specs.Prelude.{◌≡◌, ◌⊎◌, ◌*◌, IfErr, IfOk, IfSome, Ok, length, map, true};
+ghost use Rattle.std.specs.Prelude.{◌≡◌, ◌<◌, ◌⊎◌, ◌*◌, IfErr, IfOk, IfSome, Ok, length, map, true};
 ghost use Rattle.std.specs.Option.{is_some};
 ghost use Rattle.council_c.specs.Indices.{AreNumbers, IsFaultOf, StopsNumbers, StopsOnGame, fit, with_fault};
 ghost use Rattle.council_c.specs.Arrays.{game_of_arrays, member_of_fault};
 ghost use Rattle.council_c.specs.Numbers.{IsSummary, numbers};
 ghost use Rattle.council_c.specs.declared.fault.Fault.TheVariants as fault;
 ghost use Rattle.council_game.specs.Members.{members};
+ghost use Rattle.council_game.specs.declared.limits.TheConstants.{PLAIN_MEMBERS};
 ghost use Rattle.council_run.specs.declared.fault.Cause.TheVariants as cause;
 ghost use Rattle.power_index.specs.Swings.{AreWinningCounts};
 
@@ -52,7 +53,8 @@ impl From<Memory> for Stop {
 /// Counts the swings of a game, if they are asked for.
 fn find(alloc: Global, game: &Game, asked: bool) -> Result<Option<Swings>, RunFault>
     ensures ok { IfOk result (λ o. (is_some o ≡ asked) × IfSome o (AreWinningCounts game.now)) }
-    ensures err { IfErr result (λ why. (why.cause ≡ cause.Memory) ⊎ ((why.cause ≡ cause.States) × (asked ≡ true))) }
+    ensures err { IfErr result (λ why. (why.cause ≡ cause.Memory) ⊎ ((why.cause ≡ cause.States)
+        × (asked ≡ true) × (PLAIN_MEMBERS < length game.now.names))) }
 {
     if !asked {
         return Ok(None);

@@ -13,3 +13,4 @@ mod Imports
 pub mod Searches
 mod Room
 mod Fronts
+mod Cut

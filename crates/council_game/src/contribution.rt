@@ -34,12 +34,7 @@ impl Game {
             return Ok(None);
         }
         let contributions = contributions(alloc, self)?;
-        let game = self.rank_by(alloc, &contributions)?;
-        if game.is_ranked_as(self) {
-            Ok(None)
-        } else {
-            Ok(Some(game))
-        }
+        self.rank_by(alloc, &contributions)
     }
 }
 

@@ -1,11 +1,14 @@
 //! Why a game was refused.
-ghost use Rattle.std.specs.Prelude.{◌≡◌, Some};
+ghost use Rattle.std.specs.Prelude.{◌≡◌, ◌≤◌, ◌++◌, Some, decimal, length};
+ghost use Rattle.std.specs.Fmt.InlineText.{inline_text};
 ghost use Rattle.council_game.specs.declared.fault.GameFault.TheVariants.{Memory};
 ghost use Rattle.council_game.specs.Faults.{number_of, text_of};
 
 use crate::Memory;
+use itoa::Buffer;
 use std::alloc::{AllocError, AllocFailed};
 use std::fmt;
+use std::fmt::InlineText;
 use thiserror::Error;
 
 /// The first fault of a game. Members are numbered from 1, in the order of the file.
@@ -70,6 +73,50 @@ impl GameFault {
             GameFault::Ways => 15,
         }
     }
+
+    /// Returns the text of the fault.
+    pub fn text(self) -> InlineText<100>
+        ensures { inline_text result ≡ text_of self }
+    {
+        match self {
+            GameFault::Read => short_text("the game file cannot be read"),
+            GameFault::TooLong => short_text("the game file is longer than 65536 bytes"),
+            GameFault::Text => short_text("the game file is not TOML"),
+            GameFault::UnknownKey => short_text("unknown key"),
+            GameFault::Title => short_text("bad title"),
+            GameFault::Quota => short_text("bad quota"),
+            GameFault::Members => short_text("bad member list"),
+            GameFault::Name { member } => member_text("bad name of member ", member, ""),
+            GameFault::SameName { member } => member_text("member ", member, " repeats a name"),
+            GameFault::Weight { member } => member_text("bad weight of member ", member, ""),
+            GameFault::QuotaRange => short_text("quota out of range"),
+            GameFault::Bracket => short_text("bad bracket text"),
+            GameFault::Rules => short_text("bad rules"),
+            GameFault::Memory => short_text("out of memory"),
+            GameFault::Ways => short_text("bad ways"),
+        }
+    }
+}
+
+/// Returns a text of at most 40 bytes.
+#[tactic(auto, using(crate::proofs::Cut::cut_to_fits))]
+pub fn short_text(text: &str) -> InlineText<100>
+    requires { length text.now ≤ 40 }
+    ensures { inline_text result ≡ text.now }
+{
+    InlineText::new().and_str(text, 40)
+}
+
+/// Returns a text with the number of a member in it.
+fn member_text(before: &str, member: u8, after: &str) -> InlineText<100>
+    requires before { length before.now ≤ 21 }
+    requires after { length after.now ≤ 15 }
+    ensures { inline_text result ≡ before.now ++ decimal member ++ after.now }
+{
+    let mut digits = Buffer::new();
+    short_text(before)
+        .and_str(digits.format(member), 40)
+        .and_str(after, 15)
 }
 
 /// The text of each fault. (By hand: docs/DECISIONS.md says why.)
@@ -77,23 +124,7 @@ impl fmt::Display for GameFault {
     ghost output = { λ fault. Some (text_of fault) };
 
     fn fmt<W: fmt::Write>(&self, f: &mut fmt::Formatter<W>) -> fmt::Result {
-        match *self {
-            GameFault::Read => f.write_str("the game file cannot be read"),
-            GameFault::TooLong => f.write_str("the game file is longer than 65536 bytes"),
-            GameFault::Text => f.write_str("the game file is not TOML"),
-            GameFault::UnknownKey => f.write_str("unknown key"),
-            GameFault::Title => f.write_str("bad title"),
-            GameFault::Quota => f.write_str("bad quota"),
-            GameFault::Members => f.write_str("bad member list"),
-            GameFault::Name { member } => write!(f, "bad name of member {member}"),
-            GameFault::SameName { member } => write!(f, "member {member} repeats a name"),
-            GameFault::Weight { member } => write!(f, "bad weight of member {member}"),
-            GameFault::QuotaRange => f.write_str("quota out of range"),
-            GameFault::Bracket => f.write_str("bad bracket text"),
-            GameFault::Rules => f.write_str("bad rules"),
-            GameFault::Memory => f.write_str("out of memory"),
-            GameFault::Ways => f.write_str("bad ways"),
-        }
+        f.write_str(self.text().as_str())
     }
 }
 

@@ -35,7 +35,7 @@ mod winning;
 
 pub use checks::is_title;
 pub use coalition::Coalition;
-pub use fault::GameFault;
+pub use fault::{GameFault, short_text};
 pub use game::{Game, copy_title};
 pub use gate::{Gate, INFORM_EVERY, NoGate};
 pub use memory::{Memory, list_from_fn};

@@ -1,5 +1,6 @@
 -- Which numbers a report shows.
-use Rattle.std.specs.Prelude.{ℕ, List, Bool, Option, None, ⊤}
+use Rattle.std.specs.Prelude.{ℕ, ◌<◌, List, Bool, Option, None, length}
+use Rattle.council_game.specs.declared.limits.TheConstants.{PLAIN_MEMBERS}
 use Rattle.council_game.specs.declared.plan.Plan.{Plan}
 use Rattle.council_game.specs.declared.report_lines.ReportLines.{ReportLines}
 use Rattle.council_game.specs.Game.{GameView}
@@ -21,8 +22,8 @@ limit_with columns.Minimal plan most many = limit_of plan most many
 limit_with columns.Both plan most many = limit_of plan most many
 limit_with columns.Swings plan most many = None
 
--- swings are shown
-abbrev pub ShowsSwings : Columns → Type 0
-ShowsSwings columns.Minimal = ⊥
-ShowsSwings columns.Both = ⊤
-ShowsSwings columns.Swings = ⊤
+-- Swings are shown, of a game that may have too many states for them.
+abbrev pub MayHaveManyStates : Columns → GameView → Type 0
+MayHaveManyStates columns.Minimal g = ⊥
+MayHaveManyStates columns.Both g = PLAIN_MEMBERS < length g.names
+MayHaveManyStates columns.Swings g = PLAIN_MEMBERS < length g.names

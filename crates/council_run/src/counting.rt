@@ -1,6 +1,7 @@
 //! Counting the coalitions of a game, and keeping none: by states, or if these are too many, by
 //! worker threads.
-ghost use Rattle.std.specs.Prelude.{◌≡◌, ◌⊎◌, IfErr, IfOk, IfSome, None, false, unwrap_or};
+ghost use Rattle.std.specs.Prelude.{◌≡◌, ◌<◌, ◌⊎◌, IfErr, IfOk, IfSome, None, false, length, unwrap_or};
+ghost use Rattle.council_game.specs.declared.limits.TheConstants.{PLAIN_MEMBERS};
 ghost use Rattle.council_game.specs.declared.report_lines.ReportLines.{ReportLines};
 ghost use Rattle.council_run.specs.Run.{count_of};
 ghost use Rattle.council_run.specs.Found.{Finds, IsWorkersFault};
@@ -12,8 +13,9 @@ ghost use Rattle.council_game.specs.Game.{IsGame};
 
 use crate::fault::{Cause, RunFault};
 use crate::found::{Coalitions, Found};
+use crate::plain::plain_swings;
 use council_game::laws::places_do_not_matter;
-use council_game::{Game, Gate, Memory, NoGate, Options};
+use council_game::{Game, Gate, Memory, NoGate, Options, limits};
 use mwc_states::{count_by_states, count_swings};
 use mwc_tally::{TallyFault, tally};
 use power_index::laws::{places_change_no_count, places_change_no_swing};
@@ -80,15 +82,16 @@ pub fn number_by_states(alloc: Global, game: &Game) -> Result<Option<u64>, Memor
 ///
 /// # Errors
 ///
-/// Out of memory, or States if there are more than `MOST_STATES`.
+/// Out of memory; or States if there are more than 20 members and `MOST_STATES`.
 pub fn find_swings<G: Gate>(alloc: Global, game: &Game, gate: &G) -> Result<Swings, RunFault>
     ensures counts { IfOk result (λ swings. AreWinningCounts game.now swings) }
-    ensures fails { IfErr result (λ fault. ((fault.cause ≡ cause.Memory) ⊎ (fault.cause ≡ cause.States))
-        × (fault.written ≡ 0)) }
+    ensures fails { IfErr result (λ fault. ((fault.cause ≡ cause.Memory)
+        ⊎ (fault.cause ≡ cause.States) × (PLAIN_MEMBERS < length game.now.names)) × (fault.written ≡ 0)) }
 {
     let ordered = game.by_contribution(alloc)?;
     match count_swings(alloc, choose_game(game, &ordered), MOST_STATES, gate)? {
         Some(swings) => Ok(swings),
+        None if game.members() <= limits::PLAIN_MEMBERS => Ok(plain_swings(alloc, game)?),
         None => Err(RunFault::early(Cause::States)),
     }
 }

@@ -1,5 +1,6 @@
 //! Why a run stopped.
 ghost use Rattle.std.specs.Prelude.{◌≡◌, ℕ, Some};
+ghost use Rattle.std.specs.Fmt.InlineText.{inline_text};
 ghost use Rattle.council_report.specs.declared.fault.ReportFault.TheVariants as report;
 ghost use Rattle.mwc_gather.specs.declared.fault.GatherFault.TheVariants as gather;
 ghost use Rattle.mwc_tally.specs.declared.fault.TallyFault.TheVariants as tally;
@@ -7,11 +8,12 @@ ghost use Rattle.council_run.specs.declared.fault.Cause.TheVariants as cause;
 ghost use Rattle.council_run.specs.Plans.{is_cause_many};
 ghost use Rattle.council_run.specs.Status.{number_of, status_of, text_of};
 
-use council_game::{GameFault, Memory};
+use council_game::{GameFault, Memory, short_text};
 use council_report::ReportFault;
 use mwc_gather::GatherFault;
 use mwc_tally::TallyFault;
 use std::fmt;
+use std::fmt::InlineText;
 use thiserror::Error;
 
 /// Why a run stopped.
@@ -50,6 +52,19 @@ impl Cause {
             Cause::States => 5,
         }
     }
+
+    /// Returns the text of the cause.
+    pub fn text(self) -> InlineText<100>
+        ensures { inline_text result ≡ text_of self }
+    {
+        match self {
+            Cause::Game(fault) => fault.text(),
+            Cause::Gather(fault) => fault.text(),
+            Cause::Write => short_text("output failed"),
+            Cause::Memory => short_text("out of memory"),
+            Cause::States => short_text("too many states for the swings"),
+        }
+    }
 }
 
 /// The text of each cause. (By hand: docs/DECISIONS.md says why.)
@@ -57,13 +72,7 @@ impl fmt::Display for Cause {
     ghost output = { λ cause. Some (text_of cause) };
 
     fn fmt<W: fmt::Write>(&self, f: &mut fmt::Formatter<W>) -> fmt::Result {
-        match *self {
-            Cause::Game(fault) => fault.fmt(f),
-            Cause::Gather(fault) => fault.fmt(f),
-            Cause::Write => f.write_str("output failed"),
-            Cause::Memory => f.write_str("out of memory"),
-            Cause::States => f.write_str("too many states for the swings"),
-        }
+        f.write_str(self.text().as_str())
     }
 }
 

@@ -14,6 +14,7 @@ mod findings;
 mod found;
 pub mod laws;
 mod listing;
+mod plain;
 mod runs;
 
 pub use columns::Columns;

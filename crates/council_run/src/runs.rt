@@ -5,7 +5,7 @@ ghost use Rattle.council_game.specs.declared.report_lines.ReportLines.{ReportLin
 ghost use Rattle.council_file.specs.Reads.{Reads};
 ghost use Rattle.council_report.specs.Outcome.{Writes};
 ghost use Rattle.council_report.specs.Report.{report};
-ghost use Rattle.council_run.specs.Columns.{ShowsSwings, limit_with, report_of};
+ghost use Rattle.council_run.specs.Columns.{MayHaveManyStates, limit_with, report_of};
 ghost use Rattle.council_run.specs.Shared.Finding.{FindsAll};
 ghost use Rattle.council_run.specs.Found.{Finds, GatherFaultIs, IsWorkersFault};
 ghost use Rattle.council_run.specs.Plans.{is_too_many, limit_of, lines_of_plan};
@@ -148,7 +148,7 @@ pub fn report_game<T: Threads + Wait + Sync, W: Sink, G: Gate + Sync>(
         (λ text. Writes W.held W.is_write W.is_flush text writer.old writer.new)
         (writer.new ≡ writer.old) result }
     ensures threads { plan ≡ plans.Count → GatherFaultIs gather.Start result }
-    ensures states { IfErr result (λ fault. fault.cause ≡ cause.States → ShowsSwings columns) }
+    ensures states { IfErr result (λ fault. fault.cause ≡ cause.States → MayHaveManyStates columns game.now) }
 {
     let found = find_all(rt, alloc, game, options, gate, plan, columns)?;
     gate.finish();

@@ -1,5 +1,6 @@
 //! What the program says on standard error, beside its progress.
 ghost use Rattle.std.specs.Prelude.{◌↔◌, ◌≡◌, IsSome, true};
+ghost use Rattle.std.specs.Process.{exit_status};
 ghost use Rattle.council_game.specs.Game.{has_low_quotas};
 
 use crate::words::Arguments;
@@ -29,7 +30,9 @@ pub fn report_unopened(
     arguments: &Arguments<'_>,
     is_terminal: bool,
     error: io::Error,
-) -> ExitCode {
+) -> ExitCode
+    ensures { exit_status result ≡ 1 }
+{
     say(rt, "the game file cannot be opened");
     if arguments.explain {
         let path = sanitize(arguments.file.unwrap_or(""), LONGEST_PATH);

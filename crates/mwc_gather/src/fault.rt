@@ -1,11 +1,14 @@
 //! Why nothing was gathered.
 ghost use Rattle.std.specs.Prelude.{◌≡◌, Some};
+ghost use Rattle.std.specs.Fmt.InlineText.{inline_text};
 ghost use Rattle.mwc_gather.specs.Faults.{text_of};
 ghost use Rattle.mwc_gather.specs.Inner.Fault.{first_of};
 ghost use Rattle.mwc_gather.specs.declared.fault.GatherFault.TheVariants.{Memory};
 
+use council_game::short_text;
 use std::alloc::AllocError;
 use std::fmt;
+use std::fmt::InlineText;
 use thiserror::Error;
 
 /// Why nothing was gathered.
@@ -23,17 +26,26 @@ pub enum GatherFault {
     Ring,
 }
 
+impl GatherFault {
+    /// Returns the text of the fault.
+    pub fn text(self) -> InlineText<100>
+        ensures { inline_text result ≡ text_of self }
+    {
+        match self {
+            GatherFault::TooMany => short_text("too many minimal winning coalitions"),
+            GatherFault::Start => short_text("a worker could not be started"),
+            GatherFault::Memory => short_text("out of memory"),
+            GatherFault::Ring => short_text("a ring could not be finished"),
+        }
+    }
+}
+
 /// The text of each fault. (By hand: docs/DECISIONS.md says why.)
 impl fmt::Display for GatherFault {
     ghost output = { λ fault. Some (text_of fault) };
 
     fn fmt<W: fmt::Write>(&self, f: &mut fmt::Formatter<W>) -> fmt::Result {
-        match *self {
-            GatherFault::TooMany => f.write_str("too many minimal winning coalitions"),
-            GatherFault::Start => f.write_str("a worker could not be started"),
-            GatherFault::Memory => f.write_str("out of memory"),
-            GatherFault::Ring => f.write_str("a ring could not be finished"),
-        }
+        f.write_str(self.text().as_str())
     }
 }
 

@@ -25,6 +25,8 @@ pub(crate) struct Watch {
     short: AtomicU64,
     /// The calls of `inform` before the first pass.
     early: AtomicU64,
+    /// How many members were decided, in all counts by states.
+    decided: AtomicU64,
 }
 
 impl Watch {
@@ -49,12 +51,18 @@ impl Watch {
             most: AtomicU64::new(0),
             short: AtomicU64::new(0),
             early: AtomicU64::new(0),
+            decided: AtomicU64::new(0),
         }
     }
 
     /// Returns how many passes there were.
     pub(crate) fn passes(&self) -> u64 {
         self.passes.load(Ordering::SeqCst)
+    }
+
+    /// Returns how many members were decided.
+    pub(crate) fn decided(&self) -> u64 {
+        self.decided.load(Ordering::SeqCst)
     }
 
     /// Returns how often a slice passed.
@@ -144,5 +152,9 @@ impl Gate for Watch {
             .fetch_add(u64::from(most < INFORM_EVERY), Ordering::SeqCst);
         self.early
             .fetch_add(u64::from(self.passes() == 0), Ordering::SeqCst);
+    }
+
+    fn decide(&self, _decided: u8, _members: u8) {
+        self.decided.fetch_add(1, Ordering::SeqCst);
     }
 }

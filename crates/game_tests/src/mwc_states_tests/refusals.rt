@@ -2,7 +2,7 @@
 //! `call` and the line of the answer.
 use crate::helpers::{assert_same, game_of_rules, print_line};
 use council_game::NoGate;
-use mwc_states::count_by_states;
+use mwc_states::{count_by_states, count_swings};
 use std::alloc::Global;
 use std::io::Print;
 use std::process::Abort;
@@ -42,9 +42,24 @@ fn counts_under_three_rules(rt: HostRuntime) {
     counts(&rt, rt.alloc(), &rules, 154);
 }
 
+/// The swings of this game take 1,608 states, by a plain program that tells two prefixes apart if
+/// not the same later sets complete them. There are 232,902 winning coalitions.
 #[test]
-fn a_game_of_more_states_is_not_counted(rt: HostRuntime) {
-    let game = game_of_rules(&rt, rt.alloc(), &[(3, &[2, 1, 1])]);
-    let counts = count_by_states(rt.alloc(), &game, 0, &NoGate).expect(&rt, "an answer");
-    assert!(rt; counts.is_none());
+fn games_that_fit_the_room_are_counted(rt: HostRuntime) {
+    let weights: &[u64] = &[
+        599, 44999, 32612, 21105, 10061, 33742, 40318, 9222, 36354, 39607, 21434, 34736, 49331,
+        29827, 8841, 7779, 59203, 49320, 29002, 12503,
+    ];
+    let game = game_of_rules(&rt, rt.alloc(), &[(342_357, weights)]);
+    for (room, wanted) in [
+        (0, None),
+        (1_607, None),
+        (2_000, Some(232_902)),
+        (4_000, Some(232_902)),
+        (8_000, Some(232_902)),
+    ] {
+        let swings = count_swings(rt.alloc(), &game, room, &NoGate).expect(&rt, "memory");
+        let winning = swings.map(|swings| swings.winning());
+        assert_same(&rt, winning, wanted, room);
+    }
 }

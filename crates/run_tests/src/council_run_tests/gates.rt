@@ -5,7 +5,8 @@ ghost use Rattle.council_game.specs.declared.limits.TheConstants.{BITS, WORKERS}
 use super::*;
 use crate::helpers::game_of_rules;
 use crate::watch::Watch;
-use council_run::count_by_threads;
+use council_game::Plan;
+use council_run::{Columns, count_by_threads, report_game};
 
 /// Runs on the file, and looks whether each of `slices` slices passed once, no other did, and each
 /// worker passed the slice of its own number, as far as there are slices.
@@ -57,4 +58,26 @@ fn a_tally_has_its_threads_and_slices(rt: HostRuntime) {
     assert!(rt; counts.is_ok());
     let found = (watch.has_each_once(256), watch.workers());
     assert_same(&rt, found, (true, 65_535), "slices, workers");
+}
+
+/// A count by states decides each of 12 members once; a list has two slices.
+#[test]
+fn only_what_is_shown_is_begun(rt: HostRuntime) {
+    let (alloc, options) = (rt.alloc(), options(2, 1));
+    let game = game_of_rules(&rt, alloc, &[(7, &[1; 12])]);
+    for (plan, columns, wanted) in [
+        (Plan::List, Columns::Minimal, (0, 2)),
+        (Plan::Count, Columns::Minimal, (12, 0)),
+        (Plan::List, Columns::Both, (12, 2)),
+        (Plan::Count, Columns::Both, (24, 0)),
+        (Plan::Either, Columns::Swings, (12, 0)),
+    ] {
+        let (watch, mut text) = (Watch::new(), Vec::new(alloc));
+        let answer = report_game(
+            &rt, alloc, &game, &options, &watch, &mut text, plan, columns,
+        );
+        assert!(rt; answer.is_ok());
+        let found = (watch.decided(), watch.passes());
+        assert_same(&rt, found, wanted, "members, slices");
+    }
 }
