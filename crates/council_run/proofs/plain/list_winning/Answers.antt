@@ -12,9 +12,9 @@ loop-mask-init c = grind (arith, nat_tests, one_shl, pow-le-pow_right)
 pub loop-mask-preserved-in-Continue-1 : goal.loop-mask-preserved-in-Continue-1
 loop-mask-preserved-in-Continue-1 c = record {
   range = omega (arith, c.loop-mask.invariant.range);
-  done = more (wins (votes_of c.args.game.now).rules) _ _ _ _ _ c.loop-mask-test.true c.of_mask-coalition.ensures
+  done = more (wins (votes_of c.args.game.now)) _ _ _ _ _ c.loop-mask-test.true c.of_mask-coalition.ensures
       (sym c.wins.ensures ∙ c.if-wins.true) c.in_ok-push.ensures.items c.loop-mask.invariant.done;
 }
 
 pub returns : goal.returns
-returns c = filled (wins (votes_of c.args.game.now).rules) _ _ _ (omega arith) c.loop-mask.invariant.done
+returns c = filled (wins (votes_of c.args.game.now)) _ _ _ (omega arith) c.loop-mask.invariant.done

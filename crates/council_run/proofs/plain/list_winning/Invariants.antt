@@ -6,5 +6,5 @@ use Rattle.council_run.proofs.plain.list_winning.Given as goal
 abbrev pub invariant-loop-mask : goal.invariant-loop-mask
 invariant-loop-mask l = record {
   range : l.mask ≤ 2 ^ 20;
-  done : l.list.items ++ filter (wins (votes_of l.game).rules) (down l.mask) ≡ winning_coalitions l.game;
+  done : l.list.items ++ filter (wins (votes_of l.game)) (down l.mask) ≡ winning_coalitions l.game;
 }
