@@ -119,8 +119,9 @@ pub fn higher_quotas_keep_vetoers()
 
 /// No two disjoint coalitions win if each two ways share a high quota.
 ///
-/// That is, a rule whose quota is above half of its total. Such a game is proper (Felsenthal and Machover 1998). In a game of one way some rule has such a
-/// quota exactly if `Game::has_low_quotas` returns false.
+/// That is, a rule whose quota is above half of its total. Such a game is proper (Felsenthal and
+/// Machover 1998). A game of one way has such a rule exactly if `Game::has_low_quotas` returns
+/// false.
 pub fn high_quotas_make_games_proper()
     ensures ways { (g : GameView) → IsGame g → have_high_rules g ≡ true → IsProper g }
     ensures one { (g : GameView) → IsGame g → length g.ways ≡ 1 → has_low_quotas g ≡ false → IsProper g }
