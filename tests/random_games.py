@@ -3,16 +3,15 @@
 
     random_games.py PROGRAM COUNT SEED
 
-makes COUNT games of up to 12 members and COUNT of up to 20, with 1 to 4 rules, from SEED, and as many statutes: of chambers,
-heads and members that can veto, as sums count them, wholly or in part; half of those of several rules have ways.
-COUNT games of up to 10 members have ways wherever their rules allow it. Of these and of the first it
-tries every subset, and compares the walk and the swings of tests/oracle.py with that, and what PROGRAM
-prints with --swings and --only-swings with its report; of all it compares what
-PROGRAM prints, with any options, workers and bits, with the report of tests/oracle.py, and likewise what it
-prints with --tally. Of COUNT more games of up to 24 members, and of 300 games with few kinds of
-members, it compares what is printed with --tally and without. Of COUNT / 2 games it compares the
-lists in every order of their rules, with their ways in any order. Some lists are longer than the block of 64 KiB that a report goes
-out by. Prints a line `ok NAME` or `FAILED NAME: why` for each kind.
+makes COUNT games of up to 12 members and COUNT of up to 20, with 1 to 4 rules, from SEED, and as many statutes: of
+chambers, heads and members that can veto, as sums count them, wholly or in part; half of those of several rules have
+ways. COUNT games of up to 10 members have 1 to 6 ways. Of these and of the first it tries every subset, and compares
+the walk and the swings of tests/oracle.py with that, and what PROGRAM prints with --swings and --only-swings with its
+report; of all it compares what PROGRAM prints, with any options, workers and bits, with the report of tests/oracle.py,
+and likewise what it prints with --tally. Of COUNT more games of up to 24 members, and of 300 games with few kinds of
+members, it compares what is printed with --tally and without. Of COUNT / 2 games it compares the lists in every order
+of their rules, with their ways in any order. Some lists are longer than the block of 64 KiB that a report goes out by.
+Prints a line `ok NAME` or `FAILED NAME: why` for each kind.
 """
 import functools
 import itertools
@@ -69,20 +68,19 @@ def named(rng, rules):
     return oracle.Game(rng.choice([None, "", "A title", "日本"]), names, rules, ways)
 
 
-def random_game(rng, most_members):
+def random_game(rng, most_members, numbers=(1, 1, 1, 2, 2, 3, 4)):
     members = rng.randint(1, most_members)
     rules = []
-    for _ in range(rng.choice([1, 1, 1, 2, 2, 3, 4])):
+    for _ in range(rng.choice(numbers)):
         weights = weights_of(rng, members)
         rules.append((quota_of(rng, weights), weights))
     return named(rng, rules)
 
 
 def game_of_ways(rng, most_members):
-    """A game of few members; of several ways, if there are two rules or more."""
-    game = random_game(rng, most_members)
-    while len(game.rules) > 1 and len(game.ways) == 1:
-        game.ways = ways_of(rng, len(game.rules))
+    """A game of 1 to 4 rules, as often of each number, with ways."""
+    game = random_game(rng, most_members, (1, 2, 3, 4))
+    game.ways = ways_of(rng, len(game.rules))
     return game
 
 
@@ -163,7 +161,7 @@ def file_of(game):
     one = len(game.rules) == 1
     quotas = [quota for quota, _ in game.rules]
     lines.append(f"quota = {quotas[0]}" if one else f"quotas = {quotas}")
-    if len(game.ways) > 1:
+    if game.ways != [[*range(len(quotas))]]:
         lines.append(f"ways = {[[r + 1 for r in way] for way in game.ways]}")
     for i, name in enumerate(game.names):
         weights = [of[i] for _, of in game.rules]
