@@ -12,6 +12,7 @@ _council_tools() {
     from-table:--source) return ;;
     from-table:--name) return ;;
     from-table:--weight) return ;;
+    from-table:--ways) return ;;
     from-table:--heading) return ;;
     from-table:--rows) return ;;
     from-table:--drop) return ;;
@@ -42,7 +43,7 @@ _council_tools() {
     esac
     if [[ -z $words && $word == -* ]]; then
         case ${COMP_WORDS[1]} in
-        from-table) words="--help --title --source --name --weight --heading --no-heading --rows --drop --member --only --strict --all-rows --sum --of --round --blank --decimal --encoding --quiet" ;;
+        from-table) words="--help --title --source --name --weight --ways --heading --no-heading --rows --drop --member --only --strict --all-rows --sum --of --round --blank --decimal --encoding --quiet" ;;
         table) words="--help --index" ;;
         export) words="--help --index --columns --decimals --decimal --game --mark" ;;
         page) words="--help --game --index --source --program" ;;

@@ -12,6 +12,7 @@ complete -c council-tools -n '__fish_seen_subcommand_from from-table' -l title -
 complete -c council-tools -n '__fish_seen_subcommand_from from-table' -l source -x -d 'where the table comes from, for a comment'
 complete -c council-tools -n '__fish_seen_subcommand_from from-table' -l name -x -d 'the column of the names, if several may have them'
 complete -c council-tools -n '__fish_seen_subcommand_from from-table' -l weight -x -d 'a column of weights, once a quota; yes and no are 1 and 0'
+complete -c council-tools -n '__fish_seen_subcommand_from from-table' -l ways -x -d 'rules joined by or: '\''1,2 3'\'' is rules 1 and 2, or rule 3; else all rules'
 complete -c council-tools -n '__fish_seen_subcommand_from from-table' -l heading -x -d 'the line of the headings; else the first'
 complete -c council-tools -n '__fish_seen_subcommand_from from-table' -l no-heading -d 'no line has headings'
 complete -c council-tools -n '__fish_seen_subcommand_from from-table' -l rows -x -d 'the lines of the members; else all below the heading'

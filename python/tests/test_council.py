@@ -227,7 +227,7 @@ class Reports(unittest.TestCase):
             self.assertEqual(pickle.loads(pickle.dumps(bad)).rule, rule)
 
     def test_words_that_are_no_game(self):
-        ways, parts, belong = "give a quota and weights, or a file, or a game", "give a quota and weights", "names, a title and by= belong to a quota and weights"
+        ways, parts, belong = "give a quota and weights, or a file, or a game", "give a quota and weights", "names, a title, by= and ways= belong to a quota and weights"
         for words, more, text in [
             ((), {}, ways), ((51, [1]), {"file": "x"}, ways), ((51,), {"file": "x"}, ways), ((None, [1]), {"file": "x"}, ways), ((), {"file": "x", "game": "y"}, ways),
             ((51,), {}, parts), ((None, [1]), {}, parts), ((), {"game": "[1; 1]", "names": ["A"]}, belong), ((), {"game": "[1; 1]", "title": "T"}, belong), ((), {"file": "x", "names": []}, belong),

@@ -27,6 +27,7 @@ from .game import GAME_FILE, NAME, TITLE, describe_low_quotas, find_slips, forma
 from .library import NoAnswer
 from .members import Coalition, Member
 from .reports import MOST, Report
+from .ways import Ways
 
 __all__ = ["Coalition", "Member", "NotFound", "Refused", "Report", "TooMany", "format_game_file", "report"]
 __version__ = "1.2.0"
@@ -41,6 +42,7 @@ def report(
     names: Optional[Iterable[object]] = None,
     title: str = "",
     by: Optional[str] = None,
+    ways: Optional[Ways] = None,
     file: Union[str, "os.PathLike[str]", None] = None,
     game: Union[str, bytes, None] = None,
     coalitions: bool = False,
@@ -57,7 +59,9 @@ def report(
       `report([5, 3], [[3, 2, 2, 1], [1, 1, 1, 1]])`. A list for each member, or an array, is taken
       too if it can be told apart; of a square table `by="rule"` or `by="member"` says which it is.
       A DataFrame has a row for each member. Without names, members have those of its index or of a
-      Series, if these are texts; else 1, 2, ..
+      Series, if these are texts; else 1, 2, .. A coalition wins if it meets all rules; `ways` joins
+      rules by "or", up to six lists of rules counted from 1: by `ways=[[1, 2], [3]]` it wins if it
+      meets rules 1 and 2, or rule 3.
     - `file`: the path of a game file.
     - `game`: the text of a game file, or a text such as "[51; 50, 49, 1]".
 
@@ -86,42 +90,42 @@ def report(
         raise ValueError("only_swings=True goes without swings=True and coalitions=True")
     only = bool(only_swings) if swings or only_swings else None
     if given[0]:
-        made, text = compute_parts(title, *read_parts(quota, weights, names, by), coalitions, most, only), ""
+        made, text = compute_parts(title, *read_parts(quota, weights, names, by), read_lists(ways), coalitions, most, only), ""
     else:
-        if names is not None or title or by is not None:
-            raise TypeError("names, a title and by= belong to a quota and weights")
+        if names is not None or title or by is not None or ways is not None:
+            raise TypeError("names, a title, by= and ways= belong to a quota and weights")
         if file is not None:
             with open(file, "rb") as source:
                 # (no more of it than shows that it is too long)
                 game = source.read(GAME_FILE + 1)
         data = game if isinstance(game, bytes) else str(game).encode("utf-8", "surrogatepass")
         made, text = compute(data, listed=coalitions, most=most, only=only), data.decode()
-    low = describe_low_quotas(made.quotas, made.totals)
-    for it in find_slips(text) + (low if len(low) == len(made.quotas) else []):
+    low = describe_low_quotas(made.quotas, made.totals, made.ways)
+    for it in find_slips(text) + [it for it in low if it.endswith("could win")]:
         warnings.warn(it, stacklevel=2)
     return made
 
 
-def compute_parts(title: str, names: list[str], quotas: list[str], columns: list[list[str]], listed: bool, most: int, only: Optional[bool]) -> Report:
+def compute_parts(title: str, names: list[str], quotas: list[str], columns: list[list[str]], ways: Optional[Ways], listed: bool, most: int, only: Optional[bool]) -> Report:
     """Returns the report of a game from its parts: by the library, if it takes them as numbers."""
     library, rule = find_library(), None
-    if library and not only and is_plain(names, [quotas, *columns], title):
+    if library and not only and ways is None and is_plain(names, [quotas, *columns], title):
         try:
             return compute_numbers(library, title, names, list(map(int, quotas)), [list(map(int, its)) for its in columns], only is not None, most if listed else 0)
         except NoAnswer as it:
             rule = it.rule
     try:
-        return compute(format_game(names, quotas, zip(*columns), title).encode(), listed=listed, most=most, only=only)
+        return compute(format_game(names, quotas, zip(*columns), title, ways=ways).encode(), listed=listed, most=most, only=only)
     except Refused as fault:
         # values that were never a file have no lines
         told = re.sub(r"(?m)^line \d+(, column \d+)?: |: each member begins .*", "", fault.explanation).replace("the file has", "the game has")
         raise type(fault)(fault.status, fault.fault, told, fault.game, rule) from None
 
 
-def format_game_file(quota: Any, weights: Any, *, names: Optional[Iterable[object]] = None, title: str = "", by: Optional[str] = None) -> str:
+def format_game_file(quota: Any, weights: Any, *, names: Optional[Iterable[object]] = None, title: str = "", by: Optional[str] = None, ways: Optional[Ways] = None) -> str:
     """Returns the text of the game file of a quota and weights, as `report` takes them."""
     called, quotas, columns = read_parts(quota, weights, names, by)
-    return format_game(called, quotas, zip(*columns), title)
+    return format_game(called, quotas, zip(*columns), title, ways=read_lists(ways))
 
 
 def is_plain(names: list[str], texts: list[list[str]], title: str) -> bool:
@@ -156,6 +160,14 @@ def read_parts(quota: Any, weights: Any, names: Optional[Iterable[object]], by: 
     if len(called) != members:
         raise ValueError(f"there are {members} weights, and {len(called)} names")
     return called, quotas, columns
+
+
+def read_lists(ways: Optional[Ways]) -> Optional[Ways]:
+    """Returns ways with whole numbers; council says what is wrong with these."""
+    try:
+        return None if ways is None else [[operator.index(rule) for rule in it] for it in ways]
+    except TypeError:
+        raise TypeError(f"ways are lists of rules, as [[1, 2], [3]], and not {ways!r}") from None
 
 
 def turn(table: list[list[str]], rules: int, by: Optional[str]) -> list[list[str]]:

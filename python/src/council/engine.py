@@ -63,6 +63,12 @@ def compute(game: bytes, *, listed: bool = False, most: int = MOST, program: Opt
     if status:
         raise (TooMany if status in (4, 6) else Refused)(status, text, told, game.decode("utf-8", "replace"))
     made = Report.from_text(text)
+    if library and listed and len(made.ways) > 1:
+        # (arrays hold no ways)
+        status, text = library.report(game, Options(most=most, list=True), only)
+        if status:
+            raise MemoryError(text)
+        return Report.from_text(text)
     if library and listed:
         try:
             masks = library.list_masks(made.quotas, list(zip(*(it.weights for it in made.members))), made.minimal or 0)

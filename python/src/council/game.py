@@ -4,9 +4,10 @@ from __future__ import annotations
 import itertools
 import re
 import sys
-from typing import Any, Callable, Iterable, Sequence
+from typing import Any, Callable, Iterable, Optional, Sequence
 
 from .reports import Fault, Report
+from .ways import Ways, find_low
 
 MEMBERS, RULES, WEIGHT, NAME, TITLE, GAME_FILE = 40, 4, 10**12, 64, 200, 65536
 
@@ -31,24 +32,26 @@ def quote_for_shell(text: str) -> str:
     return "$'" + text.translate(codes) + "'"
 
 
-def write_game(names: Sequence[str], quotas: Sequence[int], weights: Iterable[Sequence[int]], title: str = "", comments: Iterable[str] = ()) -> str:
-    """Returns a game file, as `format_game` does. No member or too many, and a title that a game
+def write_game(names: Sequence[str], quotas: Sequence[int], weights: Iterable[Sequence[int]], title: str = "", comments: Iterable[str] = (), ways: Ways = ()) -> str:
+    """Returns a game file, as `format_game` does, with ways if there are several. No member or too many, and a title that a game
     cannot have, are a Fault."""
     if not 1 <= len(names) <= MEMBERS:
         raise Fault(f"there are {len(names)} members, and a game has 1 to {MEMBERS}")
     if not is_text(title, TITLE):
         raise Fault(f"the title has more than {TITLE} bytes, or a character that cannot be read")
-    return format_game(names, quotas, weights, title, comments)
+    return format_game(names, quotas, weights, title, comments, ways if len(ways) > 1 else None)
 
 
-def format_game(names: Sequence[str], quotas: Sequence[object], weights: Iterable[Sequence[object]], title: str = "", comments: Iterable[str] = ()) -> str:
-    """Returns a game file, and checks nothing: the comments, one a line, the quota of each rule,
-    and for each member its name and its weight under each rule."""
+def format_game(names: Sequence[str], quotas: Sequence[object], weights: Iterable[Sequence[object]], title: str = "", comments: Iterable[str] = (), ways: Optional[Ways] = None) -> str:
+    """Returns a game file, and checks nothing: the comments, one a line, the quota of each rule, the
+    ways, and for each member its name and its weight under each rule."""
     parts = ["".join(f"# {it}\n" for it in comments)]
     if title:
         parts.append(f"title = {quote(title)}\n")
-    one = len(quotas) == 1
+    one = len(quotas) == 1 and ways is None
     parts.append(f"quota = {quotas[0]}\n" if one else f"quotas = [{', '.join(map(str, quotas))}]\n")
+    if ways is not None:
+        parts.append(f"ways = [{', '.join(str([*it]) for it in ways)}]\n")
     for name, its in zip(names, weights):
         parts.append(f"\n[[member]]\nname = {quote(name)}\n")
         parts.append(f"weight = {its[0]}\n" if one else f"weights = [{', '.join(map(str, its))}]\n")
@@ -110,12 +113,12 @@ def read_units(comments: Iterable[str], rules: int) -> list[Unit]:
     return units
 
 
-def describe_low_quotas(quotas: Sequence[int], totals: Sequence[int]) -> list[str]:
+def describe_low_quotas(quotas: Sequence[int], totals: Sequence[int], ways: Ways) -> list[str]:
     """Says which quotas are at most half of their totals: 0.85 that was read as one vote, or a
     game in which two coalitions without a common member both win."""
-    low = [(f" of rule {rule}" if len(quotas) > 1 else "", quota, total) for rule, (quota, total) in enumerate(zip(quotas, totals), 1) if 2 * quota <= total]
-    both = ", so two coalitions without a common member could win" if len(low) == len(quotas) else ""
-    return [f"the quota {quota:,}{of} is at most half of the total, {total:,}{both}" for of, quota, total in low]
+    both = dict.fromkeys(find_low(quotas, totals, ways), ", so two coalitions without a common member could win")
+    return [f"the quota {quota:,}{f' of rule {rule}' if len(quotas) > 1 else ''} is at most half of the total, {total:,}{both.get(rule, '')}"
+            for rule, (quota, total) in enumerate(zip(quotas, totals), 1) if 2 * quota <= total]
 
 
 def find_slips(text: str) -> list[str]:
@@ -218,8 +221,10 @@ def check_same(text: str, report: Report) -> None:
             game = read_game(text)
         names = [it["name"] for it in game["member"]]
         quotas = game["quotas"] if "quotas" in game else [game["quota"]]
+        ways = sorted(map(sorted, game.get("ways", [range(1, len(quotas) + 1)])))
         weights = [it["weights"] if "weights" in it else [it["weight"]] for it in game["member"]]
     except (ValueError, LookupError, TypeError, RecursionError):
         raise Fault("this is no game file") from None
-    if (names, quotas, weights) != ([it.name for it in report.members], list(report.quotas), [list(it.weights) for it in report.members]):
+    its = [it.name for it in report.members], list(report.quotas), report.sort_ways(), [list(it.weights) for it in report.members]
+    if (names, quotas, ways, weights) != its:
         raise Fault("this is not the game of the report")

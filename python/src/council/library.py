@@ -62,12 +62,15 @@ class Library:
         self._calls: Any = ctypes.CDLL(path)
 
     def report(self, game: bytes, options: Options, only: Optional[bool]) -> tuple[int, str]:
-        """Returns the status, and the report of a game file without a list or its fault. `only`
-        says whether nothing but swings is wanted, and is None if there are to be none."""
-        text, length = ctypes.create_string_buffer(ROOM), U64()
+        """Returns the status, and the report of a game file or its fault. `only` says whether nothing
+        but swings is wanted, and is None if there are to be none."""
+        room, length = 0, U64(ROOM)
         call, more = (self._calls.council_report, []) if only is None else (self._calls.council_swings_report, [c_bool(only)])
-        status = run_aside(call, game, Size(len(game)), byref(options), *more, text, Size(ROOM), byref(length))
-        return status, text.raw[: length.value].decode("utf-8")
+        while length.value > room:
+            room = length.value
+            text = ctypes.create_string_buffer(room)
+            status = run_aside(call, game, Size(len(game)), byref(options), *more, text, Size(room), byref(length))
+        return status, text[: length.value].decode("utf-8")
 
     def count(self, quotas: Sequence[int], columns: Sequence[Sequence[int]], swings: bool) -> tuple[Summary, Sequence[Numbers]]:
         """Returns the numbers of a game, and those of each member."""

@@ -11,6 +11,7 @@ from typing import Any, Callable, Iterable, Optional, Sequence, TypeVar
 from .columns import GROUPS, MINIMAL, SWINGS, Group
 from .decimals import read_numbers
 from .members import Coalition, Coalitions, Member, read_coalition, read_member
+from .ways import Ways, read_ways
 
 # the most coalitions that a report lists, and the characters that one of its lines may have
 MOST, LINE = 4_000_000, 1 << 16
@@ -29,17 +30,19 @@ class Fault(Exception):
 class Report:
     """A report of the indices of a game.
 
-    `title` is a text, `quotas` and `totals` have a number for each rule, `minimal` is the number of
-    minimal winning coalitions, `winning` that of all winning coalitions, and `members` are in the
-    order of the game. `coalitions` has the minimal ones. What was not asked for is None. With
-    swings there is `power_to_act`, Coleman's power of the body: the share of all coalitions that win.
+    `title` is a text, `quotas` and `totals` have a number for each rule, `ways` has the rules of each
+    way to win, counted from 1, `minimal` is the number of minimal winning coalitions, `winning` that
+    of all winning coalitions, and `members` are in the order of the game. `coalitions` has the
+    minimal ones. What was not asked for is None. With swings there is `power_to_act`, Coleman's power
+    of the body: the share of all coalitions that win.
     """
 
     power_to_act: Fraction
 
-    def __init__(self, title: str, quotas: Sequence[int], counts: dict[Group, int], members: Sequence[Member], listed: int = 0):
+    def __init__(self, title: str, quotas: Sequence[int], counts: dict[Group, int], members: Sequence[Member], listed: int = 0, ways: Ways = ()):
         self.title, self.quotas, self.members = title, tuple(quotas), list(members)
         self.totals: tuple[int, ...] = tuple(map(sum, zip(*(it.weights for it in members))))
+        self.ways = [list(it) for it in ways or [range(1, len(self.quotas) + 1)]]
         # the groups of columns and the indices that it has
         self.groups = list(counts)
         self.indices = [index for it in counts for index in it.indices]
@@ -73,7 +76,7 @@ class Report:
                         take(it)
                 elif kind == "member" and len(members) < 40:
                     members.append(read_member([it for it in GROUPS if it.line in one], *fields))
-                elif kind in ("title", "members", "quota", "total", *(it.line for it in GROUPS)):
+                elif kind in ("title", "members", "quota", "total", "ways", *(it.line for it in GROUPS)):
                     (one[kind],) = fields
                 elif kind not in ("notation", "size"):
                     raise ValueError(kind)
@@ -81,7 +84,9 @@ class Report:
                 raise Fault(f"line {at} is no line of a report of council") from None
         with suppress(ArithmeticError, AttributeError, KeyError, ValueError):
             counts = {it: int(one[it.line]) for it in GROUPS if it.line in one}
-            made = cls(one.get("title", ""), read_numbers(one["quota"]), counts, members, listed)
+            quotas = read_numbers(one["quota"])
+            ways = read_ways(one["ways"], len(quotas)) if "ways" in one else ()
+            made = cls(one.get("title", ""), quotas, counts, members, listed, ways)
             is_whole = int(one["members"]) == len(members) and read_numbers(one["total"]) == made.totals and listed <= counts.get(MINIMAL, 0)
             if counts and is_whole and all(len(it.weights) == len(made.quotas) and hasattr(it, group.column) for it in members for group in counts):
                 return made
@@ -103,6 +108,10 @@ class Report:
     def count_coalitions(self) -> list[tuple[str, int]]:
         """Returns of which coalitions the report has the number, and these numbers."""
         return [(it.what, getattr(self, it.line)) for it in self.groups]
+
+    def sort_ways(self) -> list[list[int]]:
+        """Returns the ways in an order that is the same for all reports by the same ways."""
+        return sorted(map(sorted, self.ways))
 
     def heading(self) -> str:
         """Returns the heading of a table or a picture: the title, unless it is blank."""

@@ -16,6 +16,7 @@ from ..engine import Refused
 from ..finding import NotFound
 from ..game import GAME_FILE, Unit, check_same, describe_low_quotas, find_comments, find_slips, quote, quote_for_shell, read_units
 from ..reports import Fault, Report
+from ..ways import Ways, describe_ways, read_ways
 
 # the name of the tool that runs
 NAME = ["council-tools"]
@@ -171,10 +172,21 @@ def wrap_items(its: Iterable[str]) -> list[str]:
     return ["  " + it.replace("\0", " ") for it in lines]
 
 
-def warn_of_low_quotas(quotas: Sequence[int], totals: Sequence[int]) -> None:
+def warn_of_low_quotas(quotas: Sequence[int], totals: Sequence[int], ways: Ways) -> None:
     """Warns of each quota that is at most half of its total, as `describe_low_quotas` does."""
-    for it in describe_low_quotas(quotas, totals):
+    for it in describe_low_quotas(quotas, totals, ways):
         note(it)
+
+
+def choose_ways(text: Optional[str], rules: int) -> tuple[Ways, list[str]]:
+    """Returns the ways of --ways, and what to say of them; without it one of all rules, and nothing."""
+    if text is None:
+        return [range(1, rules + 1)], []
+    try:
+        ways = read_ways(text, rules)
+    except ValueError as it:
+        raise Fault(f"--ways {quote_for_shell(cut(text))}: {it}", 2) from None
+    return ways, [f"A motion passes {describe_ways(ways)}"]
 
 
 def read_lines(path: str, make: Callable[[TextIO], T]) -> T:
@@ -209,5 +221,5 @@ def read_comments(path: Optional[str], report: Report) -> tuple[list[str], list[
         return text
 
     comments = [] if path is None else find_comments(read_lines(path, make))
-    warn_of_low_quotas(report.quotas, report.totals)
+    warn_of_low_quotas(report.quotas, report.totals, report.ways)
     return comments, read_units(comments, len(report.quotas))

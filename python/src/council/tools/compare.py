@@ -7,7 +7,8 @@ the differences of these to the first. DP and PG are the Deegan-Packel and the p
 Banzhaf's, Pm Penrose's measure, and SS that of Shapley and Shubik. A dash means that a game does
 not have the member. Members are matched by their exact names. You are warned of two names that look
 alike if only one game has each of them: --same makes them one. With --game FILE, once for each
-report, weights are in the unit of their game file.
+report, weights are in the unit of their game file. If rules are joined by "or", each game has its ways
+to win, and you are warned if these differ.
 """
 from __future__ import annotations
 
@@ -22,6 +23,7 @@ from ..decimals import cut_off
 from ..game import Unit, quote, quote_for_shell
 from ..members import Member
 from ..reports import Fault, Report
+from ..ways import describe_ways
 from .command import MANY, Words, add_index, choose_indices, fold, make_printable, note, read_comments, read_report
 
 # the members of each game, by name
@@ -151,8 +153,13 @@ def main(args: list[str]) -> None:
         if not any(it.name in (first, other) for report in reports for it in report.members):
             raise Fault(f"--same {quote_for_shell(first)} {quote_for_shell(other)}: no report has one of them", 2)
     for at, it in enumerate(reports, 1):
-        print(f"{at}  {make_printable(it.heading())}: {write_weights(it.quotas, units[at - 1])} of {write_weights(it.totals, units[at - 1])}, {', '.join(f'{what}: {number:,}' for what, number in it.count_coalitions())}")
+        quotas = f"{write_weights(it.quotas, units[at - 1])} of {write_weights(it.totals, units[at - 1])}"
+        ways = f" ({describe_ways(it.ways)})" if len(it.ways) > 1 else ""
+        print(f"{at}  {make_printable(it.heading())}: {quotas}{ways}, {', '.join(f'{what}: {number:,}' for what, number in it.count_coalitions())}")
     print("indices and differences: six decimals, cut off\n")
     for line in write_table(games, units, indices):
         print(line)
+    for at, it in enumerate(reports[1:], 2):
+        if max(len(it.ways), len(reports[0].ways)) > 1 and it.sort_ways() != reports[0].sort_ways():
+            note(f"the ways differ: a motion passes in game 1 {describe_ways(reports[0].ways)}, and in game {at} {describe_ways(it.ways)}")
     warn(games)

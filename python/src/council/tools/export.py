@@ -205,7 +205,7 @@ def describe(report: Report, indices: Sequence[Index], places: Optional[int]) ->
     kinds = ["name", "weights", *(kind for it in report.groups for kind in it.columns(indices))]
     members = [{kind: find_value(it, kind) for kind in kinds} for it in report.members]
     numbers = {it.line: getattr(report, it.line) for it in report.groups}
-    return {"title": report.title or None, "quotas": report.quotas, "totals": report.totals, **numbers, "members": members}
+    return {"title": report.title or None, "quotas": report.quotas, "totals": report.totals, "ways": report.ways, **numbers, "members": members}
 
 
 def write_json(lines: Iterable[str], words: argparse.Namespace) -> None:
@@ -221,7 +221,7 @@ def write_json(lines: Iterable[str], words: argparse.Namespace) -> None:
 
     with tempfile.TemporaryFile("w+", encoding="utf-8", newline="", buffering=1 << 20) as coalitions:
         report = Report.read(lines, lambda it: coalitions.write(write_coalition(it)))
-        warn_of_low_quotas(report.quotas, report.totals)
+        warn_of_low_quotas(report.quotas, report.totals, report.ways)
         head = json.dumps(describe(report, choose_indices([report], words.index), words.decimals), indent=1, ensure_ascii=False)
         if report.listed:
             sys.stdout.write(head[: -len("\n}")] + ',\n "coalitions": [')

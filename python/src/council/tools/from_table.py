@@ -24,7 +24,7 @@ from typing import Any, Iterable, Iterator, Optional, Sequence
 
 from ..game import RULES, WEIGHT, quote, quote_for_shell, write_game, write_rule_comment
 from ..reports import Fault
-from .command import Words, cut, note, quote_all, warn_of_low_quotas, wrap_items, write_ranges
+from .command import Words, choose_ways, cut, note, quote_all, warn_of_low_quotas, wrap_items, write_ranges
 from .drawing import write_percent
 from .quotas import Number, Quota, count_decimals, find_sign, is_count, write_plain
 from .rows import MOST, Table, name_lines, read_rows, show, write_lines
@@ -206,6 +206,7 @@ def list_members(names: Sequence[str], rules: Sequence[Rule]) -> list[str]:
 
 def make_game(data: bytes, path: str, quotas: Sequence[Quota], words: Any, options: str) -> str:
     """Returns the game file of a table, and says what was read."""
+    ways, said = choose_ways(words.ways, len(quotas))
     table = Table(read_rows(data, words.encoding), words, sum(not it.heads for it in quotas))
     names, rows, given = table.find_names(), table.rows, [it.rpartition("=") for it in words.of or ()]
     # without weights, other numbers show which rows are no members
@@ -236,14 +237,14 @@ def make_game(data: bytes, path: str, quotas: Sequence[Quota], words: Any, optio
     source = [f"Source: {' '.join(words.source.split())}"] if words.source else []
     name = "" if path == "-" else f", {quote(path.split('/')[-1])}"
     first = f"From a table{name}, {name_lines(rows)}; {len(names)} member{'s' * (len(names) > 1)}"
-    comments = [first, *(it.comment for it in rules)]
+    comments = [first, *(it.comment for it in rules), *said]
     comments += [f"Added: {name_lines([rows[at] for at in its])}, {quote(it)}" for it, its in names.items() if its[1:]]
     comments += [f"Not read: {it}" for it in [name_left(table)] if it] + [f"Options: {options}"] * bool(options)
-    weights = zip(*(it.weights.values for it in rules))
-    text = write_game([*names], [it.least for it in rules], weights, words.title or "", [*source, *comments, *told])
+    least, weights = [it.least for it in rules], zip(*(it.weights.values for it in rules))
+    text = write_game([*names], least, weights, words.title or "", [*source, *comments, *told], ways)
     for it in [*([] if words.quiet else comments), *told]:
         note(it, wrap_items(list_members([*names], rules)) if it is first else [])
-    warn_of_low_quotas([it.least for it in rules], [it.weights.total for it in rules])
+    warn_of_low_quotas(least, [it.weights.total for it in rules], ways)
     return text
 
 
@@ -255,6 +256,7 @@ def main(args: list[str]) -> None:
     add("--source", metavar="TEXT", help="where the table comes from, for a comment")
     add("--name", metavar="COLUMN", help="the column of the names, if several may have them")
     add("--weight", metavar="COLUMN", action="append", help="a column of weights, once a quota; yes and no are 1 and 0")
+    add("--ways", metavar="WAYS", help="rules joined by or: '1,2 3' is rules 1 and 2, or rule 3; else all rules")
     first, second = reader.add_mutually_exclusive_group(), reader.add_mutually_exclusive_group()
     first.add_argument("--heading", metavar="LINE", nargs=1, help="the line of the headings; else the first")
     first.add_argument("--no-heading", action="store_true", help="no line has headings")

@@ -24,12 +24,13 @@ from ..finding import NotFound, find_program
 from ..game import Unit, write_game
 from ..members import Coalition
 from ..reports import Fault, Report
+from ..ways import find_low
 from .command import MANY, Words, add_index, choose_indices, read_comments, read_lines
 from .drawing import SHARES, escape_xml, name_share, write_quota
 
 MOST = 1000
 # comments that from_table.py writes, a line each; others are a text that may be wrapped
-ITEM = re.compile(r"(From a table(?: of|,)|Rule [1-4]:|Left out:|Not read:|Look at|Options:|Taken as members:|Added:|Source:) ?.*", re.I)
+ITEM = re.compile(r"(From a table(?: of|,)|Rule [1-4]:|Left out:|Not read:|Look at|Options:|Taken as members:|Added:|Source:|A motion passes) ?.*", re.I)
 LIGHT = "".join([f" --s{rule}: {light};" for rule, (light, _) in enumerate(SHARES)] + [f" --{it.word()}: {it.light};" for it in INDICES])
 DARK = "".join([f" --s{rule}: {dark};" for rule, (_, dark) in enumerate(SHARES)] + [f" --{it.word()}: {it.dark};" for it in INDICES])
 # (the fade of .wide has a cover that scrolls with the table, so it shows only if that is cut)
@@ -202,8 +203,9 @@ def write_quotas(report: Report, units: Sequence[Unit]) -> Iterator[str]:
         of = f" under rule {rule + 1}" if len(units) > 1 else ""
         of += f" ({write_name(unit.name)})" if unit.name else ""
         its.append(write_quota(report, units, rule) + of)
-    yield f"<p>A coalition wins with a weight of at least {' and '.join(its)}. Members: {len(report.members)}. {numbers}</p>"
-    if all(2 * quota <= total for quota, total in zip(report.quotas, report.totals)):
+    ways = ", or ".join(" and ".join(its[rule - 1] for rule in way) for way in report.ways)
+    yield f"<p>A coalition wins with a weight of at least {ways}. Members: {len(report.members)}. {numbers}</p>"
+    if find_low(report.quotas, report.totals, report.ways):
         yield "<p><b>At most half of the total wins, so two coalitions without a common member could win.</b></p>"
 
 
@@ -255,7 +257,7 @@ def write_section(report: Section, at: int, level: int) -> Iterator[str]:
     yield from write_comments(report.comments)
     option = "--only-swings" if report.minimal is None else "--tally" if report.winning is None else "--tally --swings"
     yield f"<h2>The game</h2><p>This file, put in as <code>council {option} FILE</code>, gives the numbers above again:</p>"
-    text = write_game([it.name for it in report.members], report.quotas, [it.weights for it in report.members], report.title, report.comments)
+    text = write_game([it.name for it in report.members], report.quotas, [it.weights for it in report.members], report.title, report.comments, report.ways)
     yield f"<details><summary>the game file</summary><pre>{escape_xml(text)}</pre></details></section>"
 
 

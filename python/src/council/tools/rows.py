@@ -171,8 +171,7 @@ class Table:
         texts = [at for at, its in enumerate(self.cells) if at not in taken and any(its)]
         # flats may have numbers for names
         texts = texts or [at for at in self.numbers[:1] if at not in self.weights and is_rising(self.cells[at])]
-        name = self.words.name
-        self.name = self.find_only("name", texts, 1)[0] if name is None else self.find_column(name)
+        self.name = self.find_only("name", texts, 1)[0] if (name := self.words.name) is None else self.find_column(name)
         if rules and not self.weights:
             self.weights = self.find_only("weight", [it for it in self.numbers if it != self.name], rules)
         if len(self.weights) != rules or len({self.name, *self.weights}) <= rules:
@@ -223,9 +222,8 @@ class Table:
         # a spreadsheet shows 123456789 as 1.23E+08; R and pandas write e+
         wrong = [row for row, it in zip(self.rows, numbers) if not it.values or "E+" in it.text]
         if wrong:
-            text, how = wrong[0].cells[at], "write one, or 0 for no weight"
+            text, how, is_heading = wrong[0].cells[at], "write one, or 0 for no weight", wrong[0] is self.find_heading()
             its = [it for it in wrong if it.cells[at] == text]
-            is_heading = its[0] is self.find_heading()
             how = "say --blank 0" if text in NONE else f"say --heading {its[0].line}" if is_heading else how
             what = f"{name_lines(its)}, column {at + 1}: {quote(cut(text))} is no number of at least 0, written in full"
             raise Fault(f"{what}: {how}; or --drop {write_lines(its)} if no member is there")

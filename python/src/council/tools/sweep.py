@@ -26,6 +26,7 @@ from ..engine import Refused, compute
 from ..finding import find_program
 from ..game import GAME_FILE, Unit, find_comments, find_slips, quote, read_units, write_game
 from ..reports import Fault, Report
+from ..ways import find_low
 from .command import Words, add_index, find_index, make_printable, note
 from .drawing import COLORS, DASHES, find_round_step, find_ticks, measure, wrap, write_picture, write_text
 from .quotas import Quota, count_decimals
@@ -43,7 +44,7 @@ def sweep(program: Optional[str], start: Report, rule: int, quotas: range, only:
     def find_report(quota: int) -> Report:
         its = [*start.quotas[:rule], quota, *start.quotas[rule + 1 :]]
         try:
-            return compute(write_game(names, its, weights).encode("utf-8"), program=program, only=only)
+            return compute(write_game(names, its, weights, ways=start.ways).encode("utf-8"), program=program, only=only)
         except Refused as it:
             raise Fault(f"quota {quota}: council: {it.fault}", it.status) from None
 
@@ -109,9 +110,8 @@ def warn_of_half(start: Report, rule: int, quotas: range, unit: Unit) -> None:
     """Warns of quotas of the sweep with which two coalitions without a common member could both
     win."""
     low = [it for it in quotas if 2 * it <= start.totals[rule]]
-    others = [2 * quota <= total for quota, total in zip(start.quotas, start.totals)]
-    if low and all(others[:rule] + others[rule + 1 :]):
-        of = f" of rule {rule + 1}" if len(others) > 1 else ""
+    if low and rule + 1 in find_low([*start.quotas[:rule], low[0], *start.quotas[rule + 1 :]], start.totals, start.ways):
+        of = f" of rule {rule + 1}" if len(start.quotas) > 1 else ""
         note(f"quotas up to {unit.write(low[-1])}{of} are at most half of the total, {unit.write(start.totals[rule])}, so two coalitions without a common member could win")
 
 

@@ -5,6 +5,7 @@
 from __future__ import annotations
 
 from ..decimals import write_fraction
+from ..ways import describe_ways
 from .command import MANY, Words, add_index, add_report, choose_indices, make_printable, read_report, warn_of_low_quotas
 
 
@@ -14,7 +15,7 @@ def main(args: list[str]) -> None:
     add_index(reader, **MANY)
     words = reader.parse_words(args)
     report = read_report(words.report)
-    warn_of_low_quotas(report.quotas, report.totals)
+    warn_of_low_quotas(report.quotas, report.totals, report.ways)
     indices = choose_indices([report], words.index)
     heading = ["", "Weight", *(it.title for it in indices)]
     rows = []
@@ -26,3 +27,5 @@ def main(args: list[str]) -> None:
     for row in [heading, *rows]:
         first, *others = zip(row, widths)
         print("  ".join([first[0].ljust(first[1]), *(text.rjust(width) for text, width in others)]))
+    if len(report.ways) > 1:
+        print(f"\nA motion passes {describe_ways(report.ways)}.")
