@@ -164,7 +164,7 @@ def quote(text: str) -> str:
 
 
 def quote_zsh(name: str, text: str, after: str) -> str:
-    return quote(f"{name}[{re.sub(r'([][:])', chr(92) + chr(92) + '1', text)}]{after}")
+    return quote(f"{name}[{re.sub(r'([][:])', chr(92) * 3 + '1', text)}]{after}")
 
 
 def write_zsh() -> Iterator[str]:

@@ -11,9 +11,9 @@ from fractions import Fraction
 from pathlib import Path
 from unittest import mock
 
-from shared import HOSTILE, LISTED, TOP
+from shared import BY_WAYS, HOSTILE, LISTED, TOP
 import council
-from council import decimals, engine, finding, game, library, members
+from council import decimals, engine, finding, game, library, members, ways
 from council.finding import find_library, find_program
 from council.game import Unit
 from council.reports import Fault, Report
@@ -26,7 +26,7 @@ def make_library(status, data):
     def call(text, size, options, *only_and_place):
         *only, place, room, length = only_and_place
         asked.append((text[: size.value], [getattr(options._obj, it) for it, _ in library.Options._fields_], room.value, threading.current_thread().daemon, *(it.value for it in only)))
-        ctypes.memmove(place, data, len(data))
+        ctypes.memmove(place, data, min(len(data), room.value))
         length._obj.value = len(data)
         return status
 
@@ -60,6 +60,14 @@ class Engines(unittest.TestCase):
                 self.assertEqual(self.compute(made, b"[1; 1]", listed=True, most=7).coalitions, wanted)
             made.list_masks.assert_called_once_with((51,), [(50, 49, 1)], 2)
         self.assertEqual(asked[0][1], [7, False, False, False, False])
+        # arrays hold no ways: of such a game the list is a text, for which there is room
+        long = "notation\t[1; 1]\n" * 5000 + BY_WAYS
+        made, asked = make_library(0, long.encode())
+        made.list_masks = mock.Mock(side_effect=AssertionError)
+        with mock.patch.object(engine, "find_library", lambda: made):
+            self.assertEqual(council.report(game="[1; 1]", coalitions=True, most=7).coalitions, Report.from_text(BY_WAYS).coalitions)
+        self.assertEqual([it[1:3] for it in asked], [([7, False, its, False, False], room) for its in (False, True) for room in (65536, len(long))])
+        made.list_masks.assert_not_called()
 
     def test_numbers_and_masks_of_the_library(self):
         made, rooms = make_library(0, b"")[0], []
@@ -237,9 +245,11 @@ class Parts(unittest.TestCase):
         self.check_rows(
             game.write_game,
             (["A"], [1], [(1,)], f"quota = 1\n{member} = 1\n"),
+            (["A"], [1, 1], [(1, 2)], "", [], [[1, 2]], f"quotas = [1, 1]\n{member}s = [1, 2]\n"), (["A"], [1, 1], [(1, 2)], "", [], [[2], (1,)], f"quotas = [1, 1]\nways = [[2], [1]]\n{member}s = [1, 2]\n"),
             (["A", "B"], [3, 2], [(2, 1), (1, 1)], "T", ["c", "d"], f'# c\n# d\ntitle = "T"\nquotas = [3, 2]\n{member}s = [2, 1]\n{member}s = [1, 1]\n'.replace('"A"\nweights = [1', '"B"\nweights = [1')),
         )
         self.assertEqual(council.format_game_file(51, [50], names=[7], title="T"), f'title = "T"\nquota = 51\n{member} = 50\n'.replace('"A"', '"7"'))
+        self.assertEqual(council.format_game_file(51, [50], names=["A"], ways=[[True]]), f"quotas = [51]\nways = [[1]]\n{member}s = [50]\n")
         self.assertEqual(game.write_game(["A"] * 40, [1], [(1,)] * 40, "x" * 200).count("[[member]]"), 40)
         for words, text in [
             (([], [1], []), "there are 0 members, and a game has 1 to 40"), ((["A"] * 41, [1], [(1,)] * 41), "there are 41 members, and a game has 1 to 40"),
@@ -285,6 +295,30 @@ class Parts(unittest.TestCase):
             self.assertEqual(str(caught.exception), fault)
         with self.assertRaises(Fault):
             game.check_same("[51; 50, 48, 2]", report)
+        report, its = Report.from_text(BY_WAYS), ([51, 2], [[50, 49, 1], [1] * 3])
+        for by in [[1], [2]], [[2], [1]]:
+            game.check_same(council.format_game_file(*its, ways=by), report)
+        game.check_same(council.format_game_file(*its, ways=[[2, 1]]), Report.from_text(BY_WAYS.replace("ways\t1 2\n", "")))
+        for by in None, [[1, 2]], [[1], [2], [1]]:
+            with self.assertRaisesRegex(Fault, "not the game of the report"):
+                game.check_same(council.format_game_file(*its, ways=by), report)
+
+    def test_ways(self):
+        self.check_rows(
+            ways.find_fault, ([[1, 2], [3]], 3, ""), ([[1]], 1, ""), ([[3, 1], [2, 3], [2, 1]], 3, ""), ([], 1, "there are 0 ways, and 1 to 6 are allowed"), ([[1]] * 7, 1, "there are 7 ways, and 1 to 6 are allowed"),
+            ([[1], [2, 4]], 3, "there is no rule 4: there are 3, in the order of their quotas"), ([[0]], 1, "there is no rule 0: there are 1, in the order of their quotas"), ([[2], [1, 3, 1]], 3, "rule 1 is twice in way 2"),
+            ([[1], [2, 1]], 2, "way 2 has all rules of way 1: it lets nobody else win"), ([[1, 2], [2, 1]], 2, "way 1 has all rules of way 2: it lets nobody else win"), ([[2], []], 2, "way 1 has all rules of way 2: it lets nobody else win"),
+            ([[1], [3]], 4, "rule 2 is in no way: each rule is in one"),
+        )
+        self.check_rows(ways.read_ways, ("1,2 3", 3, [[1, 2], [3]]), ("1", 1, [[1]]), ("4,1 3,2", 4, [[4, 1], [3, 2]]))
+        for it in "", "1 ", " 1", "1  2", "1,", "1, 2", "1;2", "12", "\u0661", "1,2\n", "3", "1 1":
+            with self.assertRaises(ValueError, msg=it):
+                ways.read_ways(it, 2)
+        self.check_rows(ways.describe_ways, ([[1, 2], [3]], "by rules 1 and 2, or by rule 3"), ([[1], [4, 2, 3], [2]], "by rule 1, or by rules 4, 2 and 3, or by rule 2"), ([range(1, 2)], "by rule 1"))
+        self.check_rows(
+            ways.find_low, ([50], [100], [[1]], {1}), ([51], [100], [[1]], set()), ([5, 5], [10, 9], [[1, 2]], set()), ([5, 5], [10, 9], [[1], [2]], {1}), ([5, 5, 5], [10, 10, 9], [[2, 1], [3]], {1, 2}), ([5, 5, 5], [10, 9, 10], [[1, 2], [3]], {3}),
+        )
+        self.assertEqual(game.describe_low_quotas([5, 5, 1], [10, 9, 3], [[1, 2], [3]]), ["the quota 5 of rule 1 is at most half of the total, 10", "the quota 1 of rule 3 is at most half of the total, 3, so two coalitions without a common member could win"])
 
     @unittest.skipIf(sys.version_info < (3, 11), "this Python reads no TOML itself")
     def test_a_game_file_without_tomllib(self):

@@ -17,6 +17,11 @@ HOSTILE = [
     "=1+1", "-1", '"quoted"', "it's", "<b>&amp;", "a|b `c` *d*", "\\LaTeX #_{x}", "${x} %s {0}", "\ufffe", "\u202egnp.exe", "a\u2028b\u0085c",
     "中文 ñ é Ł", "e\u0301", "\U0001f600", "x" * 64, "m, n; o", " ", "\\u0041", "#", "[[member]]", "NA", "nan", "None",
 ]
+# the report of a game that is won by 51 votes or by two heads, with its coalitions
+BY_WAYS = (
+    "members\t3\nquota\t51/2\ntotal\t100/3\nways\t1 2\nminimal\t3\ncoalition\t2\t99/2\t1\t2\ncoalition\t2\t51/2\t1\t3\ncoalition\t2\t50/2\t2\t3\n"
+    + "".join(f"member\t{at}\t{it}/1\t2\t1/3\t0.333333\t1/3\t0.333333\n" for at, it in enumerate([50, 49, 1], 1))
+)
 # the report of [51; 50, 49, 1], with its coalitions
 LISTED = (
     "members\t3\nquota\t51\ntotal\t100\nminimal\t2\ncoalition\t2\t99\t1\t2\ncoalition\t2\t51\t1\t3\n"

@@ -23,13 +23,14 @@ from fractions import Fraction
 from pathlib import Path
 from unittest import mock
 
-from shared import HOSTILE, LISTED, TOP  # noqa: I001 (first, since it finds the package)
+from shared import BY_WAYS, HOSTILE, LISTED, TOP  # noqa: I001 (first, since it finds the package)
 import council
 import lines
 import oracle
 from council import game, members
 from council.finding import find_library
 from council.reports import Fault, Report
+from council.ways import find_fault
 from parts import Engines, Parts  # noqa: F401 (tests too)
 
 # 40 members whose weights add up to a million in each of two rules: hours
@@ -117,6 +118,40 @@ class Reports(unittest.TestCase):
                 self.check_same(both, ask_oracle("T", names, rules, with_swings=True))
                 self.assertEqual(both.coalitions, listed.coalitions)
                 self.check_same(council.report(quotas, columns, names=names, title="T", by="rule", only_swings=True), ask_oracle("T", names, rules, only_swings=True))
+
+    def test_random_games_with_ways(self):
+        """Each number and coalition is that of all subsets of the members."""
+        rng = random.Random(3)
+        for at in range(40):
+            members, rules = range(rng.randint(1, 6)), range(1, rng.randint(2, 4) + 1)
+            columns = [[rng.randint(1, 9) for _ in members] for _ in rules]
+            quotas = [rng.randint(1, sum(it)) for it in columns]
+            ways = []
+            while find_fault(ways, len(rules)):
+                ways = [rng.sample(rules, rng.randint(1, len(rules))) for _ in range(rng.randint(2, 4))]
+
+            def wins(its):
+                return any(all(sum(columns[rule - 1][it] for it in its) >= quotas[rule - 1] for rule in way) for way in ways)
+
+            every = [{it for it in members if mask >> it & 1} for mask in range(2 ** len(members))]
+            minimal = [its for its in every if wins(its) and not any(wins(its - {it}) for it in its)]
+            with self.subTest(at):
+                found = council.report(quotas, columns, by="rule", ways=ways, coalitions=True, swings=True)
+                self.assertEqual((found.ways, found.minimal, found.winning), (ways, len(minimal), sum(map(wins, every))))
+                self.assertEqual([it.coalitions for it in found.members], [sum(it in its for its in minimal) for it in members])
+                self.assertEqual([it.swings for it in found.members], [sum(it in its and wins(its) and not wins(its - {it}) for its in every) for it in members])
+                self.assertEqual(sorted(sorted(it.members) for it in found.coalitions), sorted(sorted(str(it + 1) for it in its) for its in minimal))
+                file = council.format_game_file(quotas, columns, by="rule", ways=ways)
+                self.assertEqual(council.report(game=file, coalitions=True).coalitions, found.coalitions)
+                game.check_same(file, found)
+
+    def test_ways_that_are_refused(self):
+        board = [50, 49, 1], [1, 1, 1]
+        self.check_same(council.report([51, 2], board, ways=[[2, 1]]), council.report([51, 2], board))
+        self.assertEqual(council.report([51, 2], board, ways=((1,), (2,))).members, Report.from_text(BY_WAYS).members)
+        for ways in [], [[]], [[1]], [[1, 3]], [[1], [2, 2]], [[1], [1, 2]], [[1, 2]] * 7, [[0], [1, 2]], [[-1], [1, 2]], [[10**30]]:
+            self.assertIn(find_refusal([51, 2], board, ways=ways).fault, ("bad ways", "the game file is not TOML"))
+        self.assertEqual(find_refusal([51, 2], board, ways=[[1]]).explanation.split("\n")[-1], "rule 2 is in no way: each rule is in one")
 
     def test_hostile_names(self):
         report = council.report(len(HOSTILE) - 1, [1] * len(HOSTILE), names=HOSTILE, title='A "title" \\ = $x$')
@@ -230,7 +265,8 @@ class Reports(unittest.TestCase):
         ways, parts, belong = "give a quota and weights, or a file, or a game", "give a quota and weights", "names, a title, by= and ways= belong to a quota and weights"
         for words, more, text in [
             ((), {}, ways), ((51, [1]), {"file": "x"}, ways), ((51,), {"file": "x"}, ways), ((None, [1]), {"file": "x"}, ways), ((), {"file": "x", "game": "y"}, ways),
-            ((51,), {}, parts), ((None, [1]), {}, parts), ((), {"game": "[1; 1]", "names": ["A"]}, belong), ((), {"game": "[1; 1]", "title": "T"}, belong), ((), {"file": "x", "names": []}, belong),
+            ((51,), {}, parts), ((None, [1]), {}, parts), ((), {"game": "[1; 1]", "names": ["A"]}, belong), ((), {"game": "[1; 1]", "title": "T"}, belong), ((), {"file": "x", "names": []}, belong), ((), {"file": "x", "ways": []}, belong),
+            ((51, [50]), {"ways": [1]}, "ways are lists of rules, as [[1, 2], [3]], and not [1]"), ((51, [50]), {"ways": 1}, "ways are lists of rules, as [[1, 2], [3]], and not 1"), ((51, [50]), {"ways": ["1,2"]}, "ways are lists of rules, as [[1, 2], [3]], and not ['1,2']"),
             ((51, ["50"]), {}, "'50' is no number"), ((51, [None]), {}, "None is no number"), ((51, [1j]), {}, "1j is no number"), (("51", [50]), {}, "'5' is no number"),
             ((51, [50]), {"names": [1.5]}, "1.5 is no name"), ((51, 50), {}, "'int' object is not iterable"),
         ]:
@@ -301,6 +337,11 @@ class Reports(unittest.TestCase):
             with self.subTest(old=old, new=new), self.assertRaises(Fault) as caught:
                 Report.read(changed.split("\n")[:-1])
             self.assertEqual((str(caught.exception), caught.exception.status), (wanted, 1))
+        made = Report.from_text(BY_WAYS)
+        self.assertEqual((made.ways, made.coalitions[2], Report.from_text(LISTED).ways), ([[1], [2]], (("2", "3"), (50, 2)), [[1]]))
+        for new, text in [("1", unsound), ("1 3", unsound), ("1 1", unsound), ("1,2 2", unsound), ("", unsound), ("1  2", unsound), ("x", unsound), ("1 2\t", "line 4"), ("1 2\nother\t1", "line 5")]:
+            with self.subTest(new), self.assertRaisesRegex(Fault, text):
+                Report.from_text(BY_WAYS.replace("ways\t1 2", f"ways\t{new}"))
         later = LISTED.replace("0\nmember", "0\tother\nmember")
         self.check_same(Report.from_text(later), Report.from_text(LISTED))
         self.assertEqual((str(Fault("a text", 2)), Fault("a text", 2).status), ("a text", 2))

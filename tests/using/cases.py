@@ -109,6 +109,13 @@ def hostile_game(rules=1):
     return write_game(HOSTILE, quotas, weights, 'A <title> & "more" \\ % = $x$')
 
 
+def either_game():
+    """Returns a game file that is won by 51 votes, or by two heads."""
+    from council.game import write_game
+
+    return write_game("ABC", [51, 2], [[50, 1], [49, 1], [1, 1]], "Either", ways=[[1], [2]])
+
+
 def main(prefix):
     """Runs the tests of the program that was started."""
     import lines

@@ -5,7 +5,7 @@ import subprocess
 import unicodedata
 from fractions import Fraction
 
-from cases import FORMS, HOSTILE, TEMP, TOP, Run, Tests, hostile_game, main, put, report, stored
+from cases import FORMS, HOSTILE, TEMP, TOP, Run, Tests, either_game, hostile_game, main, put, report, stored
 from council.decimals import cut_off
 from council.game import write_game
 from council.reports import Report
@@ -60,6 +60,15 @@ class Compare(Tests):
         run = Run("compare", "--game", path, "--game", path, data, data)
         self.assertTrue(run.out.startswith("1  A game: 50.1% of 100.0%, minimal") and run.out.count("82.3%") == 2, run.out)
         self.check_refused(Run("compare", "--game", path, data, data), "there are 2 reports, and 1 game files")
+
+    def test_ways(self):
+        """Ways are shown, and named if they differ; nothing is refused."""
+        data = report(either_game())
+        one, again = put("either.tsv", data), put("again.tsv", data.replace("ways\t1 2", "ways\t2 1"))
+        run = Run("compare", one, put("both.tsv", report(either_game().replace("ways", "# ways"))))
+        self.assertTrue(run.out.startswith("1  Either: 51/2 of 100/3 (by rule 1, or by rule 2), minimal winning coalitions: 3\n2  Either: 51/2 of 100/3, minimal"), run.out)
+        self.assertEqual((run.status, run.err), (0, "council-tools compare: the ways differ: a motion passes in game 1 by rule 1, or by rule 2; in game 2 by rules 1 and 2\n"))
+        self.assertEqual(Run("compare", one, again).err, "")
 
     def test_widths(self):
         run = Run("compare", put("wide.tsv", report(write_game(["A", "e\u0301", "中Ｘ", "D"], [3], [[1]] * 4))), game("one", "A"))

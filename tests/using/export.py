@@ -11,7 +11,7 @@ import subprocess
 import unicodedata
 from fractions import Fraction
 
-from cases import FORMS, HOSTILE, TEMP, Run, Tests, hostile_game, main, put, report, stored
+from cases import FORMS, HOSTILE, TEMP, Run, Tests, either_game, hostile_game, main, put, report, stored
 from council.decimals import cut_off, round_half_up, write_fraction
 from council.game import write_game
 from council.reports import Report
@@ -75,9 +75,9 @@ class Export(Tests):
             self.assertEqual(found, wanted)
 
     def test_json(self):
-        for data in TWO, HARD, SEVERAL, stored("eu-27-nice"), report("[5; 4, 3, 2]", "--only-swings"):
+        for data in TWO, HARD, SEVERAL, stored("eu-27-nice"), report("[5; 4, 3, 2]", "--only-swings"), report(either_game(), "--list"):
             made, found = Report.from_text(data), json.loads(Run("export", "json", input=data).out)
-            self.assertEqual((found["title"], found["quotas"], found["totals"], found.get("minimal"), found.get("winning")), (made.title or None, list(made.quotas), list(made.totals), made.minimal, made.winning))
+            self.assertEqual((found["title"], found["quotas"], found["totals"], found["ways"], found.get("minimal"), found.get("winning")), (made.title or None, list(made.quotas), list(made.totals), made.ways, made.minimal, made.winning))
             for it, member in zip(found["members"], made.members):
                 self.assertEqual(list(it), ["name", "weights", *member._fields[1 + len(member.weights) :]])
                 self.assertEqual((it["name"], it["weights"], [it[group.column] for group in made.groups]), (member.name, list(member.weights), [getattr(member, group.column) for group in made.groups]))

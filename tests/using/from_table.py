@@ -112,6 +112,16 @@ class Summary(Cases):
         path = put("seats.csv", EEC.replace("|", "\n"))
         self.assertIn('# From a table, "seats.csv", lines 2-7; 6 members\n', Run("from-table", "12", path).out)
 
+    def test_ways(self):
+        table, said = "who,votes|A,50|B,49|C,1|", "A motion passes by rules 1 and 2, or by rule 3"
+        words, columns = "51 heads:2 heads:3", [[50, 1, 1], [49, 1, 1], [1, 1, 1]]
+        run = self.check_game(f"{words} --ways '1,2 3'", table, [51, 2, 3], columns, f"from-table: {said}\n", "Options: --ways '1,2 3'\n")
+        self.assertTrue(f"# {said}\n" in run.out and "\nways = [[1, 2], [3]]\n" in run.out and "\nways\t1,2 3\n" in report(run.out), run.out)
+        for more in "", " --ways 1,2,3":
+            self.assertNotIn("\nways", self.check_game(words + more, table, [51, 2, 3], columns).out)
+        for ways, is_low in ("1 2", True), ("1,2", False):
+            self.assertEqual("could win" in read(["51", "heads:1", "--ways", ways], table.replace("|", "\n")).err, is_low)
+
     def test_names_and_units_of_rules_are_read_back(self):
         table = "Holder,Share|A,16.50%|B,40.25%|C,43.25%"
         run = self.check_game("85% heads:2", table, [8500, 2], [[1650, 1], [4025, 1], [4325, 1]])
@@ -304,6 +314,10 @@ class Refused(Cases):
             ("1 --of 7", EEC, "--of takes"), ("1 --rows 1-3", EEC, "no heading"), ("1 --encoding hex", "a,b", "in hex"),
             ("1 --only Member=X", EEC, 'no row has that, but "Germany"'), ("9 --title " + "t" * 201, EEC, "the title"),
         ])
+        how = "write the rules of a way with commas, and a blank between ways, as 1,2 3"
+        self.check_all_refused([(f"12 heads:4 --ways {shlex.quote(ways)}", EEC, f"--ways {shlex.quote(ways) if ' ' in ways else repr(ways)}: {why}")
+            for ways, why in [("1", "rule 2 is in no way"), ("1 3", "there is no rule 3: there are 2"), ("1;2", how), ("1, 2", how), ("", how),
+                              ("1,1 2", "rule 1 is twice in way 1"), ("1 1,2", "way 2 has all rules of way 1"), ("1 2 1 2 1 2 1", "there are 7 ways")]])
         path, wanted = put("table.csv", EEC.replace("|", "\n")), find_game(read("12", EEC.replace("|", "\n")))
         for words in ["12", path], [path, "12"]:
             self.assertEqual(find_game(Run("from-table", *words, apart=words[0] == path)), wanted)

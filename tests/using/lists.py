@@ -9,7 +9,7 @@ import sys
 from fractions import Fraction
 from unittest import mock
 
-from cases import FORMS, LOW, PROGRAM, TEMP, TOOLS, TOP, Run, Tests, hostile_game, main, put, report, stored
+from cases import FORMS, LOW, PROGRAM, TEMP, TOOLS, TOP, Run, Tests, either_game, hostile_game, main, put, report, stored
 from council.decimals import cut_off, round_half_up, write_fraction
 from council.engine import Refused
 from council.finding import NotFound
@@ -83,6 +83,8 @@ class Reports(Tests):
                 its = ["/".join(map(str, it.weights)), *(write_fraction(index.find(it)) for index in made.indices)]
                 self.assertEqual(line.split()[-len(its):], its)
                 self.assertTrue(line.startswith("".join(letter if letter.isprintable() else " " for letter in it.name)))
+        self.assertTrue(Run("table", input=report(either_game())).out.endswith("1/3\n\nA motion passes by rule 1, or by rule 2.\n"))
+        self.check_refused(Run("table", input=report(either_game()).replace("ways", "other")), "line 5 is no line")
 
 
 class Shared(Tests):

@@ -9,7 +9,7 @@ import re
 from html.parser import HTMLParser
 from unittest import mock
 
-from cases import FORMS, HOSTILE, LOW, PROGRAM, TEMP, TOP, Run, Tests, hostile_game, main, put, report, stored
+from cases import FORMS, HOSTILE, LOW, PROGRAM, TEMP, TOP, Run, Tests, either_game, hostile_game, main, put, report, stored
 from council.columns import INDICES
 from council.decimals import cut_off, round_half_up, write_fraction
 from council.game import write_game
@@ -84,6 +84,17 @@ class Pages(Tests):
             names = rng.sample([it for it in HOSTILE if not REFUSED.search(it)], rng.randint(1, 8))
             rules = [[rng.randint(1, 10**4) for _ in names] for _ in range(rng.randint(1, 4))]
             self.check_page(write_game(names, [rng.randint(1, sum(it)) for it in rules], list(zip(*rules)), "A <title> & more"), *rng.choice([["--list"], ["--list", "--swings"], *FORMS]))
+
+    def test_ways(self):
+        page = self.check_page(either_game(), "--list", "--swings")
+        self.assertIn("at least 51 of 100 (51%) under rule 1, or 2 of 3 (66.67%) under rule 2. Members: 3.", page.texts["main"][0])
+        game = Run("from-table", "--ways", "2 1", "heads:2", "85", input="Holder,Share\nA,16\nB,40\nC,43\n").out
+        run = make("--game", put("ways.toml", game), put("ways.tsv", report(game)))
+        self.assertIn("A motion passes by rule 2, or by rule 1", Page(run.out).texts["li"])
+        low = either_game().replace("[51, 2]", "[51, 1]")
+        self.assertIn("At most half of the total wins", make(input=report(low)).out)
+        self.assertNotIn("At most half of the total wins", make(input=report(low.replace("ways", "# ways"))).out)
+        self.check_refused(make("--game", put("both.toml", either_game().replace("ways", "# ways")), input=report(either_game())), "this is not the game of the report")
 
     def test_texts(self):
         page = self.check_page(open(f"{TOP}/examples/eec-1958.toml", encoding="utf-8").read(), "--list")

@@ -38,13 +38,13 @@ def texts(root, kind):
 
 
 class Sweeps(Tests):
-    def check_sweep(self, names, rules, rule, quotas, kind):
+    def check_sweep(self, names, rules, rule, quotas, kind, ways=()):
         """Each row is that of the report of its game, and the picture has a point for each."""
         words = ["--rule", str(rule + 1), "--from", str(quotas[0]), "--to", str(quotas[-1]), "--step", str(quotas.step), "--index", kind, "--picture", f"{TEMP}/a.svg"]
-        run = sweep("-", *words, input=write_game(names, [quota for quota, _ in rules], list(zip(*(it for _, it in rules))), "T"))
+        run = sweep("-", *words, input=write_game(names, [quota for quota, _ in rules], list(zip(*(it for _, it in rules))), "T", ways=ways))
         group = SWINGS if kind in [it.word() for it in SWINGS.indices] else MINIMAL
         self.assertEqual((run.status, run.out.split("\n")[0]), (0, "\t".join(["quota", "name", *group.columns()[1:]])), run.err)
-        made = [report(write_game(names, [quota if at == rule else it for at, (it, _) in enumerate(rules)], list(zip(*(it for _, it in rules)))), "--swings") for quota in quotas]
+        made = [report(write_game(names, [quota if at == rule else it for at, (it, _) in enumerate(rules)], list(zip(*(it for _, it in rules))), ways=ways), "--swings") for quota in quotas]
         wanted, lines = [], {}
         for quota, it in zip(quotas, made):
             for at, member in enumerate(Report.read(it.split("\n")[:-1]).members):
@@ -73,7 +73,8 @@ class Sweeps(Tests):
             rule = rng.randrange(len(rules))
             first, step = rng.randint(1, sum(rules[rule][1])), rng.randint(1, 4)
             last = first + step * ((sum(rules[rule][1]) - first) // step)
-            self.check_sweep(names, rules, rule, range(first, last + 1, step), rng.choice([it.word() for it in INDICES]))
+            ways = rng.choice([[], [[at] for at in range(len(rules), 0, -1)]])
+            self.check_sweep(names, rules, rule, range(first, last + 1, step), rng.choice([it.word() for it in INDICES]), ways)
 
     def test_labels(self):
         root = self.check_sweep(["Germany", "France", "Italy", "Belgium", "Netherlands", "Luxembourg"], [(12, [4, 4, 4, 2, 2, 1])], 0, range(1, 18), "public-good")
@@ -118,6 +119,9 @@ class Sweeps(Tests):
         self.assertEqual(sweep(COUNCIL, "--from", "9").err, "")
         self.assertIn(f"quotas up to 8 are {LOW}, 17, so two coalitions", sweep(COUNCIL).err)
         self.assertIn(f"quotas up to 2,000 of rule 2 are {LOW}, 4,000", sweep("--rule", "2", "--from", "1000", "--step", "1000", "-", input=write_game("AB", [1, 1, 1], [[1, 2000, 1]] * 2)).err)
+        for ways, told in ([[1], [2, 3]], False), ([[1, 2], [3]], True), ([[1, 2], [2, 3]], True), ([[1, 2, 3]], False):
+            run = sweep("--rule", "2", "-", input=write_game("AB", [1, 1, 2], [[1, 1, 1]] * 2, ways=ways))
+            self.assertEqual((run.status, run.err.count("quotas up to 1 of rule 2")), (0, told))
         for run in (sweep("-", "--from", "51", input=(slip := "[51; 1,000, 49, 1]")), Run("bars", "--game", put("slip.txt", slip), input=report(slip))):
             self.assertIn("a comma ends a weight", run.err)
         low = Run("bars", "--game", put("slip.txt", "[25; 1,000, 49]"), input=report("[25; 1,000, 49]")).err

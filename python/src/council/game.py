@@ -221,7 +221,7 @@ def check_same(text: str, report: Report) -> None:
             game = read_game(text)
         names = [it["name"] for it in game["member"]]
         quotas = game["quotas"] if "quotas" in game else [game["quota"]]
-        ways = sorted(map(sorted, game.get("ways", [range(1, len(quotas) + 1)])))
+        ways = sorted(sorted(it) for it in game.get("ways", [range(1, len(quotas) + 1)]))
         weights = [it["weights"] if "weights" in it else [it["weight"]] for it in game["member"]]
     except (ValueError, LookupError, TypeError, RecursionError):
         raise Fault("this is no game file") from None

@@ -70,7 +70,7 @@ class Library:
             room = length.value
             text = ctypes.create_string_buffer(room)
             status = run_aside(call, game, Size(len(game)), byref(options), *more, text, Size(room), byref(length))
-        return status, text[: length.value].decode("utf-8")
+        return status, ctypes.string_at(text, length.value).decode("utf-8")
 
     def count(self, quotas: Sequence[int], columns: Sequence[Sequence[int]], swings: bool) -> tuple[Summary, Sequence[Numbers]]:
         """Returns the numbers of a game, and those of each member."""

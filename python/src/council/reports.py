@@ -85,7 +85,7 @@ class Report:
         with suppress(ArithmeticError, AttributeError, KeyError, ValueError):
             counts = {it: int(one[it.line]) for it in GROUPS if it.line in one}
             quotas = read_numbers(one["quota"])
-            ways = read_ways(one["ways"], len(quotas)) if "ways" in one else ()
+            ways: Ways = read_ways(one["ways"], len(quotas)) if "ways" in one else ()
             made = cls(one.get("title", ""), quotas, counts, members, listed, ways)
             is_whole = int(one["members"]) == len(members) and read_numbers(one["total"]) == made.totals and listed <= counts.get(MINIMAL, 0)
             if counts and is_whole and all(len(it.weights) == len(made.quotas) and hasattr(it, group.column) for it in members for group in counts):
@@ -111,7 +111,7 @@ class Report:
 
     def sort_ways(self) -> list[list[int]]:
         """Returns the ways in an order that is the same for all reports by the same ways."""
-        return sorted(map(sorted, self.ways))
+        return sorted(sorted(it) for it in self.ways)
 
     def heading(self) -> str:
         """Returns the heading of a table or a picture: the title, unless it is blank."""

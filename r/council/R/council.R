@@ -7,20 +7,20 @@ MOST <- 4000000
 GAME_FILE <- 65536L
 
 council <- function(quota, weights, names = NULL, title = "", file = NULL, game = NULL,
-                    coalitions = FALSE, program = NULL, by = NULL, swings = FALSE, only_swings = FALSE) {
+                    coalitions = FALSE, program = NULL, by = NULL, swings = FALSE, only_swings = FALSE, ways = NULL) {
   given <- c(!missing(quota) || !missing(weights), !is.null(file), !is.null(game))
   if (sum(given) != 1) {
     stop("give a quota and weights, or a file, or a game")
   }
-  if (!given[1] && (!is.null(names) || !identical(title, "") || !is.null(by))) {
-    stop("names, a title and by = belong to a quota and weights")
+  if (!given[1] && (!is.null(names) || !identical(title, "") || !is.null(by) || !is.null(ways))) {
+    stop("names, a title, by = and ways = belong to a quota and weights")
   }
   if (only_swings && (swings || coalitions)) {
     stop("only_swings = TRUE goes without swings = TRUE and coalitions = TRUE")
   }
   bytes <- if (given[1]) {
     if (missing(quota) || missing(weights)) stop("give a quota and weights")
-    format_game(quota, weights, names, title, by)
+    format_game(quota, weights, names, title, by, ways)
   } else if (given[2]) {
     read_bytes(file)
   } else {
@@ -35,21 +35,23 @@ council <- function(quota, weights, names = NULL, title = "", file = NULL, game 
   }
   for (line in done$err) warning(sub("^council: ", "", line), call. = FALSE)
   table <- read_report(done$out, coalitions)
-  warn_of_slips(bytes, attr(table, "quota"), attr(table, "total"))
+  warn_of_slips(bytes, attr(table, "quota"), attr(table, "total"), attr(table, "ways"))
   table
 }
 
-# Warns of what is hardly meant: quotas of at most half, and commas between thousands in a bracket
-# text. A weight after a comma has three digits, and begins with 0, or else a blank is after another
-# comma.
-warn_of_slips <- function(bytes, quota, total) {
+# Warns of what is hardly meant: a way with quotas of at most half only, and commas between thousands
+# in a bracket text. A weight after a comma has three digits, and begins with 0, or else a blank is
+# after another comma.
+warn_of_slips <- function(bytes, quota, total, ways) {
   text <- rawToChar(bytes)
   has <- function(pattern) grepl(pattern, text, perl = TRUE, useBytes = TRUE)
   if (has("^\\s*\\[\\s*[0-9]") && (has(",\\s*0[0-9]{2}\\b") || (has(",[0-9]{3}\\b") && has(",\\s")))) {
     warning("a comma ends a weight, also between thousands: 1,000 is read as 1 and 0", call. = FALSE)
   }
-  if (all(2 * quota <= total)) {
+  is_low <- 2 * quota <= total
+  if (any(vapply(ways, function(way) all(is_low[way]), logical(1)))) {
     low <- if (length(quota) == 1) "the quota is at most half of the total" else "each quota is at most half of its total"
+    if (length(ways) > 1) low <- "each quota of a way is at most half of its total"
     warning(low, ", so two coalitions without a common member could win", call. = FALSE)
   }
 }
@@ -113,7 +115,7 @@ refuse <- function(status, lines, bytes, call, is_values) {
 }
 
 # Returns the bytes of the game file of a quota and weights.
-format_game <- function(quota, weights, names, title, by = NULL) {
+format_game <- function(quota, weights, names, title, by = NULL, ways = NULL) {
   columns <- if (is.list(weights)) weights else if (is.matrix(weights)) {
     lapply(seq_len(ncol(weights)), function(rule) weights[, rule])
   } else {
@@ -138,8 +140,8 @@ format_game <- function(quota, weights, names, title, by = NULL) {
   quotas <- write_numbers(quota, "quota")
   table <- vapply(columns, write_numbers, character(members[1]), what = "weight")
   table <- matrix(table, nrow = members[1])
-  several <- length(quota) > 1
-  bytes <- list(if (nzchar(title)) write_line("title", quote_text(title)), write_values("quota", quotas, several))
+  several <- length(quota) > 1 || !is.null(ways)
+  bytes <- list(if (nzchar(title)) write_line("title", quote_text(title)), write_values("quota", quotas, several), write_ways(ways))
   for (member in seq_len(members[1])) {
     line <- write_line("name", quote_text(as.character(names[member])))
     bytes <- c(bytes, list(charToRaw("\n[[member]]\n"), line, write_values("weight", table[member, ], several)))
@@ -194,6 +196,14 @@ write_values <- function(key, values, several) {
   write_line(if (several) paste0(key, "s") else key, charToRaw(text))
 }
 
+# Writes the line of ways, if there are any; council says what is wrong with them.
+write_ways <- function(ways) {
+  if (is.null(ways)) return(NULL)
+  if (!is.list(ways)) stop("ways is a list of vectors of rules, such as list(c(1, 2), 3)")
+  texts <- vapply(ways, function(way) paste(write_numbers(way, "rule"), collapse = ", "), "")
+  write_line("ways", charToRaw(paste0("[", paste0("[", texts, "]", collapse = ", "), "]")))
+}
+
 # What each byte is in a TOML text in quotes.
 QUOTED <- lapply(0:255, function(byte) {
   if (byte %in% c(34, 92)) {
@@ -217,11 +227,15 @@ GROUPS <- list(
   winning = c("swings", "banzhaf", "penrose", "shapley_shubik")
 )
 
+# The lines that a report may have.
+KINDS <- c("title", "members", "quota", "total", "ways", "notation", names(GROUPS), "coalition", "size", "member")
+
 # Makes the data frame of the lines of a report. Fields are separated by TABs, and quotes in names
-# mean nothing.
+# mean nothing. A report with another line may be of another game.
 read_report <- function(lines, coalitions) {
   fields <- strsplit(lines, "\t", fixed = TRUE)
   kinds <- vapply(fields, `[`, "", 1L)
+  if (!all(kinds %in% KINDS)) stop("this package does not know the line ", setdiff(kinds, KINDS)[1], " of the report")
   find <- function(kind) fields[kinds == kind]
   field <- function(kind) if (any(kinds == kind)) c(find(kind)[[1]], "")[2] else ""
   read_numbers <- function(text) as.numeric(strsplit(text, "/", fixed = TRUE)[[1]])
@@ -245,6 +259,9 @@ read_report <- function(lines, coalitions) {
   attr(table, "title") <- field("title")
   attr(table, "quota") <- read_numbers(field("quota"))
   attr(table, "total") <- read_numbers(field("total"))
+  read_rules <- function(way) as.integer(strsplit(way, ",", fixed = TRUE)[[1]])
+  several <- lapply(strsplit(field("ways"), " ", fixed = TRUE)[[1]], read_rules)
+  attr(table, "ways") <- if (length(several)) several else list(seq_len(rules))
   for (kind in intersect(names(GROUPS), kinds)) attr(table, kind) <- as.numeric(field(kind))
   if (coalitions) {
     attr(table, "coalitions") <- lapply(find("coalition"), `[`, -(1:3))

@@ -8,11 +8,11 @@ program \command{council}, whose functions are proved to meet their contracts.
 }
 \usage{
 council(quota, weights, names = NULL, title = "", file = NULL, game = NULL,
-        coalitions = FALSE, program = NULL, by = NULL, swings = FALSE, only_swings = FALSE)
+        coalitions = FALSE, program = NULL, by = NULL, swings = FALSE, only_swings = FALSE, ways = NULL)
 }
 \arguments{
 \item{quota}{the quota: a coalition wins if its weight is at least that. For several rules, up to four, a
-  vector of quotas; a coalition wins if it meets all rules.}
+  vector of quotas; a coalition wins if it meets all rules, or those of one of the \code{ways}.}
 \item{weights}{the weight of each member, in a vector. For several rules, a matrix, a data frame or a
   list with a column for each rule. Weights and quotas are whole numbers.}
 \item{names}{the names of the members; without them, the names that the vector or the rows of the matrix
@@ -28,6 +28,8 @@ council(quota, weights, names = NULL, title = "", file = NULL, game = NULL,
   \code{"member"} if each is a member.}
 \item{swings}{whether to count the swings too, and compute the indices that rest on them.}
 \item{only_swings}{whether to compute only these; not with \code{coalitions} or \code{swings}.}
+\item{ways}{rules joined by "or", a list of up to six vectors of rules, counted from 1: by
+  \code{list(c(1, 2), 3)} a coalition wins if it meets rules 1 and 2, or rule 3.}
 }
 \value{
 A data frame with a row for each member, in the order of the game:
@@ -41,14 +43,14 @@ A data frame with a row for each member, in the order of the game:
 \item{banzhaf, penrose, shapley_shubik}{the Banzhaf index, Penrose's measure and the Shapley-Shubik index;
   Penrose's measures do not add up to one}
 \item{banzhaf_exact, penrose_exact, shapley_shubik_exact}{these as fractions}
-It has the attributes \code{title}, \code{quota}, \code{total}, \code{minimal} (the number of minimal
-winning coalitions), \code{winning} (that of all winning coalitions, with swings) and, if you asked for
+It has the attributes \code{title}, \code{quota}, \code{total}, \code{ways} (a list of vectors of rules;
+without an "or" one vector of all), \code{minimal} (the number of minimal winning coalitions), \code{winning} (that of all winning coalitions, with swings) and, if you asked for
 them, \code{coalitions}: a list of vectors of names. With n members, Coleman's power of the body to act is
 \code{winning} / 2^n; of a member to prevent action, its swings / \code{winning}; to initiate action, its
 swings / (2^n - \code{winning}).
 }
 \section{Warnings}{
-What the program says on standard error of a report, quotas of at most half of each total, and commas between
+What the program says on standard error of a report, a way with quotas of at most half only, and commas between
 thousands in a bracket text are warned of.
 }
 \section{Refused games}{

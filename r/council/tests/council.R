@@ -71,10 +71,20 @@ stopifnot(
   identical(council(c(1, 2), cbind(1, 2))$weight_2, 2)
 )
 
+# rules joined by "or": five votes, or three heads
+either <- council(c(5, 3), votes, names = LETTERS[1:4], coalitions = TRUE, ways = list(1, 2))
+stopifnot(
+  identical(attr(either, "coalitions"), list(c("A", "B"), c("A", "C"), c("B", "C", "D"))), identical(either$coalitions, c(2, 2, 2, 1)),
+  identical(attr(either, "ways"), list(1L, 2L)), identical(attr(two, "ways"), list(1:2)), identical(attr(board, "ways"), list(1L)),
+  identical(council(c(5, 3), votes, names = LETTERS[1:4], ways = list(c(1, 2))), two),
+  grepl("the line other", tryCatch(council:::read_report(c("members\t1", "other\t1"), FALSE), error = conditionMessage))
+)
+
 # what is hardly meant is warned of
 warned <- function(expr) tryCatch({ expr; "nothing" }, warning = conditionMessage)
 stopifnot(
   grepl("at most half", warned(council(50, c(50, 49, 1)))), warned(council(51, c(50, 49, 1))) == "nothing", warned(council(c(50, 51), cbind(c(50, 50), c(50, 50)))) == "nothing",
+  grepl("each quota of a way", warned(council(c(5, 2), votes, ways = list(1, 2)))), warned(council(c(5, 3), votes, ways = list(1, 2))) == "nothing",
   grepl("thousands", warned(council(game = "[1051; 1,000, 49, 1, 1000]"))), grepl("thousands", warned(council(game = "[300; 1,500, 49, 1]"))), grepl("thousands", warned(council(game = "[300; 200,049,100, 50]"))), warned(council(game = "[600; 100,500,49]")) == "nothing"
 )
 
@@ -122,6 +132,7 @@ stopifnot(
 )
 stopifnot(
   identical(refused(200, c(50, 49))$fault, "quota out of range"),
+  identical(refused(c(5, 3), votes, ways = list(1))$fault, "bad ways"), identical(refused(c(5, 3), votes, ways = list(1:2, numeric(0)))$fault, "bad ways"),
   identical(refused(1, rep(1, 41))$fault, "bad member list"),
   identical(refused(1, numeric(0))$status, 3L),
   identical(refused(2, c(1, 1), names = c("A", "A"))$fault, "member 2 repeats a name"),
@@ -147,13 +158,14 @@ stopifnot(identical(refused(file = path)$fault, "the game file is longer than 65
 # what is no game at all is an ordinary error
 ways <- "give a quota and weights, or a file, or a game"
 parts <- "give a quota and weights"
-belong <- "names, a title and by = belong to a quota and weights"
+belong <- "names, a title, by = and ways = belong to a quota and weights"
 uneven <- "the columns of weights are not equally long"
 absent <- "the program council was not found: put it on the PATH, or name it by program ="
 stopifnot(
   said(council()) == ways, said(council(51, c(50, 1), file = "x")) == ways, said(council(51, file = "x")) == ways, said(council(weights = 1, file = "x")) == ways,
   said(council(file = "x", game = "[1; 1]")) == ways, said(council(51)) == parts, said(council(weights = 1)) == parts,
-  said(council(game = "[1; 1]", names = "A")) == belong, said(council(game = "[1; 1]", title = "T")) == belong, said(council(file = "x", names = "A")) == belong,
+  said(council(game = "[1; 1]", names = "A")) == belong, said(council(game = "[1; 1]", title = "T")) == belong, said(council(file = "x", names = "A")) == belong, said(council(game = "[1; 1]", ways = list(1))) == belong,
+  grepl("^ways is a list", said(council(c(5, 3), votes, ways = 1:2))), said(council(c(5, 3), votes, ways = list("1"))) == "a rule is no number",
   said(council(51, c(50, NA))) == "a weight is NA", said(council(NA_real_, 1)) == "a quota is NA", said(council(1, c("1", "1"))) == "a weight is no number",
   said(council("1", 1)) == "a quota is no number", said(council(1, TRUE)) == "a weight is no number",
   said(council(c(1, 2), c(1, 2))) == "there are 2 quotas, and 1 columns of weights", said(council(c(1, 1, 1), cbind(c(1, 1), 1))) == "there are 3 quotas, and 2 columns of weights",

@@ -161,5 +161,5 @@ def main(args: list[str]) -> None:
         print(line)
     for at, it in enumerate(reports[1:], 2):
         if max(len(it.ways), len(reports[0].ways)) > 1 and it.sort_ways() != reports[0].sort_ways():
-            note(f"the ways differ: a motion passes in game 1 {describe_ways(reports[0].ways)}, and in game {at} {describe_ways(it.ways)}")
+            note(f"the ways differ: a motion passes in game 1 {describe_ways(reports[0].ways)}; in game {at} {describe_ways(it.ways)}")
     warn(games)
