@@ -50,8 +50,10 @@ const FORMS: &str = "A game file has one of two forms:
 
 A coalition wins if it reaches or passes the quota: more than half of 100 is 51.
 The first form is TOML. It may have a title, and up to 4 rules by quotas and
-weights; then a coalition wins if it meets each quota. The second form names the
-members 1, 2, 3. There are 1 to 40 members, and weights from 0 to 1000000000000.
+weights; then a coalition wins if it meets each quota, or each of some way: with
+ways = [[1, 2], [3]] those of rules 1 and 2, or that of rule 3. The second form
+names the members 1, 2, 3. There are 1 to 40 members, and weights from 0 to
+1000000000000.
 
 The report has these lines, whose fields are separated by one TAB. Under several
 rules a quota, a total or a weight has one value for each rule, with / between.
@@ -60,6 +62,7 @@ rules a quota, a total or a weight has one value for each rule, with / between.
   members    the number of members
   quota      the quota
   total      the total of the weights
+  ways       the rules of each way, if there are several
   notation   [q; w1, .., wn], a line for each rule (--notation)
   minimal    the number of minimal winning coalitions
   winning    the number of winning coalitions (--swings, --only-swings)
