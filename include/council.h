@@ -103,8 +103,8 @@ enum council_fault {
 
 /*
  * Takes a game as arrays: a quota for each rule, and count weights, rules * members of them: those of the first rule,
- * then those of the second, and so on. Puts the numbers of member i into results[i], and those of the game into
- * *summary.
+ * then those of the second, and so on. A coalition wins if it meets all rules. Puts the numbers of member i into
+ * results[i], and those of the game into *summary.
  *
  * The coalitions are counted by states, and if these are too many, by a walk; visits is the most that it makes, and 0
  * any number. Ten million take a second or two. A walk makes at most one for each member and each set of members; under

@@ -3,8 +3,8 @@
 
     every_size.py PROGRAM
 
-runs PROGRAM on games of 1 to 40 members and 1 to 4 rules that have few minimal winning coalitions, and
-goes through 1 to 16 workers, 0 to 10 bits and all choices of the options that show lines meanwhile. It
+runs PROGRAM on games of 1 to 40 members and 1 to 4 rules that have few minimal winning coalitions, with
+ways where the number of members is even, and goes through 1 to 16 workers, 0 to 10 bits and all choices of the options that show lines meanwhile. It
 compares each report, with and without --tally, and that of the swings, with that of tests/oracle.py. So a body that goes wrong
 at one number or one choice only is noticed. Prints `ok NAME` or `FAILED NAME: why`.
 """
@@ -19,12 +19,13 @@ import random_games  # noqa: E402
 
 
 def game_of(members, rules):
-    """A game in which two members win together if one of them is among the first three."""
+    """A game in which two members win together if one of them is among the first three, or has half of the rules."""
     columns = [(min(2, members), [1] * members), (1, [3, 2, 1] + [0] * (members - 3) if members > 3 else [1] * members)]
     columns += [(1, list(range(members, 0, -1))), (members + 1, [members] + [members + member for member in range(1, members)])]
     if members == 1:
         columns = [(1, [1])] * 4
-    return oracle.Game(None, [f"M{member}" for member in range(members)], columns[:rules])
+    ways = None if members % 2 else list(itertools.combinations(range(rules), max(1, rules // 2)))
+    return oracle.Game(None, [f"M{member}" for member in range(members)], columns[:rules], ways)
 
 
 def flags_of(*words):

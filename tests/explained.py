@@ -34,7 +34,12 @@ LONG = [
     ("odd = [", "'a',", "]\n"), ("odd = [", '"""\n""",', "]\n"), ("odd = '''", "[[member]]\n", "'''\n"), ('odd = "', "\\u0041", '"\n'), ("odd" + ".a" * 70 + " = [", "1,", "]\n"),
     ("quota = 1\nmember = [", "{},", "{odd = 1}]\n"), ("quota = 1\n", "[[member]]\n", "odd = 1\n"), ("quota = 1\n", "[[member]]\n[member.odd]\n", ""), ("", "[[odd]]\n", ""), (MEMBERS, "[[member.odd]]\n", ""),
     ("member = [", "'',", "]\nodd = 1\n"), ("member = [", "{a.b = ''},", "]\nodd = 1\n"), ("member = [", "[],", "]\nodd = 1\n"), (MEMBERS, "#\n", "odd = 1\n"), ("quotas = [", "1, ", "1]\n"), ("quotas = [1, 1]\n[[member]]\nname = 'A'\nweights = [", "1.5,\n", "1]\n"), ("title = '", "a", "'\n"), ("quota = ", "1", "\n"), ("quota = 0.", "1", "\n"),
+    ("quotas = [1, 1]\nways = [", "[1],\n", "]\n"), ("quotas = [1, 1]\nways = [[2],\n[", "1, ", "1]]\n"), ("quotas = [1, 1]\nways = [[2],\n[1", ",\n3", "]]\n"),
 ]
+
+# ways of two rules with a fault, and which of them has it, from 1; 0 if none has it by itself
+BAD_WAYS = [([], 0), (["[1]"] * 7, 0), (["[2]"], 0), (["[1, 2]", "[1]"], 1), (["[2]", "[2]"], 1), (["[1]", "[2, 2]"], 2)]
+BAD_WAYS += [(["[1]", "[2]", it], 3) for it in ("[3]", "[0, 1]", "[]", "[ # ]\n]", "2", "[{a = [1,\n2]}]", "['[1]']", "{}")]
 
 
 class File:
@@ -76,11 +81,14 @@ class File:
             self.add(f"'{text}'")
 
     def array(self, *values):
-        """Adds an array, sometimes with line ends in it."""
+        """Adds an array, sometimes with line ends in it; returns the lines where its values begin."""
+        lines = []
         self.add("[" + self.chance.choice(["", "", "\n", " # ]\n"]))
         for at, value in enumerate(values):
+            lines.append(self.line())
             self.add(value + self.chance.choice(["", " ", "\n"]) + ("," if at < len(values) - 1 else "") + self.chance.choice(["", "", "\n"]))
         self.add("]")
+        return lines
 
     def long_text(self, rows):
         """Adds a text in three quotes, on so many lines."""
@@ -127,9 +135,20 @@ def add_quota(file, wrong, several):
     file.end()
 
 
+def add_ways(file, wrong, several):
+    """Adds ways, with a fault or none; returns the line of the fault."""
+    ways, bad = file.chance.choice(BAD_WAYS if wrong == "ways" and several else [(["[1]", "[2]"], 0), (["[2, 1]"], 0)])
+    line = file.line()
+    file.key("ways", True)
+    file.add(f"{file.blanks()}=")
+    lines = file.array(*ways)
+    file.end()
+    return lines[bad - 1] if bad else line
+
+
 def add_top(file, wrong, several):
-    """Adds a title or none, the quota or the quotas, and a key that no game has, if that is the fault; returns the line
-    of the title or the key."""
+    """Adds a title or none, the quota or the quotas, ways or none, and a key that no game has, if that is the fault;
+    returns the line of the title, the ways or the key."""
     chance, line = file.chance, None
     if wrong == "key":
         line = file.line()
@@ -145,6 +164,9 @@ def add_top(file, wrong, several):
         file.long_text(chance.randrange(2, 4) if wrong == "title" else 1)
         file.end()
     add_quota(file, wrong, several)
+    if wrong == "ways" or several and chance.random() < 0.3:
+        its = add_ways(file, wrong, several)
+        line = its if wrong == "ways" else line
     return line
 
 
@@ -198,7 +220,7 @@ def make(chance):
     """Returns a file with a fault, and the line of the fault."""
     file, count = File(chance), chance.randrange(1, 6)
     weight = chance.choice(["weight", "weight", "weights"])
-    bad, wrong = chance.randrange(count), chance.choice(["name", weight, "odd", "title", "key", "quota", "range", "both", "same", "table"])
+    bad, wrong = chance.randrange(count), chance.choice(["name", weight, "odd", "title", "key", "quota", "range", "both", "same", "table", "ways"])
     if wrong == "same":
         bad, count, file.same = bad + 1, count + 1, True
     line = add_top(file, wrong, weight == "weights")
@@ -206,7 +228,7 @@ def make(chance):
         line = file.line()
         file.add(chance.choice(["[member]\n", "member = {\n}\n", "[ 'member' ]\nname = 'A'\n", "member.name = 'A'\n", "member = 5\n"]))
         return file, line
-    line = line if wrong in ("title", "key") else None
+    line = line if wrong in ("title", "key", "ways") else None
     inline = chance.random() < 0.4
     if inline:
         file.key("member", True)
@@ -214,7 +236,7 @@ def make(chance):
     for at in range(count):
         here = wrong if at == bad else None
         found = (add_inline if inline else add_member)(file, make_pairs(file, at, weight, here), here)
-        if here and wrong not in ("title", "key"):
+        if here and wrong not in ("title", "key", "ways"):
             line = found
     if inline:
         file.add("]\n")

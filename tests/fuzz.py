@@ -4,7 +4,7 @@
     fuzz.py PROGRAM COUNT SEED
 
 makes COUNT files from the games of examples/, and from as many random games of two to four rules with many
-zeros and up to 40 members, each by some flips, cuts, repeats and joins of bytes, and runs PROGRAM on each, as FILE or on standard input and with options of all kinds. Whatever the
+zeros and up to 40 members, half of them with ways, each by some flips, cuts, repeats and joins of bytes, and runs PROGRAM on each, as FILE or on standard input and with options of all kinds. Whatever the
 file, the program ends by itself within a second, of the clock or of processor time, or on a slower or
 busier machine within three times what the slowest of the untouched games takes there, with a status
 from 0 to 5 that is not 2. A run that takes longer is tried again, for five minutes: a machine that others
@@ -33,6 +33,8 @@ import tempfile
 import time
 from collections import Counter
 
+import random_games
+
 # A run that takes longer, by the clock and in processor time, may take `TIMES` times what the
 # slowest untouched game takes at that time. Else it is tried again after `PAUSE` seconds.
 SECONDS = 1.0
@@ -45,7 +47,7 @@ HANGS = 5 * int(os.environ.get("SECONDS_EACH", 60))
 TELLING = [b"[", b"]", b"[[", b"]]", b"=", b"\n", b"\r\n", b'"', b"'", b'"""', b"#", b",", b";", b".", b"-", b"{", b"}",
            b"0", b"9", b"1000000000000", b"9223372036854775807", b"1e3", b"inf", b"0x10", b"1_0", b"\\u0000", b"\\",
            b"\x00", b"\x7f", b"\x80", b"\xff", b"\xef\xbb\xbf", b"\t", b" ",
-           b"quota", b"quotas", b"weight", b"weights", b"member", b"[[member]]\n", b"name", b"title = "]
+           b"quota", b"quotas", b"ways = [[1, 2], [3]]\n", b"ways", b"weight", b"weights", b"member", b"[[member]]\n", b"name", b"title = "]
 
 
 def several_rules(rng):
@@ -71,7 +73,8 @@ def several_rules(rng):
             weights[rng.randrange(members)] = 50
             quota = rng.randint(1, max(1, sum(weights) // 4))
         rules.append((quota, weights))
-    return game_file(rules)
+    ways = random_games.ways_of(rng, len(rules)) if rng.randrange(2) else []
+    return game_file(rules, ways)
 
 
 def statute(rng):
@@ -126,9 +129,11 @@ def register(rng):
     return rules
 
 
-def game_file(rules):
-    """The game file of rules, each of a quota and weights."""
+def game_file(rules, ways=()):
+    """The game file of rules, each of a quota and weights, and of ways, if there are some."""
     lines = [f"quotas = {[quota for quota, _ in rules]}"]
+    if ways:
+        lines.append(f"ways = {[[r + 1 for r in way] for way in ways]}")
     for member in range(len(rules[0][1])):
         lines += ["[[member]]", f'name = "M{member}"', f"weights = {[weights[member] for _, weights in rules]}"]
     return "".join(f"{line}\n" for line in lines).encode()

@@ -9,8 +9,8 @@ it, and one [[member]] header for each member. It checks nothing else: it is for
 right. Plain Python 3, whole numbers and exact fractions alone.
 
 It enumerates the coalitions. With --polynomials it lists none: it counts those of a game of one rule, or of two
-of which one gives each member the same weight, by the terms of generating functions. Swings are counted
-over all sets of members, those of the same sums at once.
+of which one gives each member the same weight, by the terms of generating functions; a third rule may say that more
+heads do by themselves. Swings are counted over all sets of members, those of the same sums at once.
 
 The reports of examples/ were made by it, and are made again, in some minutes, by
 
@@ -31,14 +31,20 @@ from math import factorial
 FLAGS = ("--list", "--sizes", "--notation", "--polynomials", "--swings", "--only-swings")
 
 class Game:
-    def __init__(self, title, names, rules):
+    def __init__(self, title, names, rules, ways=None):
         self.title = title
         self.names = names
         # the quota and the weights, in file order, of each rule
         self.rules = rules
+        # the rules, from 0, of each way to win
+        self.ways = ways or [list(range(len(rules)))]
         first = rules[0][1]
         # the members, the heaviest by the first rule before the others, ties by place in the file
         self.ranked = sorted(range(len(names)), key=lambda i: (-first[i], i))
+
+    def wins(self, sums):
+        """Whether those win whose weights add up to these sums: they meet each rule of some way."""
+        return any(all(sums[r] >= self.rules[r][0] for r in way) for way in self.ways)
 
 
 def read_bracket(text):
@@ -66,7 +72,7 @@ def read_toml(text):
         rules = [(top["quota"], [it["weight"] for it in members])]
     else:
         rules = [(quota, [it["weights"][r] for it in members]) for r, quota in enumerate(top["quotas"])]
-    return Game(top.get("title"), names, rules)
+    return Game(top.get("title"), names, rules, [[rule - 1 for rule in way] for way in top.get("ways", [])])
 
 
 def read(path):
@@ -82,29 +88,28 @@ def minimal_coalitions(game):
     are still to come cannot make it win, and where it wins already: more members would be too many.
     """
     weights = [[of[i] for i in game.ranked] for _, of in game.rules]
-    quotas = [quota for quota, _ in game.rules]
-    rules = range(len(quotas))
+    rules = range(len(weights))
     members = len(game.names)
     rest = [[sum(of[p:]) for p in range(members + 1)] for of in weights]
     found = []
     inside = []
 
     def is_minimal(sums):
-        return all(any(sums[r] - weights[r][p] < quotas[r] for r in rules) for p in inside)
+        return not any(game.wins([sums[r] - weights[r][p] for r in rules]) for p in inside)
 
     def decide(place, sums):
-        if all(sums[r] >= quotas[r] for r in rules):
+        if game.wins(sums):
             if is_minimal(sums):
                 found.append(tuple(inside))
             return
-        if any(sums[r] + rest[r][place] < quotas[r] for r in rules):
+        if not game.wins([sums[r] + rest[r][place] for r in rules]):
             return
         inside.append(place)
         decide(place + 1, [sums[r] + weights[r][place] for r in rules])
         inside.pop()
         decide(place + 1, sums)
 
-    decide(0, [0] * len(quotas))
+    decide(0, [0] * len(weights))
     # the listing order: as numbers whose highest binary digit is the heaviest member, falling
     found.sort(key=lambda c: sum(1 << (members - 1 - p) for p in c), reverse=True)
     return found
@@ -132,14 +137,15 @@ def counted(game):
 
     For each size there is a polynomial whose term of degree w has how many sets of the members so far weigh w. A
     coalition is minimal where it just has the heads and meets the quota, or has more and misses the quota
-    without its lightest member, which is the last that it takes.
+    without its lightest member, which is the last that it takes. Where `enough` heads do by themselves, it has no
+    more, and with that many it need not meet the quota.
     """
-    heads = 0
-    (quota, weights), *others = sorted(game.rules, key=lambda rule: len(set(rule[1])) == 1)
-    if others:
-        (needed, same), = others
-        assert len(set(same)) == 1 and same[0] > 0, "not a game of weights and heads"
-        heads = -(-needed // same[0])
+    (quota, weights), *others = sorted(game.rules[:2], key=lambda rule: len(set(rule[1])) == 1) + game.rules[2:]
+    needed = [-(-least // same[0]) for least, same in others if len(set(same)) == 1 and same[0] > 0]
+    heads = needed[0] if needed else 0
+    enough = needed[1] if len(needed) > 1 else len(weights) + 1
+    is_known = [sorted(way) for way in game.ways] in ([[0]], [[0, 1]], [[0, 1], [2]])
+    assert is_known and len(needed) == len(others) and heads < enough, "not a game of weights and heads"
     total = sum(weights)
     order = sorted(range(len(weights)), key=lambda i: (-weights[i], i))
 
@@ -151,8 +157,9 @@ def counted(game):
         for i in order:
             own = weights[i]
             if begun or i == wanted:
-                for size in range(heads, len(order)):
-                    sizes[size + 1] += terms(sets[size], max(quota - own, 0), quota)
+                for size in range(heads, min(len(order), enough)):
+                    least = 0 if size + 1 == enough else max(quota - own, 0)
+                    sizes[size + 1] += terms(sets[size], least, quota)
             taken = [0] + [of << 64 * own for of in sets[:-1]]
             if i == wanted:
                 begun, sets = True, taken
@@ -186,9 +193,10 @@ def swings_of(game):
         others = weighed[:]
         others.remove(own)
         joined = sum(number for sums, number in sets_of(others, quotas).items()
-                     if sums != quotas and all(one + other >= quota for one, other, quota in zip(sums, own, quotas)))
+                     if not game.wins(sums) and game.wins([one + other for one, other in zip(sums, own)]))
         found[own] = [0] + [terms(joined, size, size + 1) for size in members]
-    return terms(sets_of(weighed, quotas)[quotas], 0, len(game.names) + 1), [found[own] for own in weighed]
+    winning = sum(number for sums, number in sets_of(weighed, quotas).items() if game.wins(sums))
+    return terms(winning, 0, len(game.names) + 1), [found[own] for own in weighed]
 
 
 def swing_indices(swings):
@@ -220,6 +228,8 @@ def report(game, with_list=False, with_sizes=False, with_notation=False, by_poly
     yield f"members\t{len(game.names)}"
     yield f"quota\t{with_slashes(quota for quota, _ in game.rules)}"
     yield f"total\t{with_slashes(sum(of) for _, of in game.rules)}"
+    if len(game.ways) > 1:
+        yield "ways\t" + " ".join(",".join(str(r + 1) for r in way) for way in game.ways)
     if with_notation:
         for quota, of in game.rules:
             yield f"notation\t[{quota}; {', '.join(str(weight) for weight in of)}]"

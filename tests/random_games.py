@@ -3,15 +3,15 @@
 
     random_games.py PROGRAM COUNT SEED
 
-makes COUNT games of up to 12 members and COUNT of up to 20, with 1 to 4 rules, from SEED, and as many statutes: of chambers,
-heads and members that can veto, as sums count them, wholly or in part. Of the first it
-tries every subset, and compares the walk and the swings of tests/oracle.py with that, and what PROGRAM
-prints with --swings and --only-swings with its report; of all it compares what
-PROGRAM prints, with any options, workers and bits, with the report of tests/oracle.py, and likewise what it
-prints with --tally. Of COUNT more games of up to 24 members, and of 300 games with few kinds of
-members, it compares what is printed with --tally and without. Of COUNT / 2 games it compares the
-lists in every order of their rules. Some lists are longer than the block of 64 KiB that a report goes
-out by. Prints a line `ok NAME` or `FAILED NAME: why` for each kind.
+makes COUNT games of up to 12 members and COUNT of up to 20, with 1 to 4 rules, from SEED, and as many statutes: of
+chambers, heads and members that can veto, as sums count them, wholly or in part; half of those of several rules have
+ways. COUNT games of up to 10 members have 1 to 6 ways. Of these and of the first it tries every subset, and compares
+the walk and the swings of tests/oracle.py with that, and what PROGRAM prints with --swings and --only-swings with its
+report; of all it compares what PROGRAM prints, with any options, workers and bits, with the report of tests/oracle.py,
+and likewise what it prints with --tally. Of COUNT more games of up to 24 members, and of 300 games with few kinds of
+members, it compares what is printed with --tally and without. Of COUNT / 2 games it compares the lists in every order
+of their rules, with their ways in any order. Some lists are longer than the block of 64 KiB that a report goes out by.
+Prints a line `ok NAME` or `FAILED NAME: why` for each kind.
 """
 import functools
 import itertools
@@ -49,19 +49,39 @@ def quota_of(rng, weights):
     return rng.choice([1, sum(weights), sum(weights) // 2 + 1, rng.randint(1, sum(weights))])
 
 
+def ways_of(rng, rules):
+    """Ways of so many rules, in any order: at times all of one size, or all but one."""
+    sets = [it for size in range(1, rules + 1) for it in map(set, itertools.combinations(range(rules), size))]
+    while True:
+        ways = rng.sample(sets, rng.randint(1, min(6, len(sets))))
+        if rng.randrange(3) == 0:
+            ways = [it for it in sets if len(it) == len(ways[0])][rng.randrange(2):]
+        ways = [way for way in ways if not any(other < way for other in ways)]
+        if set().union(*ways) == set(range(rules)):
+            return [rng.sample(sorted(way), len(way)) for way in rng.sample(ways, len(ways))]
+
+
 def named(rng, rules):
-    """The game of these rules, with any names, and with a title or none."""
+    """The game of these rules, with any names, a title or none, and ways or none."""
     names = [f"{rng.choice(NAMES)} {i}" for i in range(len(rules[0][1]))]
-    return oracle.Game(rng.choice([None, "", "A title", "日本"]), names, rules)
+    ways = ways_of(rng, len(rules)) if rng.randrange(2) else None
+    return oracle.Game(rng.choice([None, "", "A title", "日本"]), names, rules, ways)
 
 
-def random_game(rng, most_members):
+def random_game(rng, most_members, numbers=(1, 1, 1, 2, 2, 3, 4)):
     members = rng.randint(1, most_members)
     rules = []
-    for _ in range(rng.choice([1, 1, 1, 2, 2, 3, 4])):
+    for _ in range(rng.choice(numbers)):
         weights = weights_of(rng, members)
         rules.append((quota_of(rng, weights), weights))
     return named(rng, rules)
+
+
+def game_of_ways(rng, most_members):
+    """A game of 1 to 4 rules, as often of each number, with ways."""
+    game = random_game(rng, most_members, (1, 2, 3, 4))
+    game.ways = ways_of(rng, len(game.rules))
+    return game
 
 
 def chamber(rng, members, seats):
@@ -141,6 +161,8 @@ def file_of(game):
     one = len(game.rules) == 1
     quotas = [quota for quota, _ in game.rules]
     lines.append(f"quota = {quotas[0]}" if one else f"quotas = {quotas}")
+    if game.ways != [[*range(len(quotas))]]:
+        lines.append(f"ways = {[[r + 1 for r in way] for way in game.ways]}")
     for i, name in enumerate(game.names):
         weights = [of[i] for _, of in game.rules]
         lines += ["[[member]]", f"name = {json.dumps(name, ensure_ascii=False)}"]
@@ -155,8 +177,9 @@ def by_every_subset(game):
     weights = [[of[i] for i in game.ranked] for _, of in game.rules]
 
     def wins(mask):
-        return all(sum(of[p] for p in range(members) if mask >> (members - 1 - p) & 1) >= quota
-                   for (quota, _), of in zip(game.rules, weights))
+        met = {r for r, of in enumerate(weights)
+               if sum(of[p] for p in range(members) if mask >> (members - 1 - p) & 1) >= game.rules[r][0]}
+        return any(met.issuperset(way) for way in game.ways)
 
     winning = [wins(mask) for mask in range(2 ** members)]
     found, swings = [], [[0] * (members + 1) for _ in range(members)]
@@ -206,17 +229,31 @@ class Comparison:
         """What PROGRAM prints of the game that was written, with any workers and bits."""
         return printed(self.program, self.file, [*words, *threads(self.rng)])
 
+    def compare_swings(self, kind, name, game):
+        """One small game by every subset, and the report of its swings alone."""
+        found = oracle.minimal_coalitions(game), oracle.swings_of(game)
+        self.compare(f"oracle.py{kind}, by every subset", name, found, by_every_subset(game))
+        only = ["--only-swings", "--notation"][: self.rng.randint(1, 2)]
+        self.compare(f"--only-swings{kind}", name, self.print(*only), report(game, only))
+
+    def compare_ways(self, name):
+        """One game of ways, by every subset, and its reports."""
+        game = game_of_ways(self.rng, 10)
+        self.write(game)
+        self.compare_swings(" of ways", name, game)
+        flags = ["--list", *(it for it in ("--sizes", "--notation", "--swings") if self.rng.randrange(2))]
+        for word in "--list", "--tally":
+            chosen = [word, *flags[1:]]
+            self.compare(f"{word} of ways", name, self.print(*chosen), report(game, chosen))
+
     def compare_reports(self, name, is_small, is_statute):
         """One game, by every subset if it is small, and its reports."""
         rng, make = self.rng, random_statute if is_statute else random_game
         game = make(rng, 12 if is_small else 18 if is_statute else 20)
         self.write(game)
-        found = oracle.minimal_coalitions(game)
         flags = ["--list", "--sizes", "--notation"]
         if is_small:
-            self.compare("oracle.py, by every subset", name, (found, oracle.swings_of(game)), by_every_subset(game))
-            only = ["--only-swings", "--notation"][: rng.randint(1, 2)]
-            self.compare("--only-swings", name, self.print(*only), report(game, only))
+            self.compare_swings("", name, game)
             flags.append("--swings")
         flags = [it for it in flags if rng.randrange(2)]
         if not is_statute:
@@ -232,8 +269,9 @@ class Comparison:
     def compare_orders(self, name, make):
         """Each order of the rules of one game."""
         game = make(self.rng, 16)
-        for order in itertools.permutations(game.rules):
-            other = oracle.Game(game.title, game.names, list(order))
+        for order in itertools.permutations(range(len(game.rules))):
+            ways = [[order.index(r) for r in way] for way in self.rng.sample(game.ways, len(game.ways))]
+            other = oracle.Game(game.title, game.names, [game.rules[r] for r in order], ways)
             self.write(other)
             self.compare("every order of the rules", name, self.print("--list"), report(other, ["--list"]))
 
@@ -254,6 +292,8 @@ def main(words):
         comparison = Comparison(os.path.abspath(words[0]), rng, room)
         for number in range(4 * count):
             comparison.compare_reports(f"game {number} of seed {words[2]}", number < 2 * count, number % 2 == 1)
+        for number in range(count):
+            comparison.compare_ways(f"game {number}")
         for number in range(count):
             comparison.compare_tally_and_run("weights with little in common", f"game {number}", random_rows(rng))
         for number in range(max(count, 300)):

@@ -8,7 +8,7 @@ import re
 LONG, SHORT = r'"""(?:[^"\\]|\\.|"{1,2}(?!"))*"{3,5}', r'"(?:[^"\\\n]|\\.)*"'
 LITERALS = r"'''(?:[^']|'{1,2}(?!'))*'{3,5}", r"'[^'\n]*'"
 TOKEN = re.compile("|".join([r"[ \t\r]+|#[^\n]*|(?P<token>\n", LONG, LITERALS[0], SHORT, LITERALS[1], r"""[][{},=.]|[^\s#"',=.{}\[\]]+)"""]), re.S)
-TOP, MEMBER = ["title", "quota", "quotas", "member"], ["name", "weight", "weights"]
+TOP, MEMBER = ["title", "quota", "quotas", "ways", "member"], ["name", "weight", "weights"]
 ESCAPE = re.compile(r"\\(?:u([0-9A-Fa-f]{4})|U([0-9A-Fa-f]{8})|x([0-9A-Fa-f]{2})|(.))", re.S)
 
 
@@ -107,6 +107,16 @@ def read(text):
     return top
 
 
+def find_way(keys):
+    """Returns the way that is wrong, or the value of `ways` if none is so by itself or beside another."""
+    found, rules = keys["ways"], [str(at + 1) for at in range(len(keys["quotas"].items))] if "quotas" in keys else []
+    ways = found.items if rules and 1 <= len(found.items or []) <= 6 else []
+    sets = [[it.text for it in way.items or []] for way in ways]
+    wrong = [way for way, own in zip(ways, sets) if not own or len(set(own)) < len(own) or not set(own) <= set(rules)]
+    wrong += [way for way, own in zip(ways, sets) if any(other is not own and set(other) <= set(own) for other in sets)]
+    return (wrong + [found])[0]
+
+
 def find_lines(top, fault):
     """Returns the lines that explain a fault, in their order."""
     keys, members = top.keys, getattr(top.keys.get("member"), "items", None) or []
@@ -130,6 +140,8 @@ def find_lines(top, fault):
         return of_member(number, "name")
     if fault.startswith("bad weight"):
         return of_member(number, "weights" if "quotas" in keys and keys["quotas"].items else "weight")
+    if fault == "bad ways":
+        return [find_way(keys).line]
     if fault == "bad member list":
         return of_top("member") if "member" in keys and keys["member"].items is None else []
     return of_top("title") if fault == "bad title" else of_top("quotas", "quota")

@@ -1,5 +1,6 @@
 #!/usr/bin/env python3
 """What docs/GUIDE.md says of published tables and treaties."""
+import re
 from fractions import Fraction
 from itertools import combinations, product
 from math import comb
@@ -53,18 +54,26 @@ class Published(Tests):
     def test_or_24_of_27_states(self):
         """What it adds to the Treaty of Lisbon, as docs/GUIDE.md says."""
         union = read(stored("eu-27-lisbon"))
+        text = open(f"{TOP}/examples/eu-27-lisbon.toml", encoding="utf-8").read()
+        without = re.sub(r", 24\]\nways = .*", "]", text).replace(", 1, 1]", ", 1]")
         weights, quota, total = [it.weights[0] for it in union.members], union.quotas[0], union.totals[0]
         added = [out for out in combinations(range(27), 3) if total - sum(weights[at] for at in out) < quota]
         # no other coalition of 25 members or more stops being minimal
         heavy = [out for size in range(3) for out in combinations(range(27), size)
                  if quota <= total - sum(weights[at] for at in out) < quota + min(it for at, it in enumerate(weights) if at not in out)]
-        seats = sum(it.coalitions for it in union.members)
+        old = read(report(without))
+        self.assertEqual((len(added), heavy, union.minimal, old.minimal), (22, [], 4377866, 4377844))
+        seats = sum(it.coalitions for it in old.members)
         moved = []
-        for at, it in enumerate(union.members):
+        for at, (it, new) in enumerate(zip(old.members, union.members)):
             more = sum(at not in out for out in added)
-            moved.append(abs((it.deegan_packel_exact * union.minimal + Fraction(more, 24)) / (union.minimal + len(added)) - it.deegan_packel_exact))
-            moved.append(abs(Fraction(it.coalitions + more, seats + 24 * len(added)) - it.public_good_exact))
-        self.assertEqual((len(added), heavy, max(moved) < Fraction(5, 10**7), union.minimal), (22, [], True, 4377844))
+            self.assertEqual(new.deegan_packel_exact, (it.deegan_packel_exact * old.minimal + Fraction(more, 24)) / union.minimal)
+            self.assertEqual(new.public_good_exact, Fraction(it.coalitions + more, seats + 24 * len(added)))
+            moved += [abs(new.deegan_packel_exact - it.deegan_packel_exact), abs(new.public_good_exact - it.public_good_exact)]
+        self.assertLess(max(moved), Fraction(5, 10**7))
+        for game, germany, malta in (text, "0.176377", "0.008751"), (without, "0.178628", "0.008438"):
+            lines = report(game, "--only-swings").split("\n")
+            self.assertEqual([it.split("\t")[-1] for it in lines if "Germany" in it or "Malta" in it], [germany, malta])
 
     def test_the_american_override(self):
         """The rules of docs/GUIDE.md, for each number of members of both houses."""

@@ -32,8 +32,7 @@ is_blank b = b == 32 || b == 9 || b == 10 || b == 13
 
 -- [ ] , ; or another byte
 abbrev pub mark : ℕ → Symbol
-mark b = if b == 91 then opening else (if b == 93 then closing
-    else (if b == 44 then comma else (if b == 59 then semicolon else other)))
+mark b = if b == 91 then opening else (if b == 93 then closing else (if b == 44 then comma else (if b == 59 then semicolon else other)))
 
 abbrev pub begins_with_digit : List ℕ → Bool
 begins_with_digit [] = false
@@ -62,8 +61,7 @@ weights_of (number ds ∷ comma ∷ ps) = option_and_then (λ w. option_map (λ 
 weights_of ps = None
 
 unfoldable pub rule_of : List Symbol → Option RuleView
-rule_of (opening ∷ number ds ∷ semicolon ∷ ps) =
-    option_and_then (λ q. option_map (λ ws. record { quota = q; weights = ws }) (weights_of ps)) (value_of ds)
+rule_of (opening ∷ number ds ∷ semicolon ∷ ps) = option_and_then (λ q. option_map (λ ws. record { quota = q; weights = ws }) (weights_of ps)) (value_of ds)
 rule_of ps = None
 
 -- It begins with [ and a digit, but for blanks.

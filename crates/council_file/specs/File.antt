@@ -58,8 +58,7 @@ has_key k t = is_some (get_member k t)
 -- ---- the checks, in their order
 
 abbrev pub has_unknown_key : Members → Bool
-has_unknown_key t = has_other_key top_keys t
-    || list_any (λ d. option_map_or (has_other_key member_keys) (as_table d) false) (member_list t)
+has_unknown_key t = has_other_key top_keys t || list_any (λ d. option_map_or (has_other_key member_keys) (as_table d) false) (member_list t)
 
 -- no title, or one that is a title
 abbrev pub title_from : Option Data → Result (Option (List ℕ)) GameFault
@@ -80,8 +79,7 @@ breaks_rules t = (has_key (codes "quota") t && has_key (codes "quotas") t)
     || (has_key (codes "quotas") t && some_member_has (codes "weight") t)
 
 abbrev pub lacks_quota : Members → Bool
-lacks_quota t =
-    option_map_or (λ d. is_none (as_integer d)) (get_member (codes "quota") t) (not (has_key (codes "quotas") t))
+lacks_quota t = option_map_or (λ d. is_none (as_integer d)) (get_member (codes "quota") t) (not (has_key (codes "quotas") t))
 
 -- 1 to 40 tables
 abbrev pub are_members : List Data → Bool
@@ -109,8 +107,7 @@ only_weight d = number_or (2 ^ 64 - 1) (get (codes "weight") d)
 
 -- the weight of a member under rule r of n
 unfoldable pub weight_under : ℕ → ℕ → Data → ℕ
-weight_under n r d =
-    let ws = option_map_or elements_of (get (codes "weights") d) [] in
+weight_under n r d = let ws = option_map_or elements_of (get (codes "weights") d) [] in
     if length ws == n then number_or (2 ^ 64 - 1) (slice_get ws r) else 2 ^ 64 - 1
 
 unfoldable pub only_rule : Members → RuleView
@@ -118,12 +115,10 @@ only_rule t = record { quota = number_or 0 (get_member (codes "quota") t); weigh
 
 -- rule r of n
 unfoldable pub rule_from : Members → ℕ → ℕ → RuleView
-rule_from t n r =
-    record { quota = number_or 0 (slice_get (elements_at (codes "quotas") t) r); weights = map (weight_under n r) (member_list t) }
+rule_from t n r = record { quota = number_or 0 (slice_get (elements_at (codes "quotas") t) r); weights = map (weight_under n r) (member_list t) }
 
 abbrev pub rules_of : Members → List RuleView
-rules_of t = if has_key (codes "quota") t then only_rule t ∷ []
-    else (let n = length (elements_at (codes "quotas") t) in map (rule_from t n) (range_with_len 0 n))
+rules_of t = if has_key (codes "quota") t then only_rule t ∷ [] else (let n = length (elements_at (codes "quotas") t) in map (rule_from t n) (range_with_len 0 n))
 
 -- ---- the ways
 
@@ -139,8 +134,7 @@ named_ways t = map way_from (elements_at (codes "ways") t)
 
 -- the file names ways, and these are none by its quotas
 abbrev pub breaks_ways : Members → Bool
-breaks_ways t = has_key (codes "ways") t
-    && not (has_key (codes "quotas") t && are_ways (length (elements_at (codes "quotas") t)) (named_ways t))
+breaks_ways t = has_key (codes "ways") t && not (has_key (codes "quotas") t && are_ways (length (elements_at (codes "quotas") t)) (named_ways t))
 
 -- the ways that the file names, or else the one of all rules
 abbrev pub ways_of : Members → Result (List (List ℕ)) GameFault

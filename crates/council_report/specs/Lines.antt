@@ -71,14 +71,12 @@ unfoldable pub minimal_line : ℕ → List ℕ
 minimal_line count = line (codes "minimal") (decimal count ∷ [])
 
 unfoldable pub coalition_line : GameView → ℕ → List ℕ
-coalition_line g c =
-    line (codes "coalition") (decimal (size (length g.names) c) ∷ with_slashes (weights_of_coalition g c) ∷ names_of g c)
+coalition_line g c = line (codes "coalition") (decimal (size (length g.names) c) ∷ with_slashes (weights_of_coalition g c) ∷ names_of g c)
 
 -- size s, how many coalitions have it, and for each member how many of those contain it; no line
 -- if none has it
 unfoldable pub size_line : GameView → ℕ → ℕ → (ℕ → ℕ) → List ℕ
-size_line g s count count_of_member = if count == 0 then [] else
-    line (codes "size") (decimal s ∷ decimal count ∷ map (λ i. decimal (count_of_member i)) (members g))
+size_line g s count count_of_member = if count == 0 then [] else line (codes "size") (decimal s ∷ decimal count ∷ map (λ i. decimal (count_of_member i)) (members g))
 
 -- an index, as a fraction in lowest terms, and as one digit, a point and six digits, cut off
 abbrev pub index_fields : ℕ × ℕ → List (List ℕ)

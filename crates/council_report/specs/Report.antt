@@ -16,8 +16,7 @@ notation_lines shown g = if shown.notation then flat_map notation_line g.rules e
 
 -- the lines of the game itself
 abbrev pub game_lines : ReportLines → GameView → List ℕ
-game_lines shown g =
-    title_line g ++ members_line g ++ quota_line g ++ total_line g ++ ways_line g ++ notation_lines shown g
+game_lines shown g = title_line g ++ members_line g ++ quota_line g ++ total_line g ++ ways_line g ++ notation_lines shown g
 
 abbrev pub coalition_lines : ReportLines → GameView → List ℕ → List ℕ
 coalition_lines shown g list = if shown.list then flat_map (coalition_line g) list else []

@@ -28,10 +28,8 @@ IsWithin limit g = IfSome limit (λ most. count_of g ≤ most)
 abbrev pub Stops : (GameView → List ℕ) → Option ℕ → (Result GameView GameFault → Type 0) → (List ℕ → Result ℕ ReportFault → Type 0)
     → Type 0 → Cause → ℕ → Type 0
 Stops text limit Read Write Kept (cause.Game fault) written = (written ≡ 0) × Kept × Read (Err fault)
-Stops text limit Read Write Kept (cause.Gather gather.TooMany) written =
-    (written ≡ 0) × Kept × ((g : GameView) × Read (Ok g) × (IsWithin limit g → ⊥))
-Stops text limit Read Write Kept cause.Write written =
-    (g : GameView) × Read (Ok g) × IsWithin limit g × Write (text g) (Err (report.Write written))
+Stops text limit Read Write Kept (cause.Gather gather.TooMany) written = (written ≡ 0) × Kept × ((g : GameView) × Read (Ok g) × (IsWithin limit g → ⊥))
+Stops text limit Read Write Kept cause.Write written = (g : GameView) × Read (Ok g) × IsWithin limit g × Write (text g) (Err (report.Write written))
 Stops text limit Read Write Kept why written = (written ≡ 0) × Kept × ((g : GameView) × Read (Ok g))
 
 -- A run that succeeds wrote the text of the game that it read, and nothing else; the game is within

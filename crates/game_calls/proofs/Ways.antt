@@ -1,12 +1,12 @@
--- Who wins by some way: under its rules alone, and with rules and ways in another order.
-use Rattle.std.proofs.Common.{◌≡◌, ◌∙◌, ℕ, ◌<◌, Bool, true, List, [], ◌∷◌, length, get_or, map, sym, ap, refl, arith, IsPermutation}
+-- Who wins by some way: under only its rules, and with rules and ways in another order.
+use Rattle.std.proofs.Common.{◌≡◌, ◌∙◌, ℕ, ◌<◌, Bool, true, List, [], ◌∷◌, length, get_or, map, sym, ap, refl, IsPermutation}
 use Rattle.std.specs.{List.list_all, List.list_any, List.range_with_len, Cmp.both_ways as same_test}
 use Rattle.std.proofs.lemmas.List.{get_or-map, length-map, FromFn.fill_by_all, Folds.list_all-map, Folds.list_any_at, Sorted.All-permutation, Sorted.IsPermutation-sym}
 use Rattle.std.proofs.lemmas.List.Sums.{AllPass-from_list_all, list_all-from_AllPass}
 use Rattle.std.proofs.Math.Bool.{or-false}
 use Rattle.council_game.specs.{Game.GameView, Game.IsGame, Game.votes_of, Ranks.rule_by_rank, Ways.covers, Ways.has_rule}
 use Rattle.council_game.specs.Votes.{RuleView, Votes, meets_quota, rule_at, wins}
-use Rattle.council_game.specs.Renaming.{AreInverse, HaveRenamedMembers, IsRenaming, IsRenamedRule}
+use Rattle.council_game.specs.Renaming.{AreInverse, HaveRenamedMembers, IsRenaming}
 use Rattle.council_game.proofs.Shared.{Games.passed, Renamed.met-alike}
 use Rattle.council_game.proofs.Shared.Ways.{each-passes, one-way-passes, own-rule, some-passes, way-passes}
 use Rattle.game_calls.specs.Winning.{HaveSameWays, by_way}
@@ -17,7 +17,7 @@ rules-pass test rs n long =
     sym (list_all-map test (rule_at rs) (range_with_len 0 n))
     ∙ sym (ap (list_all test) (fill_by_all (rule_at rs) rs n (record { quota = 0; weights = [] }) long (λ k lt. refl)))
 
--- ---- each way alone
+-- ---- each way by itself
 pub by_ways : (v : Votes) (c : ℕ) → wins v c ≡ list_any (λ way. wins (by_way v way) c) v.ways
 unfolding wins
 by_ways v c =

@@ -1,6 +1,6 @@
 -- What coalitions weigh: vetoers and swings by weight, and games in which no two disjoint ones win.
 use Rattle.std.proofs.Common.{◌≡◌, ◌∙◌, ◌||◌, ◌&&◌, ◌==◌, ◌↔◌, ℕ, zero, suc, ◌+◌, ◌*◌, ◌^◌, ◌<◌, ◌≤◌, Bool, true, false, not, cond}
-use Rattle.std.proofs.Common.{List, [], ◌∷◌, length, map, get_or, sum, sum_by, sym, ap, refl, arith, inl, inr, All, leb-true, le-leb}
+use Rattle.std.proofs.Common.{List, [], ◌∷◌, length, get_or, sum, sum_by, sym, ap, refl, arith, inl, inr, All, leb-true, le-leb}
 use Rattle.std.specs.{List.list_all, List.list_any, List.range_with_len, Prelude.nat_le}
 use Rattle.std.proofs.Math.Bool.{or-false}
 use Rattle.std.proofs.lemmas.{Bool.Decides.nat_tests, List.get_or-map, List.length-map, List.FromFn.fill_by_all}

@@ -117,16 +117,17 @@ pub fn higher_quotas_keep_vetoers()
         → IsVetoer (at_quota g r) i }
 {}
 
-/// No two disjoint coalitions win if each two ways share a rule with a quota above half of its total.
+/// No two disjoint coalitions win if each two ways share a high quota.
 ///
-/// Such a game is proper (Felsenthal and Machover 1998). In a game of one way some rule has such a
-/// quota exactly if `Game::has_low_quotas` returns false.
+/// That is, a rule whose quota is above half of its total. Such a game is proper (Felsenthal and
+/// Machover 1998). A game of one way has such a rule exactly if `Game::has_low_quotas` returns
+/// false.
 pub fn high_quotas_make_games_proper()
     ensures ways { (g : GameView) → IsGame g → have_high_rules g ≡ true → IsProper g }
     ensures one { (g : GameView) → IsGame g → length g.ways ≡ 1 → has_low_quotas g ≡ false → IsProper g }
 {}
 
-/// A coalition wins exactly if it wins under the rules of some way alone.
+/// A coalition wins exactly if it wins under only the rules of some way.
 #[tactic(auto, using(crate::proofs::Ways::by_ways))]
 pub fn ways_win_alone()
     ensures { (v : Votes) (c : ℕ) → wins v c ≡ list_any (λ way. wins (by_way v way) c) v.ways }

@@ -58,10 +58,10 @@ fn weights_of(alloc: Global, game: &Game) -> Result<Vec<u64>, AllocError>
     Ok(weights)
 }
 
-/// Returns the game of the same title and members under other rules: a coalition wins if it meets
-/// them all.
+/// Returns the game of the same title and members under other rules.
 ///
-/// There is at least one rule and at most 4, and each has a weight for each member.
+/// A coalition wins if it meets them all. There is at least one rule and at most 4, and each has a
+/// weight for each member.
 ///
 /// # Errors
 ///

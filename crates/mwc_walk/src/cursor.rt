@@ -503,8 +503,10 @@ impl Cursor {
         self.members - 1 - rest.trailing_zeros() as usize
     }
 
-    /// Returns those members of the prefix that each rule of a set may spare: a rule that passes its
-    /// quota by less than the lightest member weighs can spare only members without weight.
+    /// Returns those members of the prefix that each rule of a set may spare.
+    ///
+    /// A rule that passes its quota by less than the lightest member weighs can spare only members
+    /// without weight.
     #[inline(always)]
     fn may_be_spared(&self, game: &Game, set: &RuleSet, excess: &[u64; limits::RULES]) -> u64
         requires { CursorIs (votes_of game.now) self.now }

@@ -1,0 +1,1 @@
+council game --list --swings

@@ -1,0 +1,1 @@
+council --tally game --sizes --swings
