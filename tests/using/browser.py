@@ -102,9 +102,9 @@ class Browser(Tests):
     @classmethod
     def setUpClass(cls):
         fund = Run("from-table", "85%", "heads:3", "--source", "a report & more", "--title", "A fund", input=FUND).out
-        games = {**{name: open(f"{TOP}/examples/{file}.toml", encoding="utf-8").read() for name, file in [("one rule", "eec-1958"), ("two rules", "eu-27-lisbon"), ("swings", "un-security-council")]}, "four rules": hostile_game(4), "names and units": fund}
+        games = {**{name: open(f"{TOP}/examples/{file}.toml", encoding="utf-8").read() for name, file in [("one rule", "eec-1958"), ("two rules", "ca-amendment"), ("swings", "un-security-council")]}, "four rules": hostile_game(4), "names and units": fund}
         cls.pages, cls.pictures = {}, {}
-        sweeps = {"one rule": [], "two rules": ["--rule", "2", "--from", "14"], "four rules": ["--from", "60", "--to", "66"], "names and units": ["--from", ">50%", "--step", "1"], "swings": ["--from", "39", "--index", "penrose"]}
+        sweeps = {"one rule": [], "two rules": ["--rule", "2", "--from", "5"], "four rules": ["--from", "60", "--to", "66"], "names and units": ["--from", ">50%", "--step", "1"], "swings": ["--from", "39", "--index", "penrose"]}
         for name, game in games.items():
             path, data = put("game.toml", game), put("game.tsv", report(game, *["--swings"] * (name == "swings")))
             cls.pages[name] = Run("page", "--program", PROGRAM, "--game", path, data).out

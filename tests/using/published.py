@@ -71,7 +71,7 @@ class Published(Tests):
             self.assertEqual(new.public_good_exact, Fraction(it.coalitions + more, seats + 24 * len(added)))
             moved += [abs(new.deegan_packel_exact - it.deegan_packel_exact), abs(new.public_good_exact - it.public_good_exact)]
         self.assertLess(max(moved), Fraction(5, 10**7))
-        for game, germany, malta in (text, "0.176377", "0.008751"), (without, "0.178628", "0.008438"):
+        for game, germany, malta in (text, "0.176377", "0.008751"), (without, "0.178627", "0.008437"):
             lines = report(game, "--only-swings").split("\n")
             self.assertEqual([it.split("\t")[-1] for it in lines if "Germany" in it or "Malta" in it], [germany, malta])
 
