@@ -24,7 +24,7 @@ def game_of(members, rules):
     columns += [(1, list(range(members, 0, -1))), (members + 1, [members] + [members + member for member in range(1, members)])]
     if members == 1:
         columns = [(1, [1])] * 4
-    ways = None if members % 2 else list(itertools.combinations(range(rules), max(1, rules // 2)))
+    ways = None if members % 2 else [*map(list, itertools.combinations(range(rules), max(1, rules // 2)))]
     return oracle.Game(None, [f"M{member}" for member in range(members)], columns[:rules], ways)
 
 
