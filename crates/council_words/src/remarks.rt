@@ -125,9 +125,13 @@ pub fn remark_on_quotas(game: &Game) -> Option<&'static str>
         Some(
             "the quota is at most half of the total, so two coalitions without a common member could win",
         )
-    } else {
+    } else if game.ways() == 1 {
         Some(
             "each quota is at most half of its total, so two coalitions without a common member could win",
+        )
+    } else {
+        Some(
+            "each quota of a way is at most half of its total, so two coalitions without a common member could win",
         )
     }
 }
