@@ -27,7 +27,7 @@ class Row(NamedTuple):
         """Returns its first text, or its first number if it has none."""
         return next((it for it in self.cells if it and not is_number(it)), next(filter(None, self.cells)))
 
-    def count(self) -> int:
+    def size(self) -> int:
         """Returns how many cells it has, without empty ones at its end."""
         return max(at for at, it in enumerate(self.cells, 1) if it)
 
@@ -93,7 +93,7 @@ class Table:
         self.rows = [it for it in rest if it.line in read]
         if not self.rows or not (above or words.no_heading):
             raise Fault("there is no row of a member, or no heading above: say --heading N, or --no-heading", 2)
-        self.width = above[-1].count() if self.line else max(map(Row.count, self.rows))
+        self.width = above[-1].size() if self.line else max(map(Row.size, self.rows))
         self.check_widths()
         # what --only leaves out, by its value, and what to say of one that is spelled alike
         self.filtered, self.alike = dict[str, list[Row]](), list[str]()
@@ -123,18 +123,18 @@ class Table:
         for it, below in zip(self.rows, self.rows[1:]):
             titles = [TITLE.fullmatch(cell) or re.fullmatch(r"(19|20)\d\d", cell) for cell in it.cells if cell]
             if any(map(is_number, below.cells)) or not all(titles):
-                return it if titles[1:] and all(titles) and it.count() >= below.count() else None
+                return it if titles[1:] and all(titles) and it.size() >= below.size() else None
         return None
 
     def check_widths(self) -> None:
         """Refuses a row with more or fewer cells than the heading."""
         better = self.find_heading()
         for row in self.rows:
-            if (has := row.count()) > self.width or len(row.cells) < self.width:
+            if (has := row.size()) > self.width or len(row.cells) < self.width:
                 how = f"write as many, 1200 instead of 1,200; or say --drop {write_lines([row])}, or --heading N"
                 if better:
                     how = f"say --heading {better.line} if {quote_all(better.cells)} are the headings"
-                elif self.line and all(it.count() == self.width + 1 for it in self.rows):
+                elif self.line and all(it.size() == self.width + 1 for it in self.rows):
                     how = "give each column a heading (in R's write.table say col.names = NA), or say --no-heading"
                 raise Fault(f"{show(row, row.label())}, has {has} cell{'s' * (has > 1)} instead of {self.width}: {how}")
 
