@@ -273,7 +273,7 @@ def find_slow(program):
         longest = max(longest, time.monotonic() - start)
         if fault and lines != toml_lines.find_lines(toml_lines.read(text), fault):
             failed.append(f"lines {lines} of {before!r} {piece!r} {after!r}: {told[:200]!r}")
-    return failed + ([f"{longest:.3f} s"] if longest > 0.1 else []), longest
+    return failed + ([f"{longest:.3f} s"] if longest > 3 else []), longest
 
 
 def find_unknown(program):
