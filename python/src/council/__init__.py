@@ -165,7 +165,7 @@ def read_parts(quota: Any, weights: Any, names: Optional[Iterable[object]], by: 
 def read_lists(ways: Optional[Ways]) -> Optional[Ways]:
     """Returns ways with whole numbers; council says what is wrong with these."""
     try:
-        return None if ways is None else [[operator.index(rule) for rule in it] for it in ways]
+        return None if ways is None else [[int(operator.index(rule)) for rule in it] for it in ways]
     except TypeError:
         raise TypeError(f"ways are lists of rules, as [[1, 2], [3]], and not {ways!r}") from None
 
