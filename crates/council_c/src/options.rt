@@ -40,6 +40,7 @@ impl CouncilOptions {
             workers: 1,
             bits: 0,
             most: if self.most == 0 { USUAL } else { self.most },
+            room: 1 << 22,
             list: self.list,
             sizes: self.sizes,
             notation: self.notation,

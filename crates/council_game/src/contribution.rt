@@ -6,7 +6,8 @@ ghost use Rattle.council_game.specs.Members.{members};
 use crate::{Game, Memory};
 use std::alloc::Global;
 
-/// Contributions to a rule are counted in so many parts of what the rule can do without.
+/// The number of equal parts of what a rule can do without, in which contributions to it are
+/// counted.
 pub const PARTS: u128 = 1_000_000_000_000_000;
 
 /// The greatest contribution to a rule. Four of them fit 64 bits.

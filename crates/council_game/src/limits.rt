@@ -1,6 +1,6 @@
 //! The limits of games and of runs, each in one place.
 ghost use Rattle.std.specs.Prelude.{◌≡◌, ◌*◌, ◌^◌, ◌+◌};
-ghost use Rattle.council_game.specs.declared.limits.TheConstants.{MEMBERS, SIZES, RULES, WAYS, WEIGHT, TOTAL, TITLE_BYTES, NAME_BYTES, FILE_BYTES, BITS, SLICES, WORKERS, COALITIONS, CAPACITY, PLAIN_MEMBERS};
+ghost use Rattle.council_game.specs.declared.limits.TheConstants.{MEMBERS, SIZES, RULES, WAYS, WEIGHT, TOTAL, TITLE_BYTES, NAME_BYTES, FILE_BYTES, BITS, SLICES, WORKERS, COALITIONS, STATES, CAPACITY, PLAIN_MEMBERS};
 
 /// The most members of a game.
 pub const MEMBERS: usize = 40;
@@ -41,6 +41,9 @@ pub const WORKERS: u8 = 16;
 /// The most coalitions that a run keeps.
 pub const COALITIONS: u32 = 4_000_000;
 
+/// The most states that a count keeps: 2^27.
+pub const STATES: u32 = 134_217_728;
+
 /// The most words that a ring can have room for.
 pub const CAPACITY: usize = 65_536;
 
@@ -62,6 +65,7 @@ pub fn are_these_numbers()
     ensures slices { SLICES ≡ 2 ^ BITS }
     ensures workers { WORKERS ≡ 16 }
     ensures coalitions { COALITIONS ≡ 4000000 }
+    ensures states { STATES ≡ 2 ^ 27 }
     ensures capacity { CAPACITY ≡ 65536 }
     ensures plain { PLAIN_MEMBERS ≡ 20 }
 {}

@@ -1,5 +1,5 @@
 //! The options of a run.
-ghost use Rattle.council_game.specs.declared.limits.TheConstants.{BITS, WORKERS, COALITIONS};
+ghost use Rattle.council_game.specs.declared.limits.TheConstants.{BITS, WORKERS, COALITIONS, STATES};
 ghost use Rattle.std.specs.Prelude.{◌≤◌};
 
 use crate::report_lines::ReportLines;
@@ -15,6 +15,8 @@ pub struct Options {
     pub bits: u8,
     /// The greatest number of minimal winning coalitions that a run keeps, 1 to 4,000,000.
     pub most: u32,
+    /// The greatest number of states by which a run counts, 1 to 134,217,728.
+    pub room: u32,
     /// Write a line for each minimal winning coalition.
     pub list: bool,
     /// Write a line for each size that a minimal winning coalition has.
@@ -24,6 +26,7 @@ pub struct Options {
     ghost workers_in_range: { (1 ≤ workers) × (workers ≤ WORKERS) },
     ghost bits_in_range: { bits ≤ BITS },
     ghost most_in_range: { (1 ≤ most) × (most ≤ COALITIONS) },
+    ghost room_in_range: { (1 ≤ room) × (room ≤ STATES) },
 }
 
 impl Options {

@@ -71,7 +71,7 @@ impl Way {
     }
 }
 
-/// Returns whether each of these is a way of so many rules.
+/// Returns whether each of these is a way of `rules` rules.
 #[tactic(auto, using(crate::proofs::Shared::Lists::failed_all))]
 fn are_each_of(rules: usize, ways: &[Way]) -> bool
     ensures { result ≡ list_all (is_way rules) (way_views ways.now) }
@@ -124,7 +124,7 @@ fn is_used(ways: &[Way], rule: usize) -> bool
     false
 }
 
-/// Returns whether each of so many rules is in some way.
+/// Returns whether each of `rules` rules is in some way.
 fn are_all_used(rules: usize, ways: &[Way]) -> bool
     ensures { result ≡ list_all (λ r. list_any (λ way. has_rule way r) (way_views ways.now))
         (range_with_len 0 rules) }
@@ -137,7 +137,7 @@ fn are_all_used(rules: usize, ways: &[Way]) -> bool
     true
 }
 
-/// Returns whether these are ways to win by so many rules.
+/// Returns whether these are ways to win by `rules` rules.
 ///
 /// There are 1 to 6. Each has a rule, and each of its rules once; no way has all rules of another
 /// one, and each rule is in some way.

@@ -244,6 +244,7 @@ fn options_of(matches: &ArgMatches<'_>) -> Options {
             .get_one::<u32>("most")
             .unwrap_or(1)
             .clamp(1, limits::COALITIONS),
+        room: 1 << 22,
         list: matches.get_flag("list"),
         sizes: matches.get_flag("sizes"),
         notation: matches.get_flag("notation"),

@@ -26,6 +26,7 @@ fn options(workers: u8, bits: u8) -> Options
         workers,
         bits,
         most: 1_000_000,
+        room: 1 << 22,
         list: true,
         sizes: true,
         notation: false,
