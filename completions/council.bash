@@ -11,12 +11,12 @@ _council() {
         mapfile -t COMPREPLY < <(compgen -W "$(echo {0..10})" -- "$word")
         return
         ;;
-    --most)
+    --most | --room)
         return
         ;;
     esac
     if [[ $word == -* ]]; then
-        mapfile -t COMPREPLY < <(compgen -W "--workers --bits --most --list --sizes --notation --tally --swings --only-swings --explain --help --version -h -V" -- "$word")
+        mapfile -t COMPREPLY < <(compgen -W "--workers --bits --most --room --list --sizes --notation --tally --swings --only-swings --explain --help --version -h -V" -- "$word")
     else
         compopt -o filenames 2>/dev/null
         mapfile -t COMPREPLY < <(compgen -f -- "$word")

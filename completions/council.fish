@@ -2,6 +2,7 @@
 complete -c council -l workers -x -a '(seq 1 16)' -d 'Worker threads, 1 to 16'
 complete -c council -l bits -x -a '(seq 0 10)' -d 'Tuning only: how the work is cut'
 complete -c council -l most -x -d 'A game with more coalitions is refused, 1 to 4000000'
+complete -c council -l room -x -d 'The most states that a count keeps, 1 to 134217728'
 complete -c council -l list -d 'A line for each minimal winning coalition'
 complete -c council -l sizes -d 'A line for each size of a coalition'
 complete -c council -l notation -d 'A line with the notation of each rule'

@@ -11,7 +11,9 @@ ghost use Rattle.council_report.specs.Outcome.{Writes};
 use council_explain::explain;
 use council_file::{parse_game, read_bytes};
 use council_game::{Game, GameFault, Gate, Plan, Sink, Source};
-use council_run::{Cause, Columns, LEAST_BITS, RunFault, number_by_states, report_game, status};
+use council_run::{
+    Cause, Columns, LEAST_BITS, NoGate, RunFault, choose_game, find_swings, number_by_states, report_game, status,
+};
 use council_words::{
     Arguments, Progress, collect_words, parse_arguments, remark_on_columns, remark_on_names,
     remark_on_quotas, remark_on_thousands, report_unopened, say, say_more,
@@ -27,19 +29,34 @@ use std::thread::Threads;
 use std::time::Clock;
 use std::{fs, io};
 
+/// The most states by which a game that has no report is counted, to say more of it: some tenths of
+/// a second.
+const FEW_STATES: u32 = 1 << 16;
+
 /// Returns what helps against a fault, or what `--explain` says of it.
-fn advice(cause: Cause, is_explained: bool) -> Option<&'static str> {
-    match (cause, is_explained) {
-        (Cause::Game(GameFault::Memory), _) => None,
-        (Cause::Game(_), false) => Some("--explain says where, and what is allowed"),
-        (Cause::Gather(GatherFault::TooMany), false) => Some("--tally counts any number of them"),
-        (Cause::Gather(GatherFault::TooMany), true) => {
+///
+/// If the coalitions may be counted instead of listed, there are also too many states.
+fn advice(cause: Cause, plan: Plan, is_explained: bool) -> Option<&'static str> {
+    match (cause, plan, is_explained) {
+        (Cause::Game(GameFault::Memory), _, _) => None,
+        (Cause::Game(_), _, false) => Some("--explain says where, and what is allowed"),
+        (Cause::Gather(GatherFault::TooMany), Plan::Either, false) => {
+            Some("--room allows more states to count them, and --tally may take very long")
+        }
+        (Cause::Gather(GatherFault::TooMany), Plan::Either, true) => Some(
+            "--room takes up to 134217728, --most up to 4000000, and --tally may take very long",
+        ),
+        (Cause::Gather(GatherFault::TooMany), _, false) => {
+            Some("--tally counts any number of them")
+        }
+        (Cause::Gather(GatherFault::TooMany), _, true) => {
             Some("--tally counts any number of them, and --most takes up to 4000000")
         }
-        (Cause::States, false) => Some("--tally may still count the minimal winning coalitions"),
-        // (the number is `council_run::MOST_STATES`)
-        (Cause::States, true) => Some(
-            "they take more than 4194304 states; --tally may still count the minimal winning coalitions",
+        (Cause::States, _, false) => {
+            Some("--room allows more, and --tally may count the minimal winning coalitions")
+        }
+        (Cause::States, _, true) => Some(
+            "--room takes up to 134217728, and --tally may count the minimal winning coalitions",
         ),
         _ => None,
     }
@@ -48,7 +65,7 @@ fn advice(cause: Cause, is_explained: bool) -> Option<&'static str> {
 /// Says with `--explain` or on a terminal what helps against a fault.
 fn advise(rt: &impl Eprint, arguments: &Arguments<'_>, is_terminal: bool, cause: Cause) {
     if (arguments.explain || is_terminal)
-        && let Some(line) = advice(cause, arguments.explain)
+        && let Some(line) = advice(cause, arguments.plan, arguments.explain)
     {
         say_more(rt, line);
     }
@@ -110,6 +127,46 @@ fn write_report<R: AllocGlobal + Eprint + Clock + Threads + Wait + Sync, W: Sink
     outcome
 }
 
+/// Returns whether a report was refused because states have no room.
+fn is_for_room(arguments: &Arguments<'_>, fault: &RunFault) -> bool {
+    match fault.cause {
+        Cause::States => true,
+        _ => fault.is_too_many() && matches!(arguments.plan, Plan::Either),
+    }
+}
+
+/// Returns whether few states count the swings of a game.
+fn has_few_swings(rt: &impl AllocGlobal, game: &Game) -> bool {
+    match game.by_contribution(rt.alloc()) {
+        Ok(ordered) => {
+            let game = choose_game(game, &ordered);
+            find_swings(rt.alloc(), game, FEW_STATES, &NoGate).is_ok()
+        }
+        Err(_) => false, // memory: a remark is left out
+    }
+}
+
+/// Says with `--explain` what is known of a game that has no report: how many coalitions it has, if
+/// few states tell, or that states have no room.
+fn explain_game(
+    rt: &(impl Eprint + AllocGlobal),
+    arguments: &Arguments<'_>,
+    fault: &RunFault,
+    game: &Game,
+) {
+    let room = arguments.options.room;
+    if is_for_room(arguments, fault) {
+        say_more(
+            rt,
+            format_args!("a count of them has no room with {room} states"),
+        );
+    } else if fault.is_too_many()
+        && let Ok(Some(number)) = number_by_states(rt.alloc(), game, FEW_STATES.min(room))
+    {
+        say_more(rt, format_args!("there are {number} of them"));
+    }
+}
+
 /// Says why a game has no report.
 fn refuse_game(
     rt: &(impl Eprint + AllocGlobal),
@@ -119,13 +176,16 @@ fn refuse_game(
     game: &Game,
 ) {
     say(rt, fault.cause);
-    if arguments.explain
-        && fault.is_too_many()
-        && let Ok(Some(number)) = number_by_states(rt.alloc(), game)
-    {
-        say_more(rt, format_args!("there are {number} of them"));
+    if arguments.explain {
+        explain_game(rt, arguments, &fault, game);
     }
     advise(rt, arguments, is_terminal, fault.cause);
+    if (arguments.explain || is_terminal)
+        && fault.is_too_many()
+        && (arguments.swings || is_for_room(arguments, &fault) && has_few_swings(rt, game))
+    {
+        say_more(rt, "--only-swings has room, and shows the swings");
+    }
 }
 
 /// Reports on a game, whose file has these bytes.

@@ -1,6 +1,6 @@
 //! Counting the coalitions of a game, and keeping none: by states, or if these are too many, by
 //! worker threads.
-ghost use Rattle.std.specs.Prelude.{◌≡◌, ◌<◌, ◌⊎◌, IfErr, IfOk, IfSome, None, false, length, unwrap_or};
+ghost use Rattle.std.specs.Prelude.{◌≡◌, ◌<◌, ◌⊎◌, IfErr, IfNone, IfOk, IfSome, None, false, length, unwrap_or};
 ghost use Rattle.council_game.specs.declared.limits.TheConstants.{PLAIN_MEMBERS};
 ghost use Rattle.council_game.specs.declared.report_lines.ReportLines.{ReportLines};
 ghost use Rattle.council_run.specs.Run.{count_of};
@@ -13,7 +13,7 @@ ghost use Rattle.council_game.specs.Game.{IsGame};
 
 use crate::fault::{Cause, RunFault};
 use crate::found::{Coalitions, Found};
-use crate::plain::plain_swings;
+use crate::plain::{plain_counts, plain_swings};
 use council_game::laws::places_do_not_matter;
 use council_game::{Game, Gate, Memory, NoGate, Options, limits};
 use mwc_states::{count_by_states, count_swings};
@@ -24,16 +24,8 @@ use std::alloc::Global;
 use std::sync::Wait;
 use std::thread::Threads;
 
-/// The most states by which a game is counted. With four times as many hardly another game is.
-pub const MOST_STATES: usize = 1 << 22;
-
-/// The most states by which a game is counted before its coalitions are listed. It takes some half
-/// a millisecond to see that a game of 27 members has more.
-pub const FEW_STATES: usize = 1 << 9;
-
-/// The most states by which a game is counted to tell how many coalitions it has: some tenths of a
-/// second.
-const NUMBER_STATES: usize = 1 << 16;
+/// The most states by which a game is counted, if the options do not say how many.
+pub const ROOM: u32 = 1 << 24;
 
 /// A tally has at least 2^8 slices if there are 8 members: the last of them are the longest, and
 /// with fewer one thread would still count when the others have ended.
@@ -41,8 +33,9 @@ pub const LEAST_BITS: u8 = 8;
 
 /// Counts the minimal winning coalitions of a game by states.
 ///
-/// It decides the members in the order of what they contribute. Returns `None` if there are more
-/// than `room` states. The gate hears of each member that is decided.
+/// It decides the members by rank place, so hand it the game that `choose_game` returns. The gate
+/// hears of each member that is decided. Returns `None` if there are more than `room` states, and
+/// more than 20 members.
 ///
 /// # Errors
 ///
@@ -50,26 +43,32 @@ pub const LEAST_BITS: u8 = 8;
 pub fn count_states<G: Gate>(
     alloc: Global,
     game: &Game,
-    room: usize,
+    room: u32,
     gate: &G,
 ) -> Result<Option<Box<Counts>>, Memory>
-    ensures { IfOk result (λ o. IfSome o (λ counts. AreCountsOfGame game.now counts.value)) }
+    ensures counts { IfOk result (λ o. IfSome o (λ counts. AreCountsOfGame game.now counts.value)) }
+    ensures none { IfOk result (λ o. IfNone o (PLAIN_MEMBERS < length game.now.names)) }
 {
-    let ordered = game.by_contribution(alloc)?;
-    count_by_states(alloc, choose_game(game, &ordered), room, gate)
+    match count_by_states(alloc, game, room as usize, gate)? {
+        Some(counts) => Ok(Some(counts)),
+        None if game.members() <= limits::PLAIN_MEMBERS => Ok(Some(plain_counts(alloc, game)?)),
+        None => Ok(None),
+    }
 }
 
 /// Returns how many minimal winning coalitions a game has.
 ///
-/// It is `None` if that takes many states.
+/// It is `None` if that takes more than `room` states, and there are more than 20 members.
 ///
 /// # Errors
 ///
 /// Returns `Memory` if an allocation was refused.
-pub fn number_by_states(alloc: Global, game: &Game) -> Result<Option<u64>, Memory>
-    ensures { IfOk result (λ number. IfSome number (λ n. n ≡ count_of game.now)) }
+pub fn number_by_states(alloc: Global, game: &Game, room: u32) -> Result<Option<u64>, Memory>
+    ensures number { IfOk result (λ number. IfSome number (λ n. n ≡ count_of game.now)) }
+    ensures none { IfOk result (λ number. IfNone number (PLAIN_MEMBERS < length game.now.names)) }
 {
-    match count_states(alloc, game, NUMBER_STATES, &NoGate)? {
+    let ordered = game.by_contribution(alloc)?;
+    match count_states(alloc, choose_game(game, &ordered), room, &NoGate)? {
         Some(counts) => Ok(Some(counts.wide_total())),
         None => Ok(None),
     }
@@ -77,19 +76,23 @@ pub fn number_by_states(alloc: Global, game: &Game) -> Result<Option<u64>, Memor
 
 /// Counts the swings of a game's members by states.
 ///
-/// It decides the members in the order of what they contribute. The gate hears of each member that
+/// It decides the members by rank place, as `count_states` does. The gate hears of each member that
 /// is decided.
 ///
 /// # Errors
 ///
-/// Out of memory; or States if there are more than 20 members and `MOST_STATES`.
-pub fn find_swings<G: Gate>(alloc: Global, game: &Game, gate: &G) -> Result<Swings, RunFault>
+/// Out of memory; or States if there are more than 20 members and `room` states.
+pub fn find_swings<G: Gate>(
+    alloc: Global,
+    game: &Game,
+    room: u32,
+    gate: &G,
+) -> Result<Swings, RunFault>
     ensures counts { IfOk result (λ swings. AreWinningCounts game.now swings) }
     ensures fails { IfErr result (λ fault. ((fault.cause ≡ cause.Memory)
         ⊎ (fault.cause ≡ cause.States) × (PLAIN_MEMBERS < length game.now.names)) × (fault.written ≡ 0)) }
 {
-    let ordered = game.by_contribution(alloc)?;
-    match count_swings(alloc, choose_game(game, &ordered), MOST_STATES, gate)? {
+    match count_swings(alloc, game, room as usize, gate)? {
         Some(swings) => Ok(swings),
         None if game.members() <= limits::PLAIN_MEMBERS => Ok(plain_swings(alloc, game)?),
         None => Err(RunFault::early(Cause::States)),
@@ -98,7 +101,7 @@ pub fn find_swings<G: Gate>(alloc: Global, game: &Game, gate: &G) -> Result<Swin
 
 /// Counts all coalitions of a game by worker threads behind a gate.
 ///
-/// They walk over the members in the order of what these contribute.
+/// They walk over the members by rank place, so hand it the game that `choose_game` returns.
 ///
 /// # Errors
 ///
@@ -115,15 +118,7 @@ pub fn count_by_threads<T: Threads + Wait + Sync, G: Gate + Sync>(
     ensures { IfOk result (λ counts. AreCountsOfGame game.now counts.value) }
 {
     let bits = options.bits.max(LEAST_BITS).min(game.members() as u8);
-    let ordered = game.by_contribution(alloc)?;
-    tally(
-        rt,
-        alloc,
-        choose_game(game, &ordered),
-        bits,
-        options.workers,
-        gate,
-    )
+    tally(rt, alloc, game, bits, options.workers, gate)
 }
 
 /// Counts all coalitions of a game by states, or if these are too many by worker threads.
@@ -136,7 +131,7 @@ fn count_all<T: Threads + Wait + Sync, G: Gate + Sync>(
 ) -> Result<Box<Counts>, TallyFault>
     ensures { IfOk result (λ counts. AreCountsOfGame game.now counts.value) }
 {
-    match count_states(alloc, game, MOST_STATES, gate)? {
+    match count_states(alloc, game, options.room, gate)? {
         Some(counts) => Ok(counts),
         None => count_by_threads(rt, alloc, game, options, gate),
     }
@@ -145,7 +140,7 @@ fn count_all<T: Threads + Wait + Sync, G: Gate + Sync>(
 /// Counts the coalitions of a game by states, or else by worker threads.
 ///
 /// If there are too many states, threads work behind a gate. The game may have any number of
-/// coalitions; none is kept.
+/// coalitions; none is kept. `ordered` is what `Game::by_contribution` returned.
 ///
 /// # Errors
 ///
@@ -154,13 +149,15 @@ pub fn count_by_workers<T: Threads + Wait + Sync, G: Gate + Sync>(
     rt: &T,
     alloc: Global,
     game: &Game,
+    ordered: &Option<Game>,
     options: &Options,
     gate: &G,
 ) -> Result<Found, RunFault>
+    requires { IfSome ordered.now (λ h. h ≡ by_contribution game.now) }
     ensures finds { (lines : ReportLines) → lines.list ≡ false → Finds None lines game.now result }
     ensures fails { IfErr result IsWorkersFault }
 {
-    let counts = count_all(rt, alloc, game, options, gate)?;
+    let counts = count_all(rt, alloc, choose_game(game, ordered), options, gate)?;
     Ok(Found {
         counts,
         coalitions: Coalitions::Counted,
@@ -174,6 +171,7 @@ pub fn count_by_workers<T: Threads + Wait + Sync, G: Gate + Sync>(
 pub fn choose_game<'a>(game: &'a Game, ordered: &'a Option<Game>) -> &'a Game
     requires { IfSome ordered.now (λ h. h ≡ by_contribution game.now) }
     ensures game { result.now ≡ unwrap_or ordered.now game.now }
+    ensures names { result.now.names ≡ game.now.names }
     ensures as_many { count_of result.now ≡ count_of game.now }
     ensures counts { (t : Tables) → AreCountsOfGame result.now t → AreCountsOfGame game.now t }
     ensures winning { (t : Tables) → AreWinningCounts result.now t → AreWinningCounts game.now t }

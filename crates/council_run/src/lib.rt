@@ -20,8 +20,8 @@ mod runs;
 pub use columns::Columns;
 pub use council_game::{Gate, NoGate, Options, limits};
 pub use counting::{
-    FEW_STATES, LEAST_BITS, MOST_STATES, choose_game, count_by_threads, count_by_workers,
-    count_states, find_swings, number_by_states,
+    LEAST_BITS, ROOM, choose_game, count_by_threads, count_by_workers, count_states, find_swings,
+    number_by_states,
 };
 pub use fault::{Cause, RunFault, status};
 pub use findings::Findings;

@@ -8,11 +8,12 @@ ghost use Rattle.council_run.specs.Found.{AreListed, Finds, GatherFaultIs, HoldA
 ghost use Rattle.council_run.specs.Run.{IsWithin};
 ghost use Rattle.power_index.specs.Tables.{AreCountsOfGame, Tables, table_total};
 
-use crate::counting::{FEW_STATES, choose_game, count_states};
+use crate::counting::choose_game;
 use crate::fault::RunFault;
 use crate::found::{Coalitions, Found, on_heap};
 use council_game::{Game, Gate, Memory, NoGate, Options};
 use mwc_gather::{GatherFault, Gathered, Guarded, gather};
+use mwc_states::count_by_states;
 use mwc_walk::{Seek, Walk};
 use power_index::Counts;
 use power_index::laws::minimal_coalitions_can_be_counted;
@@ -23,12 +24,9 @@ use std::thread::Threads;
 /// How many coalitions a long list has: one pass over them takes some ten milliseconds.
 const LONG: usize = 1 << 19;
 
-/// The most states by which the coalitions of a long list are counted. Some milliseconds show that
-/// a game has more.
-const STATES_OF_LONG: usize = 1 << 11;
-
-/// The most visits of a walk that ends sooner than states are found.
-const FEW_VISITS: u32 = 1 << 10;
+/// After so many visits a walk that may take much longer waits for a count by so many states. That
+/// takes at most as long as these visits, but for the first count, which takes some milliseconds.
+const STAGES: [(u32, u32); 3] = [(1 << 10, 1 << 11), (1 << 18, 1 << 16), (1 << 22, 1 << 20)];
 
 /// The most members of a game that is walked over within seconds, whatever its rules are.
 const FEW_MEMBERS: usize = 26;
@@ -68,15 +66,16 @@ fn count_gathered(
     gathered: &Gathered,
     counted: Option<Box<Counts>>,
 ) -> Result<Box<Counts>, Memory>
-    requires { HoldAll game.now gathered.now }
-    ensures { IfOk result (λ counts. (g : GameView) → ((t : Tables) → AreCountsOfGame game.now t → AreCountsOfGame g t)
-        → IfSome counted (λ counts. AreCountsOfGame g counts.value) → AreCountsOfGame g counts.value) }
+    requires whole { HoldAll game.now gathered.now }
+    requires counted { IfSome counted (λ counts. AreCountsOfGame game.now counts.value) }
+    ensures { IfOk result (λ counts. AreCountsOfGame game.now counts.value) }
 {
     if let Some(counts) = counted {
         return Ok(counts);
     }
-    if is_long(gathered) {
-        if let Some(counts) = count_states(alloc, game, STATES_OF_LONG, &NoGate)? {
+    // more members were counted by as many states before the walk
+    if game.members() <= FEW_MEMBERS && is_long(gathered) {
+        if let Some(counts) = count_by_states(alloc, game, STAGES[0].1 as usize, &NoGate)? {
             return Ok(counts);
         }
     }
@@ -87,7 +86,7 @@ fn count_gathered(
 }
 
 /// Returns whether the counts of a game show more coalitions than `most`.
-fn has_more(counted: &Option<Box<Counts>>, most: u32) -> bool
+pub(crate) fn has_more(counted: &Option<Box<Counts>>, most: u32) -> bool
     ensures { result ≡ true → IfSome counted.now (λ counts. most < table_total counts.value) × IsSome counted.now }
 {
     match counted {
@@ -96,24 +95,63 @@ fn has_more(counted: &Option<Box<Counts>>, most: u32) -> bool
     }
 }
 
-/// Returns whether a walk over a game ends soon: if it has few members, or few visits end it.
-fn is_short(game: &Game) -> bool {
-    if game.members() <= FEW_MEMBERS {
-        return true;
-    }
-    let mut walk = Walk::new(game, 0, 0);
-    while walk.visits() < u64::from(FEW_VISITS) {
-        if let Seek::End = walk.seek(u64::from(FEW_VISITS)) {
+/// Walks on until there were `visits` visits; returns whether the walk ends soon.
+///
+/// That is if it has ended, or finds more than `most` coalitions within some 2^26 visits if it goes
+/// on as it began. It takes 2^12 visits to tell.
+fn is_near(walk: &mut Walk<'_>, visits: u64, most: u32, found: &mut u64) -> bool {
+    while walk.visits() < visits {
+        match walk.seek(visits - walk.visits()) {
+            Seek::Found(_) => *found = found.saturating_add(1),
+            Seek::End => return true,
+            Seek::NotYet => {}
+        }
+        let done = walk.visits();
+        if done >= 1 << 12
+            && found.saturating_mul(1 << 26) >= done.saturating_mul(u64::from(most))
+        {
             return true;
         }
     }
     false
 }
 
-/// Counts the coalitions of a game if few states do that.
+/// Counts the coalitions of a game by states, as long as a walk over it may take longer than that.
 ///
-/// `walked` is the game or has its members in another order. If the walk over it is short, nothing
-/// is counted.
+/// Returns `None` if the walk ends soon, or there are more states.
+pub(crate) fn count_first(
+    alloc: Global,
+    game: &Game,
+    most: u32,
+    room: u32,
+) -> Result<Option<Box<Counts>>, Memory>
+    ensures { IfOk result (λ o. IfSome o (λ counts. AreCountsOfGame game.now counts.value)) }
+{
+    let is_small = game.members() <= FEW_MEMBERS;
+    if is_small && most >= STAGES[0].0 {
+        return Ok(None);
+    }
+    let mut walk = Walk::new(game, 0, 0);
+    let mut found = 0;
+    for (visits, states) in &STAGES {
+        if is_near(&mut walk, u64::from(*visits), most, &mut found) {
+            return Ok(None);
+        }
+        let states = room.min(*states) as usize;
+        if let Some(counts) = count_by_states(alloc, game, states, &NoGate)? {
+            return Ok(Some(counts));
+        }
+        if is_small || game.rules() == 1 {
+            return Ok(None);
+        }
+    }
+    Ok(None)
+}
+
+/// Counts the coalitions of a game by states, if a walk over it may take longer than that.
+///
+/// The walk goes by rank place, so hand it the game that `choose_game` returns. There are at most
+/// `room` states.
 ///
 /// # Errors
 ///
@@ -121,17 +159,14 @@ fn is_short(game: &Game) -> bool {
 pub fn count_few(
     alloc: Global,
     game: &Game,
-    walked: &Game,
     most: u32,
+    room: u32,
 ) -> Result<Option<Box<Counts>>, RunFault>
     ensures counts { IfOk result (λ o. IfSome o (λ counts. AreCountsOfGame game.now counts.value)) }
     ensures fails { IfErr result (λ fault. IsNotFound (Some most) game.now fault.cause × (fault.written ≡ 0)) }
     ensures many { GatherFaultIs GatherFault.TooMany result }
 {
-    if most >= FEW_VISITS && is_short(walked) {
-        return Ok(None);
-    }
-    let counted = count_states(alloc, game, FEW_STATES, &NoGate)?;
+    let counted = count_first(alloc, game, most, room)?;
     if has_more(&counted, most) {
         return Err(RunFault::from(GatherFault::TooMany));
     }
@@ -143,12 +178,12 @@ pub fn count_few(
 fn keep(
     alloc: Global,
     game: &Game,
-    ordered: Option<Game>,
+    ordered: &Option<Game>,
     gathered: Gathered,
     list: bool,
 ) -> Result<Coalitions, Memory>
-    requires ordered { IfSome ordered (λ h. h ≡ by_contribution game.now) }
-    requires whole { HoldAll (unwrap_or ordered game.now) gathered }
+    requires ordered { IfSome ordered.now (λ h. h ≡ by_contribution game.now) }
+    requires whole { HoldAll (unwrap_or ordered.now game.now) gathered }
     ensures { IfOk result (λ kept. (lines : ReportLines) → lines.list ≡ list → AreListed game.now lines kept) }
 {
     let Some(ordered) = ordered else {
@@ -162,31 +197,52 @@ fn keep(
     Ok(Coalitions::Whole(all))
 }
 
-/// Lists the coalitions of a game by worker threads behind a gate, and counts them.
-///
-/// With several rules the workers walk over the members in the order of what they contribute. The
-/// coalitions are put back in listing order if the options ask for a list, and else only counted.
-///
-/// # Errors
-///
-/// The first of these: out of memory for the game in that order, or for its states; TooMany if few
-/// states show it; a fault of the gathering; out of memory for the row of its pieces, for their
-/// counts or for their list.
-pub fn list_by_workers<T: Threads + Wait + Sync, G: Gate + Sync>(
+/// Lists the coalitions of a game by worker threads behind a gate, and counts them if they were not
+/// counted before.
+pub(crate) fn list_counted<T: Threads + Wait + Sync, G: Gate + Sync>(
     rt: &T,
     alloc: Global,
     game: &Game,
+    ordered: &Option<Game>,
     options: &Options,
     gate: &G,
+    counted: Option<Box<Counts>>,
 ) -> Result<Found, RunFault>
+    requires ordered { IfSome ordered.now (λ h. h ≡ by_contribution game.now) }
+    requires counted { IfSome counted (λ counts. AreCountsOfGame (unwrap_or ordered.now game.now) counts.value) }
     ensures { (lines : ReportLines) → lines.list ≡ options.now.list
         → Finds (Some options.now.most) lines game.now result }
 {
-    let ordered = game.by_contribution(alloc)?;
-    let walked = choose_game(game, &ordered);
-    let counted = count_few(alloc, game, walked, options.most)?;
+    let walked = choose_game(game, ordered);
     let gathered = gather_all(rt, alloc, walked, options, gate)?;
     let counts = count_gathered(alloc, walked, &gathered, counted)?;
     let coalitions = keep(alloc, game, ordered, gathered, options.list)?;
     Ok(Found { counts, coalitions })
+}
+
+/// Lists the coalitions of a game by worker threads behind a gate, and counts them.
+///
+/// With several rules the workers walk over the members in the order of what they contribute:
+/// `ordered` is what `Game::by_contribution` returned. The coalitions are put back in listing order
+/// if the options ask for a list, and else only counted.
+///
+/// # Errors
+///
+/// The first of these: out of memory for its states; TooMany if these show it; a fault of the
+/// gathering; out of memory for the row of its pieces, for their counts or for their list.
+pub fn list_by_workers<T: Threads + Wait + Sync, G: Gate + Sync>(
+    rt: &T,
+    alloc: Global,
+    game: &Game,
+    ordered: &Option<Game>,
+    options: &Options,
+    gate: &G,
+) -> Result<Found, RunFault>
+    requires { IfSome ordered.now (λ h. h ≡ by_contribution game.now) }
+    ensures { (lines : ReportLines) → lines.list ≡ options.now.list
+        → Finds (Some options.now.most) lines game.now result }
+{
+    let walked = choose_game(game, ordered);
+    let counted = count_few(alloc, walked, options.most, options.room)?;
+    list_counted(rt, alloc, game, ordered, options, gate, counted)
 }

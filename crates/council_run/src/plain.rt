@@ -1,10 +1,12 @@
-//! Counting the swings of a small game by trying each coalition.
+//! Counting the coalitions and the swings of a small game by trying each coalition.
 ghost use Rattle.std.specs.Prelude.{◌≡◌, ◌≤◌, IfOk, length};
 ghost use Rattle.council_game.specs.declared.limits.TheConstants.{PLAIN_MEMBERS};
 ghost use Rattle.power_index.specs.Swings.{AreWinningCounts, winning_coalitions};
+ghost use Rattle.power_index.specs.Tables.{AreCountsOfGame};
 
 use crate::found::on_heap;
-use council_game::{Coalition, Game, Memory};
+use council_game::{Coalition, Game, Memory, plain_list};
+use power_index::laws::minimal_coalitions_can_be_counted;
 use power_index::{Counts, Swings};
 use std::alloc::Global;
 
@@ -25,9 +27,18 @@ fn list_winning(alloc: Global, game: &Game) -> Result<Vec<Coalition>, Memory>
     Ok(list)
 }
 
+/// Counts the minimal winning coalitions of a game of at most 20 members.
+pub(crate) fn plain_counts(alloc: Global, game: &Game) -> Result<Box<Counts>, Memory>
+    requires { length game.now.names ≤ PLAIN_MEMBERS }
+    ensures { IfOk result (λ counts. AreCountsOfGame game.now counts.value) }
+{
+    game.was_checked();
+    minimal_coalitions_can_be_counted();
+    let all = plain_list(alloc, game)?;
+    on_heap(alloc, Counts::of(game, &all))
+}
+
 /// Counts the swings of a game of at most 20 members.
-///
-/// This never runs: such a game has fewer than `MOST_STATES` states, though no clause says so.
 pub(crate) fn plain_swings(alloc: Global, game: &Game) -> Result<Swings, Memory>
     requires { length game.now.names ≤ PLAIN_MEMBERS }
     ensures { IfOk result (AreWinningCounts game.now) }

@@ -1,5 +1,6 @@
 //! Runs: from the bytes of a game to its report.
-ghost use Rattle.std.specs.Prelude.{◌≡◌, ◌≢◌, IfErr, None, Ok, Some};
+ghost use Rattle.std.specs.Prelude.{◌≡◌, ◌≢◌, IfErr, IfSome, None, Ok, Some};
+ghost use Rattle.council_game.specs.Contribution.{by_contribution};
 ghost use Rattle.council_game.specs.Options.{lines_of, without_list};
 ghost use Rattle.council_game.specs.declared.report_lines.ReportLines.{ReportLines};
 ghost use Rattle.council_file.specs.Reads.{Reads};
@@ -11,39 +12,60 @@ ghost use Rattle.council_run.specs.Found.{Finds, GatherFaultIs, IsWorkersFault};
 ghost use Rattle.council_run.specs.Plans.{is_too_many, limit_of, lines_of_plan};
 ghost use Rattle.council_run.specs.Run.{IsOutcome};
 ghost use Rattle.council_run.specs.declared.fault.Cause.TheVariants as cause;
+ghost use Rattle.council_run.specs.declared.found.Coalitions.TheVariants as coalitions;
 ghost use Rattle.council_game.specs.declared.plan.Plan.TheVariants as plans;
 ghost use Rattle.mwc_gather.specs.declared.fault.GatherFault.TheVariants as gather;
 
 use crate::columns::Columns;
-use crate::counting::{MOST_STATES, count_by_workers, count_states, find_swings};
+use crate::counting::{choose_game, count_by_workers, count_states, find_swings};
 use crate::fault::RunFault;
 use crate::findings::Findings;
 use crate::found::{Coalitions, Found};
-use crate::listing::list_by_workers;
+use crate::listing::{count_first, has_more, list_by_workers, list_counted};
 use council_file::read_game;
 use council_game::{Game, Gate, Options, Plan, ReportLines, Sink, Source};
+use power_index::Counts;
 use std::alloc::Global;
 use std::sync::Wait;
 use std::thread::Threads;
+
+/// Returns what a report without a list is made from.
+fn only(counts: Box<Counts>) -> Found
+    ensures { result ≡ record { counts = counts; coalitions = coalitions.Counted } }
+{
+    Found {
+        counts,
+        coalitions: Coalitions::Counted,
+    }
+}
 
 /// Lists the coalitions of a game, or counts them by states if they are too many and not shown.
 fn list_or_count<T: Threads + Wait + Sync, G: Gate + Sync>(
     rt: &T,
     alloc: Global,
     game: &Game,
+    ordered: &Option<Game>,
     options: &Options,
     gate: &G,
 ) -> Result<Found, RunFault>
+    requires { IfSome ordered.now (λ h. h ≡ by_contribution game.now) }
     ensures { (lines : ReportLines) → lines.list ≡ options.now.list
         → Finds (limit_of plans.Either options.now.most (is_too_many result)) lines game.now result }
 {
-    match list_by_workers(rt, alloc, game, options, gate) {
-        Err(fault) if fault.is_too_many() && !options.list => {
-            match count_states(alloc, game, MOST_STATES, gate)? {
-                Some(counts) => Ok(Found {
-                    counts,
-                    coalitions: Coalitions::Counted,
-                }),
+    if options.list {
+        return list_by_workers(rt, alloc, game, ordered, options, gate);
+    }
+    let walked = choose_game(game, ordered);
+    let counted = count_first(alloc, walked, options.most, options.room)?;
+    if has_more(&counted, options.most)
+        && let Some(counts) = counted
+    {
+        return Ok(only(counts));
+    }
+    match list_counted(rt, alloc, game, ordered, options, gate, counted) {
+        Err(fault) if fault.is_too_many() => {
+            match count_states(alloc, walked, options.room, gate)? {
+                Some(counts) => Ok(only(counts)),
                 None => Err(fault),
             }
         }
@@ -56,18 +78,20 @@ fn find<T: Threads + Wait + Sync, G: Gate + Sync>(
     rt: &T,
     alloc: Global,
     game: &Game,
+    ordered: &Option<Game>,
     options: &Options,
     gate: &G,
     plan: Plan,
 ) -> Result<Found, RunFault>
+    requires { IfSome ordered.now (λ h. h ≡ by_contribution game.now) }
     ensures finds { (lines : ReportLines) → lines.list ≡ (lines_of_plan plan options.now).list
         → Finds (limit_of plan options.now.most (is_too_many result)) lines game.now result }
     ensures fails { plan ≡ plans.Count → IfErr result IsWorkersFault }
 {
     match plan {
-        Plan::List => list_by_workers(rt, alloc, game, options, gate),
-        Plan::Count => count_by_workers(rt, alloc, game, options, gate),
-        Plan::Either => list_or_count(rt, alloc, game, options, gate),
+        Plan::List => list_by_workers(rt, alloc, game, ordered, options, gate),
+        Plan::Count => count_by_workers(rt, alloc, game, ordered, options, gate),
+        Plan::Either => list_or_count(rt, alloc, game, ordered, options, gate),
     }
 }
 
@@ -87,18 +111,20 @@ fn find_all<T: Threads + Wait + Sync, G: Gate + Sync>(
         → FindsAll columns (limit_with columns plan options.now.most (is_too_many result)) lines game.now result }
     ensures threads { plan ≡ plans.Count → GatherFaultIs gather.Start result }
 {
+    let ordered = game.by_contribution(alloc)?;
+    let walked = choose_game(game, &ordered);
     match columns {
         Columns::Minimal => {
-            let found = find(rt, alloc, game, options, gate, plan)?;
+            let found = find(rt, alloc, game, &ordered, options, gate, plan)?;
             Ok(Findings::Minimal(found))
         }
         Columns::Both => {
-            let swings = find_swings(alloc, game, gate)?;
-            let found = find(rt, alloc, game, options, gate, plan)?;
+            let swings = find_swings(alloc, walked, options.room, gate)?;
+            let found = find(rt, alloc, game, &ordered, options, gate, plan)?;
             Ok(Findings::Both(found, swings))
         }
         Columns::Swings => {
-            let swings = find_swings(alloc, game, gate)?;
+            let swings = find_swings(alloc, walked, options.room, gate)?;
             Ok(Findings::Swings(swings))
         }
     }
@@ -125,9 +151,9 @@ fn lines_of(plan: Plan, options: &Options) -> ReportLines
 ///
 /// # Errors
 ///
-/// The first fault that is met, in this order: if swings are shown, out of memory for them, or
-/// States; out of memory for the game in the order of contribution, or for its states; TooMany if
-/// few states show it; of the gathering, its Start before its Memory, Ring and TooMany; out of
+/// The first fault that is met, in this order: out of memory for the game in the order of
+/// contribution; if swings are shown, out of memory for them, or States; out of memory for states;
+/// TooMany if these show it; of the gathering, its Start before its Memory, Ring and TooMany; out of
 /// memory for the row of its pieces, for their counts or for the report; of the writer. No byte
 /// goes out before all memory is there: after each fault but `Write` the writer took nothing, and
 /// after `Write` it has the first bytes of the report. A write that takes no byte or fails,

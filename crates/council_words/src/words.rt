@@ -90,7 +90,7 @@ the line of the file, what it has, and what is allowed. They begin with blanks.
 The status is 0 if the report was written, 1 if the game file cannot be opened
 or read, 2 if the command line is wrong, 3 if the file has no game, 4 if the
 game has more than --most coalitions, 5 if memory ran out, a thread could not be
-started, or the output failed, 6 if swings take too many states.";
+started, or the output failed, 6 if swings take more states than --room.";
 
 /// What an argument of the command line takes.
 #[derive(Clone, Copy)]
@@ -126,6 +126,12 @@ const ARGUMENTS: &[(Takes, &str, &str)] = &[
         "Refuses a game with more coalitions, 1 to 4000000;
 without it and --list, a game with more is counted
 if it has few states",
+    ),
+    (
+        Takes::Number("N", "16777216", 1, limits::STATES),
+        "room",
+        "The most states that a count keeps, 1 to 134217728;
+each takes some 60 bytes",
     ),
     (
         Takes::Nothing(&[]),
@@ -244,7 +250,10 @@ fn options_of(matches: &ArgMatches<'_>) -> Options {
             .get_one::<u32>("most")
             .unwrap_or(1)
             .clamp(1, limits::COALITIONS),
-        room: 1 << 22,
+        room: matches
+            .get_one::<u32>("room")
+            .unwrap_or(1)
+            .clamp(1, limits::STATES),
         list: matches.get_flag("list"),
         sizes: matches.get_flag("sizes"),
         notation: matches.get_flag("notation"),

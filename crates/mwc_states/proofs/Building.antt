@@ -34,7 +34,7 @@ module _ (what : What) (member : List ℕ) (later : Rows) (table : List Rows) wh
   }
 
 -- a level more in front of levels that go on from its table
-continues : (what : What) (member : List ℕ) (later : Rows) (table next : List Rows) (links : List ℕ) (rest : List (List ℕ)) → length table ≤ 2 ^ 26
+continues : (what : What) (member : List ℕ) (later : Rows) (table next : List Rows) (links : List ℕ) (rest : List (List ℕ)) → length table ≤ 2 ^ 27
     → IsLevel what member later table links next → Continue what later next rest → Continue what (member ∷ later) table (links ∷ rest)
 unfolding accepts
 continues what member later table next links rest few level on = record {
@@ -45,7 +45,7 @@ continues what member later table next links rest few level on = record {
   accept = accept;
 }
   where
-    at-most : (i : ℕ) → rows_at (links ∷ rest) i ≤ 2 ^ 26
+    at-most : (i : ℕ) → rows_at (links ∷ rest) i ≤ 2 ^ 27
     at-most zero = omega (arith, level.long, few)
     at-most (suc i) = on.few i
 
@@ -80,7 +80,7 @@ at-end what later table end none = record {
 }
 
 module _ (what : What) (members state : Rows) where
-  pub built-none : (room : ℕ) → 1 ≤ length members → length members ≤ 40 → room ≤ 2 ^ 26 → IsBuilding what members state [] (state ∷ []) 0 room
+  pub built-none : (room : ℕ) → 1 ≤ length members → length members ≤ 40 → room ≤ 2 ^ 27 → IsBuilding what members state [] (state ∷ []) 0 room
   built-none room some few room_few = record { room_few = room_few; onward = λ rest on. grind (arith, on.accept) }
 
   pub built-more : (levels : List (List ℕ)) (table next : List Rows) (links : List ℕ) (i room less : ℕ) → i < length members

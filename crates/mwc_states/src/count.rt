@@ -115,7 +115,7 @@ fn count_sets<G: Gate>(
 ///
 /// The members are decided by rank place, so put those first who contribute more
 /// (`Game::by_contribution`). The gate hears of each member that is decided. Returns `None` if
-/// there are more than `room` states, at most 2^26, or the states of a level are too long.
+/// there are more than `room` states, at most 2^27, or the states of a level are too long.
 ///
 /// # Errors
 ///

@@ -9,7 +9,7 @@ use crate::later::Later;
 use crate::row::Row;
 use crate::state::{What, decide};
 use crate::table::Table;
-use council_game::{Gate, Memory};
+use council_game::{Gate, Memory, limits};
 use std::alloc::Global;
 
 /// Where each state of a level leads without its member, and then with it.
@@ -67,7 +67,7 @@ fn decide_level(
     rows: usize,
     table: &mut Table,
 ) -> Result<Option<Links>, Memory>
-    requires { length table.old ≤ 2 ^ 26 }
+    requires { length table.old ≤ 2 ^ 27 }
     ensures { IfOk result (λ o. IfSome o (λ links. IsLevel what member.now later.now.members.now
         table.old links.items table.new)) }
 {
@@ -102,7 +102,7 @@ fn sums_for(states: usize, rules: usize, room: usize) -> usize {
 ///
 /// There are few if there is little room: a game of more takes long to tell.
 fn rows_for(room: usize) -> usize {
-    (room.saturating_mul(room) >> 12).clamp(64, 1 << 22)
+    (room.saturating_mul(room) >> 12).clamp(64, room.max(64))
 }
 
 /// Builds the graph of the sets of members that complete a state.
@@ -129,7 +129,7 @@ pub(crate) fn build<G: Gate>(
     let mut table = Table::new(alloc);
     table.push(state)?;
     let rows = rows_for(room);
-    let mut left = room.min(1 << 26);
+    let mut left = room.min(limits::STATES as usize);
     for level in 0..members.len() {
         if table.len() > left {
             return Ok(false);

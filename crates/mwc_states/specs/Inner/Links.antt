@@ -30,7 +30,7 @@ pub record IsGraph (levels : List (List ℕ)) : Type 0 where
   pub some : 1 ≤ length levels
   pub few : length levels ≤ MEMBERS
   pub root : 1 ≤ rows_at levels 0
-  pub few_rows : (i : ℕ) → rows_at levels i ≤ 2 ^ 26
+  pub few_rows : (i : ℕ) → rows_at levels i ≤ 2 ^ 27
   pub linked : (i k : ℕ) → i < length levels → slice_index (slice_index_or levels i []) k < rows_at levels (i + 1)
 
 -- how many of the sets that the graph accepts pass a test, by size
