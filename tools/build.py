@@ -11,7 +11,7 @@ crates/NAME/out/rlib/statements (elsewhere `rt verdict` takes it for sources tha
 where its text or that of a library below has changed. `rt check` of a crate above takes it from there: see `give`.
 
 The library for other languages is crates/council_c/out/libcouncil.a: the crate council_c, and what the kit has of C to
-take memory.
+take memory. Its LLVM module, council.bc beside it, is what tools/web.sh makes the module for browsers of.
 
 For whoever works on the sources (--keep, or where an earlier run of `rt` has kept work) it is `rt lib` that proves
 each, and keeps its work: more at first, and after a change only what changed. `rt` itself proves one library after
@@ -35,6 +35,7 @@ import importlib.machinery
 import importlib.util
 import os
 import re
+import shlex
 import shutil
 import signal
 import subprocess
@@ -374,10 +375,27 @@ def build_once(lines):
     )
 
 
+def keeping_toolchain():
+    """A copy of the toolchain's folder by links, whose clang keeps the LLVM module that it compiles."""
+    copy = f"{ROOMS}/toolchain"
+    for part in ("bin", "lib"):
+        os.makedirs(f"{copy}/{part}")
+        for it in os.listdir(f"{kit()}/toolchain/{part}"):
+            os.symlink(f"{kit()}/toolchain/{part}/{it}", f"{copy}/{part}/{it}")
+    os.remove(f"{copy}/bin/clang")
+    # (it is called without variables)
+    keep, clang = shlex.quote(f"{TOP}/crates/{LIBRARY}/out/council.bc"), shlex.quote(f"{kit()}/toolchain/bin/clang")
+    lines = ["#!/bin/sh", f'for it; do case $it in *.bc) cp "$it" {keep} ;; esac; done', f'exec {clang} "$@"']
+    with open(f"{copy}/bin/clang", "w", encoding="utf-8", opener=lambda path, flags: os.open(path, flags, 0o755)) as it:
+        it.writelines(f"{line}\n" for line in lines)
+    return copy
+
+
 def library_once(lines):
-    """Proves the crate for other languages over what was built of its libraries, and makes its archive; the status."""
+    """Proves the crate for other languages over what was built of its libraries, and makes its archive; the status. The
+    LLVM module stays beside it, for tools/web.sh."""
     words = [f"{kit()}/bin/rattle", "build", *words_of(LIBRARY, lines, "src/lib.rt"), "--jobs", str(lanes()[0])]
-    words += ["--crate-type", "staticlib", "--toolchain", f"{kit()}/toolchain", "-o", f"out/lib{LIBRARY}.a"]
+    words += ["--crate-type", "staticlib", "--toolchain", keeping_toolchain(), "-o", f"out/lib{LIBRARY}.a"]
     return do(words, f"{TOP}/crates/{LIBRARY}", LIBRARY)
 
 
@@ -529,15 +547,19 @@ def build(names, goal, lines, keeps, held, sources):
     if not prove_all(names, lines, prove_and_keep if keeps else prove_once, told):
         return 1
     told.begin(goal)
-    if not keeps:
-        status = build_once(lines) if goal == PROGRAM else library_once(lines)
-        told.took[goal] = time.time() - told.begun[goal]
-        keep_measured(told.took)
+    if goal == LIBRARY:
+        for name in names if keeps else []:
+            link(f"{TOP}/crates/{name}/out/rlib/{name}.rlib", statements(name))
+        status = library_once(lines)
+    elif not keeps:
+        status = build_once(lines)
     else:
         # `rt` takes these crates for itself
         release(held)
-        words = ["run", "--", "--version"] if goal == PROGRAM else ["lib"]
-        status = do(["rt", *words], f"{TOP}/crates/{goal}", goal)
+        status = do(["rt", "run", "--", "--version"], f"{TOP}/crates/{goal}", goal)
+    if not keeps:
+        told.took[goal] = time.time() - told.begun[goal]
+        keep_measured(told.took)
     log_of(goal)
     return status or (with_memory(sources) if goal == LIBRARY else 0)
 
