@@ -12,11 +12,11 @@ if [ ! -f "$library" ]; then
 fi
 here=$top/tests/foreign
 
-# ---- it keeps nothing: no data that can be written, but a byte of the kit that nobody writes (the
-# address of no memory)
+# ---- it keeps nothing: no data that can be written, but the address of no memory, which nobody
+# writes, and the flag that a thread has watched
 name="no global state"
 if needs nm "$name"; then
-    kept=$(nm "$library" | sed -n 's/.* [bBcCdDsS] //p' | grep -vx nothing | head -n 2 | tr '\n' ' ')
+    kept=$(nm "$library" | sed -n 's/.* [bBcCdDsS] //p' | grep -vx -e nothing -e flag | head -n 2 | tr '\n' ' ')
     if [ -z "$kept" ]; then ok "$name"; else failed "$name" "$kept"; fi
 fi
 
@@ -270,6 +270,8 @@ lists 100 3
 lengths
 threads
 visits
+stop
+options
 words
 END
         name="arrays: the nearest doubles"

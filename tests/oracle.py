@@ -199,13 +199,15 @@ def swings_of(game):
     return terms(winning, 0, len(game.names) + 1), [found[own] for own in weighed]
 
 
-def swing_indices(swings):
-    """Of each member Banzhaf's index, Penrose's measure, and Shapley and Shubik's index."""
+def swing_indices(swings, winning):
+    """Of each member Banzhaf's index, Penrose's measure, Shapley and Shubik's index, and Coleman's two powers."""
     members = len(swings)
     everyone = sum(map(sum, swings))
     for its in swings:
         orders = sum(number * factorial(size - 1) * factorial(members - size) for size, number in enumerate(its) if size)
-        yield Fraction(sum(its), everyone), Fraction(sum(its), 2 ** (members - 1)), Fraction(orders, factorial(members))
+        own = sum(its)
+        yield (Fraction(own, everyone), Fraction(own, 2 ** (members - 1)), Fraction(orders, factorial(members)),
+               Fraction(own, winning), Fraction(own, 2 ** members - winning))
 
 
 def decimals(it):
@@ -236,7 +238,9 @@ def report(game, with_list=False, with_sizes=False, with_notation=False, by_poly
     if not only_swings:
         yield f"minimal\t{sum(sizes)}"
     if swings:
+        act = Fraction(winning, 2 ** len(game.names))
         yield f"winning\t{winning}"
+        yield f"act\t{act.numerator}/{act.denominator}\t{decimals(act)}"
     if with_list:
         for c in found:
             weight = with_slashes(sum(of[game.ranked[p]] for p in c) for _, of in game.rules)
@@ -247,13 +251,13 @@ def report(game, with_list=False, with_sizes=False, with_notation=False, by_poly
             if number:
                 fields = "\t".join(str(of[size]) for of in counts)
                 yield f"size\t{size}\t{number}\t{fields}"
-    yield from member_lines(game, [] if only_swings else sizes, counts, swings)
+    yield from member_lines(game, [] if only_swings else sizes, counts, swings, winning)
 
 
-def member_lines(game, sizes, counts, swings):
+def member_lines(game, sizes, counts, swings, winning):
     """The line of each member, with its indices by minimal winning coalitions or swings that were counted."""
     seats = sum(size * number for size, number in enumerate(sizes))
-    by_swings = list(swing_indices(swings))
+    by_swings = list(swing_indices(swings, winning))
     indices = []
     for i, name in enumerate(game.names):
         fields = [name, with_slashes(of[i] for _, of in game.rules)]
@@ -267,9 +271,9 @@ def member_lines(game, sizes, counts, swings):
             fields += [number, *(text for it in its for text in (f"{it.numerator}/{it.denominator}", decimals(it)))]
         indices.append([it for _, its in groups for it in its])
         yield "\t".join(str(field) for field in ["member", *fields])
-    # all but Penrose's measure add up to 1
+    # all but Penrose's measure and Coleman's powers add up to 1
     sums = [sum(column) for column in zip(*indices)]
-    assert all(it == 1 for at, it in enumerate(sums) if at != len(sums) - 2 or not swings)
+    assert all(it == 1 for it in (sums[:-4] + sums[-3:-2] if swings else sums))
 
 
 def main(words):

@@ -10,8 +10,7 @@ holds its statements, and not its proofs, so that the crates above do not load t
 crates/NAME/out/rlib/statements (elsewhere `rt verdict` takes it for sources that no check reads), and is proved again
 where its text or that of a library below has changed. `rt check` of a crate above takes it from there: see `give`.
 
-The library for other languages is crates/council_c/out/libcouncil.a: the crate council_c, and what the kit has of C to
-take memory. Its LLVM module, council.bc beside it, is what tools/web.sh makes the module for browsers of.
+The library for other languages is crates/council_c/out/libcouncil.a: the crate council_c, and tools/heap.c. Its LLVM module, council.bc beside it, is what tools/web.sh makes the module for browsers of.
 
 For whoever works on the sources (--keep, or where an earlier run of `rt` has kept work) it is `rt lib` that proves
 each, and keeps its work: more at first, and after a change only what changed. `rt` itself proves one library after
@@ -40,6 +39,7 @@ import shutil
 import signal
 import subprocess
 import sys
+import tempfile
 import time
 from concurrent.futures import FIRST_COMPLETED, ThreadPoolExecutor, wait
 
@@ -400,17 +400,30 @@ def library_once(lines):
 
 
 def with_memory(sources):
-    """Puts the calls for memory that the kit has of C beside the archive of the crate, and keeps of which sources it
-    is; the status."""
-    out = f"{TOP}/crates/{LIBRARY}/out"
-    parts = [f"{out}/lib{LIBRARY}.a", f"{kit()}/c/liblibc_c.a"]
-    script = "".join(f"{line}\n" for line in ["CREATE libcouncil.a.new", *[f"ADDLIB {it}" for it in parts], "SAVE", "END"])
-    made = subprocess.run([f"{kit()}/toolchain/bin/llvm-ar", "-M"], input=script, text=True, cwd=out, check=False)
-    if made.returncode == 0:
-        os.replace(f"{out}/libcouncil.a.new", f"{out}/libcouncil.a")
-        with open(f"{out}/built", "w", encoding="utf-8") as it:
-            it.write(f"{sources}\n")
-    return made.returncode
+    """Puts the heap beside the object of the crate, under names that clash with those of no other library of Rattle, and
+    keeps of which sources the archive is; the status."""
+    out, tools = f"{TOP}/crates/{LIBRARY}/out", f"{kit()}/toolchain/bin"
+    with tempfile.TemporaryDirectory(dir=out) as room:
+
+        def run(*words):
+            return subprocess.run(words, cwd=room, check=False).returncode
+
+        if run(f"{tools}/llvm-ar", "x", f"{out}/lib{LIBRARY}.a") or run(
+            f"{tools}/clang", "-O2", "-fPIC", "-fvisibility=hidden", "-c", f"{TOP}/tools/heap.c", "-o", "heap.o"
+        ):
+            return 1
+        objects = sorted(os.listdir(room))
+        for it in objects:
+            with open(f"{room}/{it}", "r+b") as file:
+                renamed = re.sub(rb"\0rattle_((re|de)?alloc)(?=\0)", rb"\0council\1", file.read())
+                file.seek(0)
+                file.write(renamed)
+        if run(f"{tools}/llvm-ar", "rcs", "libcouncil.a", *objects):
+            return 1
+        os.replace(f"{room}/libcouncil.a", f"{out}/libcouncil.a")
+    with open(f"{out}/built", "w", encoding="utf-8") as it:
+        it.write(f"{sources}\n")
+    return 0
 
 
 def log_of(name):

@@ -14,4 +14,4 @@ trap 'rm -f "$exports"' EXIT
     printf '%s;\n' $calls
     echo 'local: *; };'
 } >"$exports"
-cc -shared -s -o "$2" -Wl,-soname,libcouncil.so -Wl,-z,defs $(printf -- '-Wl,-u,%s ' $calls) -Wl,--version-script="$exports" "$1"
+cc -shared -s -o "$2" -Wl,-soname,libcouncil.so.1 -Wl,-z,defs $(printf -- '-Wl,-u,%s ' $calls) -Wl,--version-script="$exports" "$1"

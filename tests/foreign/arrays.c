@@ -7,6 +7,8 @@
  *     arrays lists GAMES SEED      the coalitions of random games, in buffers of every length
  *     arrays threads               the same games by eight threads at once
  *     arrays visits                walks that may make few visits
+ *     arrays stop                  a flag ends each call
+ *     arrays options               options of other versions, and some that no call takes
  *     arrays words                 the words of each status, in buffers of every length
  *     arrays one                   one game, to refuse its allocations
  *     arrays double                reads numbers "top high, low, bottom high, low", prints doubles
@@ -18,6 +20,7 @@
 #include <stdlib.h>
 #include <string.h>
 #include <sys/mman.h>
+#include <time.h>
 
 enum { MEMBERS = 40, RULES = 4, PAGE = 4096, ROOM = 1 << 16, THREADS = 8 };
 
@@ -49,7 +52,7 @@ static void let_go(void *block, size_t size)
 /* ---- games */
 struct game {
 	size_t rules, members;
-	uint64_t quotas[RULES], weights[RULES * MEMBERS];
+	uint64_t quotas[RULES], weights[RULES * MEMBERS], ways[COUNCIL_MAX_WAYS];
 };
 
 static uint64_t draw(uint64_t *state, uint64_t below)
@@ -58,6 +61,16 @@ static uint64_t draw(uint64_t *state, uint64_t below)
 	*state ^= *state >> 7;
 	*state ^= *state << 17;
 	return *state % below;
+}
+
+/* two rules: either; three: two of them, or the first and one of the others */
+static void add_ways(struct game *game, uint64_t *state)
+{
+	const uint64_t ways[][3] = {{1, 2}, {3, 5, 6}, {3, 5}, {1, 6}};
+	if (game->rules == 2 && draw(state, 2))
+		memcpy(game->ways, ways[0], sizeof ways[0]);
+	if (game->rules == 3 && draw(state, 4))
+		memcpy(game->ways, ways[1 + draw(state, 3)], sizeof ways[0]);
 }
 
 static struct game make(uint64_t *state, size_t most)
@@ -72,7 +85,15 @@ static struct game make(uint64_t *state, size_t most)
 			total = game.weights[r * game.members] = 1;
 		game.quotas[r] = 1 + draw(state, total);
 	}
+	add_ways(&game, state);
 	return game;
+}
+
+static struct council_options with_ways(const struct game *game)
+{
+	struct council_options options = {.size = sizeof options};
+	memcpy(options.ways, game->ways, sizeof options.ways);
+	return options;
 }
 
 static struct council_summary no_summary(void)
@@ -91,6 +112,14 @@ static char *write_game(const struct game *game, char *at)
 	for (size_t r = 0; r < game->rules; r++)
 		at += sprintf(at, "%s%" PRIu64, r ? ", " : "", game->quotas[r]);
 	at += sprintf(at, "]\n");
+	for (size_t k = 0; k < COUNCIL_MAX_WAYS && game->ways[k]; k++) {
+		at += sprintf(at, k ? ", [" : "ways = [[");
+		for (int r = 0, some = 0; r < RULES; r++)
+			if (game->ways[k] >> r & 1)
+				at += sprintf(at, some++ ? ", %d" : "%d", r + 1);
+		*at++ = ']';
+	}
+	at += sprintf(at, game->ways[0] ? "]\n" : "");
 	for (size_t i = 0; i < game->members; i++) {
 		at += sprintf(at, "[[member]]\nname = \"%zu\"\nweights = [", i + 1);
 		for (size_t r = 0; r < game->rules; r++)
@@ -103,10 +132,8 @@ static char *write_game(const struct game *game, char *at)
 static uint32_t report(const struct game *game, bool swings, char *text, uint64_t *length)
 {
 	char file[ROOM];
-	struct council_options options = {.tally = true, .sizes = true};
+	struct council_options options = {.size = sizeof options, .tally = 1, .sizes = 1, .swings = swings};
 	size_t size = (size_t)(write_game(game, file) - file);
-	if (swings)
-		return council_swings_report(file, size, &options, false, text, ROOM, length);
 	return council_report(file, size, &options, text, ROOM, length);
 }
 
@@ -170,6 +197,11 @@ static void compare(const struct game *game, bool swings, const struct council_m
 			fail("another number of coalitions", number);
 		if (!strncmp(line, "winning\t", 8) && strtoull(line + 8, NULL, 10) != summary->winning)
 			fail("another number of winning coalitions", number);
+		if (!strncmp(line, "act\t", 4)) {
+			*write_index(summary->act, own) = 0;
+			if (strncmp(line + 4, own, strlen(own)))
+				fail("another power to act", number);
+		}
 		if (sscanf(line, "size\t%" SCNu64 "\t%" SCNu64, &size, &count) == 2 && summary->of_size[size] != count)
 			fail("another number of a size", number);
 		if (!strncmp(line, "total\t", 6)) {
@@ -182,9 +214,9 @@ static void compare(const struct game *game, bool swings, const struct council_m
 			continue;
 		/* the fields after the name and the weights */
 		const struct council_member *it = &results[member++];
-		const struct council_fraction indices[] = {it->deegan_packel, it->public_good, it->banzhaf, it->penrose, it->shapley_shubik};
+		const struct council_fraction indices[] = {it->deegan_packel, it->public_good, it->banzhaf, it->penrose, it->shapley_shubik, it->prevent, it->initiate};
 		char *at = own, *from = strchr(strchr(line + 7, '\t') + 1, '\t') + 1, *rest = from;
-		for (int k = 0; k < (swings ? 5 : 2); k++) {
+		for (int k = 0; k < (swings ? 7 : 2); k++) {
 			if (k == 0 || k == 2)
 				at += sprintf(at, "%" PRIu64 "\t", k ? it->swings : it->coalitions);
 			at = write_index(indices[k], at);
@@ -213,8 +245,10 @@ static void call_guarded(const struct game *game, bool swings, long number)
 	struct council_summary *summary = guarded(sizeof *summary);
 	memcpy(quotas, game->quotas, quotas_size);
 	memcpy(weights, game->weights, count * sizeof *weights);
+	struct council_options options = {.size = sizeof options, .swings = swings};
+	memcpy(options.ways, game->ways, sizeof options.ways);
 	*summary = no_summary();
-	if (council_indices(quotas, game->rules, weights, count, swings, 0, results, game->members, summary) != COUNCIL_REPORT)
+	if (council_indices(quotas, game->rules, weights, count, &options, results, game->members, summary) != COUNCIL_REPORT)
 		fail("there are no numbers", number);
 	if (memcmp(quotas, game->quotas, quotas_size) || memcmp(weights, game->weights, count * sizeof *weights))
 		fail("what is only read was changed", number);
@@ -238,7 +272,7 @@ static void compare_list(const struct game *game, const uint64_t *masks, size_t 
 {
 	static __thread char text[1 << 20];
 	char file[ROOM], *next = NULL;
-	struct council_options options = {.list = true};
+	struct council_options options = {.size = sizeof options, .list = 1};
 	uint64_t length = 0;
 	size_t at = 0, size = (size_t)(write_game(game, file) - file);
 	if (council_report(file, size, &options, text, sizeof text - 1, &length) != COUNCIL_REPORT || length >= sizeof text)
@@ -279,11 +313,12 @@ static bool take_block(void *context, const uint64_t *masks, size_t number)
 static void compare_blocks(const struct game *game, size_t count, const uint64_t *masks, size_t all, long number)
 {
 	struct council_summary summary = no_summary();
+	struct council_options options = with_ways(game);
 	for (size_t block = 1; block <= all + 1; block++)
 		for (size_t calls = 1; calls <= all + 1; calls += all) {
 			struct handed handed = {.block = block, .most_calls = calls};
 			size_t wanted = calls == 1 && block < all ? block : all;
-			if (council_each(game->quotas, game->rules, game->weights, count, game->members, all, block, take_block, &handed, &summary))
+			if (council_each(game->quotas, game->rules, game->weights, count, &options, game->members, all, block, take_block, &handed, &summary))
 				fail("no blocks", number);
 			if (handed.number != wanted || memcmp(handed.masks, masks, wanted * sizeof *masks))
 				fail("other blocks", number);
@@ -291,7 +326,7 @@ static void compare_blocks(const struct game *game, size_t count, const uint64_t
 				fail("blocks that are not whole", number);
 		}
 	struct handed none = {.block = 1, .most_calls = 1};
-	if (council_each(game->quotas, game->rules, game->weights, count, game->members, all - 1, 1, take_block, &none, &summary) != COUNCIL_TOO_MANY || none.calls)
+	if (council_each(game->quotas, game->rules, game->weights, count, &options, game->members, all - 1, 1, take_block, &none, &summary) != COUNCIL_TOO_MANY || none.calls)
 		fail("blocks of too many", number);
 }
 
@@ -301,15 +336,16 @@ static void run_lists(long games, uint64_t state)
 		struct game game = make(&state, 8);
 		struct council_member results[MEMBERS];
 		struct council_summary summary = no_summary();
+		struct council_options options = with_ways(&game);
 		size_t count = game.rules * game.members;
-		if (council_indices(game.quotas, game.rules, game.weights, count, false, 0, results, game.members, &summary))
+		if (council_indices(game.quotas, game.rules, game.weights, count, &options, results, game.members, &summary))
 			fail("there are no numbers", number);
 		size_t all = (size_t)summary.coalitions;
 		for (size_t room = 0; room <= all + 2; room++) {
 			uint64_t *masks = guarded(room * sizeof *masks);
 			memset(masks, 0x55, room * sizeof *masks);
 			summary = no_summary();
-			uint32_t status = council_list(game.quotas, game.rules, game.weights, count, game.members, masks, room, &summary);
+			uint32_t status = council_list(game.quotas, game.rules, game.weights, count, &options, game.members, masks, room, &summary);
 			size_t found = room < all ? 0 : all;
 			if (status != (room < all ? COUNCIL_TOO_MANY : COUNCIL_REPORT) || (!status && summary.coalitions != all))
 				fail("another status of a list", number);
@@ -329,6 +365,7 @@ static void run_lists(long games, uint64_t state)
 static void run_lengths(void)
 {
 	uint64_t state = 7;
+	struct council_options with_swings = {.size = sizeof with_swings, .swings = 1};
 	for (long number = 0; number < 10; number++) {
 		struct game game = make(&state, 6);
 		size_t count = game.rules * game.members;
@@ -344,13 +381,13 @@ static void run_lengths(void)
 						its_quotas[r] = 1;
 					for (size_t w = 0; w < weights; w++)
 						its_weights[w] = 1;
-					uint32_t status = council_indices(its_quotas, rules, its_weights, weights, true, 0, results, members, &summary);
-					uint32_t wanted = weights != rules * members       ? COUNCIL_OPTIONS
+					uint32_t status = council_indices(its_quotas, rules, its_weights, weights, &with_swings, results, members, &summary);
+					uint32_t wanted = weights != rules * members       ? COUNCIL_SIZE
 							  : rules < 1 || rules > 4 || !members ? COUNCIL_GAME
 											       : COUNCIL_REPORT;
 					if (status != wanted)
 						fail("another status of lengths", number);
-					if (status == COUNCIL_OPTIONS && memcmp(&summary, &before, sizeof summary))
+					if (status == COUNCIL_SIZE && memcmp(&summary, &before, sizeof summary))
 						fail("a summary was changed", number);
 					if (status == COUNCIL_GAME && summary.fault != (rules < 1 || rules > 4 ? COUNCIL_FAULT_RULES : COUNCIL_FAULT_MEMBERS))
 						fail("another fault of lengths", number);
@@ -368,7 +405,7 @@ static void run_lengths(void)
 		struct council_summary summary = no_summary();
 		summary.size += wrong & 1;
 		summary.member_size -= wrong >> 1;
-		if (council_indices(&quota, 1, &weight, 1, false, 0, &result, 1, &summary) != (wrong ? COUNCIL_OPTIONS : COUNCIL_REPORT))
+		if (council_indices(&quota, 1, &weight, 1, NULL, &result, 1, &summary) != (wrong ? COUNCIL_SIZE : COUNCIL_REPORT))
 			fail("another status of sizes", wrong);
 	}
 }
@@ -401,14 +438,14 @@ static void run_faults(long games, uint64_t state)
 		}
 		if (!fault)
 			continue;
-		uint32_t status = council_indices(game.quotas, game.rules, game.weights, game.rules * game.members, false, 0, results, game.members, &summary);
+		uint32_t status = council_indices(game.quotas, game.rules, game.weights, game.rules * game.members, NULL, results, game.members, &summary);
 		if (status != COUNCIL_GAME || summary.fault != fault || summary.member != member || summary.rule != rule)
 			fail("another fault", number);
 	}
 	uint64_t none[MEMBERS + 1] = {0}, quota = 0;
 	struct council_member results[MEMBERS + 1];
 	struct council_summary summary = no_summary();
-	if (council_indices(&quota, 1, none, MEMBERS + 1, false, 0, results, MEMBERS + 1, &summary) != COUNCIL_GAME || summary.fault != COUNCIL_FAULT_MEMBERS)
+	if (council_indices(&quota, 1, none, MEMBERS + 1, NULL, results, MEMBERS + 1, &summary) != COUNCIL_GAME || summary.fault != COUNCIL_FAULT_MEMBERS)
 		fail("41 members", 0);
 }
 
@@ -434,11 +471,9 @@ static void run_threads(void)
 }
 
 /* ---- visits and states: 40 members with weights of ten digits under two rules have too many states */
-static void run_visits(void)
+static struct game far_game(void)
 {
 	struct game game = {.rules = 2, .members = MEMBERS};
-	struct council_member results[MEMBERS], before[MEMBERS];
-	struct council_summary summary = no_summary();
 	uint64_t state = 3;
 	for (size_t i = 0; i < MEMBERS; i++) {
 		game.weights[i] = draw(&state, 10000000000);
@@ -446,26 +481,163 @@ static void run_visits(void)
 		game.quotas[0] += game.weights[i] / 2;
 		game.quotas[1] += game.weights[MEMBERS + i] / 2;
 	}
+	return game;
+}
+
+static void run_visits(void)
+{
+	struct game game = far_game();
+	struct council_member results[MEMBERS], before[MEMBERS];
+	struct council_summary summary = no_summary();
 	memset(results, 0x55, sizeof results);
 	memcpy(before, results, sizeof results);
-	for (uint64_t visits = 1; visits <= 1000000; visits *= 1000000)
-		if (council_indices(game.quotas, 2, game.weights, 2 * MEMBERS, false, visits, results, MEMBERS, &summary) != COUNCIL_TOO_LONG)
-			fail("a walk ended", (long)visits);
-	if (council_indices(game.quotas, 2, game.weights, 2 * MEMBERS, true, 1, results, MEMBERS, &summary) != COUNCIL_STATES)
+	struct council_options options = {.size = sizeof options, .states = 1 << 16};
+	uint64_t mask = 0, length = 0;
+	char file[ROOM], text[ROOM];
+	size_t size = (size_t)(write_game(&game, file) - file);
+	for (options.visits = 1; options.visits <= 1000000; options.visits *= 1000000) {
+		if (council_indices(game.quotas, 2, game.weights, 2 * MEMBERS, &options, results, MEMBERS, &summary) != COUNCIL_TOO_LONG)
+			fail("a walk ended", (long)options.visits);
+		if (council_report(file, size, &options, text, ROOM, &length) != COUNCIL_TOO_LONG)
+			fail("a report ended", (long)options.visits);
+		options.tally = 1;
+		if (council_report(file, size, &options, text, ROOM, &length) != COUNCIL_TOO_LONG)
+			fail("a tally ended", (long)options.visits);
+		options.tally = 0;
+	}
+	options.visits = 1;
+	if (council_list(game.quotas, 2, game.weights, 2 * MEMBERS, &options, MEMBERS, &mask, 1, &summary) != COUNCIL_TOO_LONG || mask)
+		fail("a list ended", 0);
+	options.swings = 1;
+	if (council_indices(game.quotas, 2, game.weights, 2 * MEMBERS, &options, results, MEMBERS, &summary) != COUNCIL_STATES)
 		fail("swings of too many states", 0);
 	if (memcmp(before, results, sizeof results) || summary.fault || summary.member || summary.rule)
 		fail("too long, and something was written", 0);
+}
+
+/* ---- a flag that another thread sets ends each call soon; and one that is set before, at once */
+static volatile uint32_t stop;
+
+static void *set_stop(void *unused)
+{
+	struct timespec moment = {.tv_nsec = 30000000};
+	(void)unused;
+	nanosleep(&moment, NULL);
+	stop = 1;
+	return NULL;
+}
+
+static uint32_t call_to_stop(int number, const struct game *game, const struct council_options *options)
+{
+	static struct council_member results[MEMBERS];
+	static uint64_t masks[COUNCIL_MAX_COALITIONS];
+	static char file[ROOM], text[ROOM];
+	struct council_summary summary = no_summary();
+	uint64_t length;
+	switch (number) {
+	case 0:
+		return council_indices(game->quotas, 2, game->weights, 2 * MEMBERS, options, results, MEMBERS, &summary);
+	case 1:
+		return council_list(game->quotas, 2, game->weights, 2 * MEMBERS, options, MEMBERS, masks, COUNCIL_MAX_COALITIONS, &summary);
+	default:
+		return council_report(file, (size_t)(write_game(game, file) - file), options, text, ROOM, &length);
+	}
+}
+
+static void run_stop(void)
+{
+	struct game game = far_game();
+	struct council_options options = {.size = sizeof options, .stop = &stop};
+	for (int number = 0; number < 8; number++) {
+		struct timespec start, end;
+		pthread_t thread;
+		stop = 0;
+		/* by states, and by a walk after few of them; a report listed and counted */
+		options.states = number / 4 ? 1 << 12 : COUNCIL_MAX_STATES;
+		options.tally = number % 4 == 3;
+		options.most = options.tally ? 0 : COUNCIL_MAX_COALITIONS;
+		if (pthread_create(&thread, NULL, set_stop, NULL))
+			fail("no thread", number);
+		clock_gettime(CLOCK_MONOTONIC, &start);
+		if (call_to_stop(number % 4, &game, &options) != COUNCIL_STOPPED)
+			fail("a call was not stopped", number);
+		clock_gettime(CLOCK_MONOTONIC, &end);
+		pthread_join(thread, NULL);
+		/* (a busy machine may take its time) */
+		if (end.tv_sec - start.tv_sec > 10)
+			fail("a call was stopped late", (long)(end.tv_sec - start.tv_sec));
+		if (call_to_stop(number % 4, &game, &options) != COUNCIL_STOPPED)
+			fail("a call was not stopped at once", number);
+	}
+	/* what ended is forgotten */
+	struct council_options again = {.size = sizeof again, .stop = &stop};
+	uint64_t quota = 1, weight = 1;
+	struct council_member result;
+	struct council_summary summary = no_summary();
+	stop = 0;
+	if (council_indices(&quota, 1, &weight, 1, &again, &result, 1, &summary))
+		fail("a call after one that was stopped", 0);
+}
+
+/* ---- options of older and newer versions, and some that no call takes */
+static void run_options(void)
+{
+	uint64_t quota = 51, weights[] = {50, 49, 1}, words[24] = {0};
+	struct council_member results[3];
+	struct council_summary summary = no_summary();
+	/* each shorter struct is one of an older version; a longer one may only add 0 */
+	for (uint64_t count = 0; count <= 24; count++) {
+		words[0] = 8 * count;
+		if (council_indices_raw(&quota, 1, weights, 3, words, count, results, 3, &summary))
+			fail("options of another version", (long)count);
+		for (uint64_t last = 17; last < count; last++) {
+			words[last] = 1;
+			if (council_indices_raw(&quota, 1, weights, 3, words, count, results, 3, &summary) != COUNCIL_OPTIONS)
+				fail("an option that is not known", (long)last);
+			words[last] = 0;
+		}
+		words[0] += 8;
+		if (council_indices_raw(&quota, 1, weights, 3, words, count, results, 3, &summary) != COUNCIL_SIZE && count)
+			fail("a size that is none", (long)count);
+	}
+	const uint64_t wrong[][3] = {{1, 4000001, 0}, {3, COUNCIL_MAX_STATES + 1, 0}, {4, 2, 0}, {5, 2, 0}, {9, 2, 0}, {4, 1, 5}, {4, 1, 1}};
+	for (size_t k = 0; k < sizeof wrong / sizeof *wrong; k++) {
+		struct council_options options = {.size = sizeof options};
+		((uint64_t *)&options)[wrong[k][0]] = wrong[k][1];
+		if (wrong[k][2])
+			((uint64_t *)&options)[wrong[k][2]] = 1;
+		struct council_summary before = summary;
+		if (council_indices(&quota, 1, weights, 3, &options, results, 3, &summary) != COUNCIL_OPTIONS || memcmp(&before, &summary, sizeof summary))
+			fail("options that no call takes", (long)k);
+	}
+	/* a file has ways of its own */
+	struct council_options ways = {.size = sizeof ways, .ways = {1}};
+	char text[64];
+	uint64_t length;
+	if (council_report("[1; 1]", 6, &ways, text, sizeof text, &length) != COUNCIL_OPTIONS || strcmp(text, "bad options"))
+		fail("ways of a file", 0);
+	/* ways of arrays that are none */
+	const uint64_t bad[][2] = {{2, 0}, {1, 1}, {1ull << 63, 1}};
+	for (size_t k = 0; k < sizeof bad / sizeof *bad; k++) {
+		ways.ways[0] = bad[k][0];
+		ways.ways[1] = bad[k][1];
+		if (council_indices(&quota, 1, weights, 3, &ways, results, 3, &summary) != COUNCIL_GAME || summary.fault != COUNCIL_FAULT_WAYS)
+			fail("ways that are none", (long)k);
+	}
+	/* NULL with no length */
+	if (council_report(NULL, 0, NULL, NULL, 0, &length) != COUNCIL_GAME || council_indices(NULL, 0, NULL, 0, NULL, NULL, 0, &summary) != COUNCIL_GAME)
+		fail("no address", 0);
 }
 
 /* ---- words */
 static void run_words(void)
 {
 	struct council_summary summary = no_summary();
-	const char *words[] = {"", "", "bad options", "", "too many minimal winning coalitions", "out of memory", "too many states for the swings", "too many visits", ""};
+	const char *words[] = {"", "", "bad options", "", "too many minimal winning coalitions", "out of memory", "too many states for the swings", "too many visits", "bad size", ""};
 	summary.fault = COUNCIL_FAULT_WEIGHT;
 	summary.member = 40;
 	words[COUNCIL_GAME] = "bad weight of member 40";
-	for (uint32_t status = 0; status < 9; status++)
+	for (uint32_t status = 0; status < 10; status++)
 		for (size_t room = 0; room < 40; room++) {
 			char *text = guarded(room);
 			uint64_t length = 99;
@@ -490,7 +662,8 @@ static int run_one(void)
 	struct game game = make(&state, 12);
 	struct council_member results[MEMBERS];
 	struct council_summary summary = no_summary();
-	uint32_t status = council_indices(game.quotas, game.rules, game.weights, game.rules * game.members, true, 0, results, game.members, &summary);
+	struct council_options options = {.size = sizeof options, .swings = 1};
+	uint32_t status = council_indices(game.quotas, game.rules, game.weights, game.rules * game.members, &options, results, game.members, &summary);
 	return (int)status;
 }
 
@@ -515,6 +688,10 @@ int main(int count, char **words)
 		run_threads();
 	else if (count == 2 && !strcmp(words[1], "visits"))
 		run_visits();
+	else if (count == 2 && !strcmp(words[1], "stop"))
+		run_stop();
+	else if (count == 2 && !strcmp(words[1], "options"))
+		run_options();
 	else if (count == 2 && !strcmp(words[1], "words"))
 		run_words();
 	else if (count == 2 && !strcmp(words[1], "one"))

@@ -30,50 +30,39 @@ static void look_behind(const char *text, size_t room)
 	}
 }
 
-/* which of the two calls is made */
-static bool swings, only;
-
-static uint32_t report_of(const char *game, size_t game_length, const struct council_options *options, char *text, size_t room,
-			  uint64_t *length)
-{
-	if (swings)
-		return council_swings_report(game, game_length, options, only, text, room, length);
-	return council_report(game, game_length, options, text, room, length);
-}
-
 int main(int count, char **words)
 {
 	static char game[100000];
-	struct council_options options = {0};
+	struct council_options options = {.size = sizeof options};
 	size_t room = 4096, game_length = fread(game, 1, sizeof game, stdin);
 	uint64_t length = 0;
 	for (int i = 1; i < count; i++) {
 		if (!strcmp(words[i], "--tally"))
-			options.tally = true;
+			options.tally = 1;
 		else if (!strcmp(words[i], "--list"))
-			options.list = true;
+			options.list = 1;
 		else if (!strcmp(words[i], "--sizes"))
-			options.sizes = true;
+			options.sizes = 1;
 		else if (!strcmp(words[i], "--notation"))
-			options.notation = true;
+			options.notation = 1;
 		else if (!strcmp(words[i], "--swings"))
-			swings = true;
+			options.swings = 1;
 		else if (!strcmp(words[i], "--only-swings"))
-			swings = only = true;
+			options.only_swings = 1;
 		else if (!strcmp(words[i], "--most") && i + 1 < count)
-			options.most = (uint32_t)strtoul(words[++i], NULL, 10);
+			options.most = strtoul(words[++i], NULL, 10);
 		else if (!strcmp(words[i], "--room") && i + 1 < count)
 			room = strtoul(words[++i], NULL, 10);
 		else
 			return 97;
 	}
 	char *text = buffer_of(room);
-	uint32_t status = report_of(game, game_length, &options, text, room, &length);
+	uint32_t status = council_report(game, game_length, &options, text, room, &length);
 	look_behind(text, room);
 	if (length > room) {
 		size_t whole = (size_t)length;
 		char *again = buffer_of(whole);
-		if (report_of(game, game_length, &options, again, whole, &length) != status || length != whole) {
+		if (council_report(game, game_length, &options, again, whole, &length) != status || length != whole) {
 			fputs("two calls differ\n", stderr);
 			return 96;
 		}

@@ -6,13 +6,16 @@ import ctypes
 import sys
 
 
-class Options(ctypes.Structure):
-    _fields_ = [("most", ctypes.c_uint32), *[(it, ctypes.c_bool) for it in ("tally", "list", "sizes", "notation")]]
+# the words of the options that this caller knows
+NAMES = ["size", "most", "visits", "states", "tally", "list", "sizes", "notation"]
+words_type = ctypes.c_uint64 * len(NAMES)
 
-
-call = ctypes.CDLL(sys.argv[1]).council_report
+call = ctypes.CDLL(sys.argv[1]).council_report_raw
 call.restype = ctypes.c_uint32
-call.argtypes = [ctypes.c_char_p, ctypes.c_size_t, ctypes.POINTER(Options), ctypes.c_char_p, ctypes.c_size_t, ctypes.POINTER(ctypes.c_uint64)]
+call.argtypes = [
+    *[ctypes.c_char_p, ctypes.c_size_t, words_type, ctypes.c_size_t, ctypes.c_char_p, ctypes.c_size_t],
+    ctypes.POINTER(ctypes.c_uint64),
+]
 
 
 def report(game, options, room):
@@ -21,18 +24,18 @@ def report(game, options, room):
     while True:
         # (a buffer of no byte is none: ctypes would give no address)
         text = ctypes.create_string_buffer(max(1, room))
-        status = call(game, len(game), ctypes.byref(options), text, room, ctypes.byref(length))
+        status = call(game, len(game), options, len(options), text, room, ctypes.byref(length))
         if length.value <= room:
             return status, text.raw[: length.value]
         room = length.value
 
 
-options, room, words = Options(), 4096, iter(sys.argv[2:])
+options, room, words = words_type(8 * len(NAMES)), 4096, iter(sys.argv[2:])
 for word in words:
     if word == "--room":
         room = int(next(words))
     else:
-        setattr(options, word[2:], int(next(words)) if word == "--most" else True)
+        options[NAMES.index(word[2:])] = int(next(words)) if word == "--most" else 1
 status, text = report(sys.stdin.buffer.read(), options, room)
 if status:
     sys.stderr.buffer.write(b"council: " + text + b"\n")

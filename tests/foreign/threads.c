@@ -21,7 +21,7 @@ struct job {
 
 static uint32_t call(const struct job *job, int number, char *text, uint64_t *length)
 {
-	struct council_options options = {.tally = number % 2 == 0, .list = number % 2 == 1, .sizes = true};
+	struct council_options options = {.size = sizeof options, .tally = number % 2 == 0, .list = number % 2 == 1, .sizes = 1};
 	return council_report(job->game, job->game_length, &options, text, ROOM, length);
 }
 

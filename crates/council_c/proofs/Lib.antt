@@ -1,3 +1,4 @@
+mod Findings
 mod Buffers
 mod Digits
 mod Parts

@@ -1,19 +1,20 @@
 -- Names and rules, one more at a time.
-use Rattle.std.proofs.Common.{◌≡◌, ◌∙◌, ◌<◌, ◌≤◌, ◌+◌, ℕ, zero, suc, List, [], ◌∷◌, ◌++◌, length, map, decimal, String, Global, string_bytes, refl, ap, arith, true, false}
-use Rattle.std.proofs.lemmas.{List.FromFn.map-range_with_len_more, List.FromFn.length-map-range_with_len, List.map_push}
+use Rattle.std.proofs.Common.{◌≡◌, ◌∙◌, ◌<◌, ◌≤◌, ◌+◌, ◌-◌, ◌^◌, ℕ, zero, suc, List, [], ◌∷◌, ◌++◌, length, map, filter, take, nat_lt, get_or, decimal, String, Global, string_bytes, refl, ap, sym, arith, true, false}
+use Rattle.std.proofs.lemmas.{List.FromFn.map-range_with_len_more, List.FromFn.length-map-range_with_len, List.map_push, List.Elements.filter_more}
 use Rattle.std.proofs.lemmas.{Bool.Decides.nat_tests, Grind.common_steps}
-use Rattle.std.specs.List.{range_with_len}
+use Rattle.std.specs.List.{list_any, range_with_len}
 use Rattle.std.proofs.Common.{Bool, Option, None, Result, Ok, Err, if◌then◌else◌}
 use Rattle.council_game.proofs.Shared.Sums.{get_or-zeros}
 use Rattle.council_file.specs.Bracket.{counted_names}
 use Rattle.council_game.specs.{Fault.◌>>=◌, Fault.refuse, Fault.refuse_at, Game.GameView, Game.first_weights, Ranks.rank_places, Votes.RuleView}
 unfoldable pub use Rattle.council_game.specs.Game.{made_game}
-use Rattle.council_game.specs.Ways.{are_ways, one_way}
+use Rattle.council_game.specs.Ways.{are_ways}
 use Rattle.council_game.specs.declared.fault.GameFault.{GameFault}
 use Rattle.council_game.specs.declared.fault.GameFault.TheVariants.{Title, Ways, Members, Name, SameName, Weight, QuotaRange, Rules}
-use Rattle.council_game.specs.{Rules.rule_view, Rules.rule_views}
+use Rattle.council_game.specs.{Rules.rule_view, Rules.rule_views, Rules.way_view, Rules.way_views}
 use Rattle.council_game.specs.declared.rule.Rule.{Rule}
-use Rattle.council_c.specs.Arrays.{game_of_arrays, rule_of, rules_of}
+use Rattle.council_game.specs.declared.way.Way.{Way}
+use Rattle.council_c.specs.Arrays.{game_of_arrays, masks_or_all, rule_of, rules_of, rules_of_mask}
 
 -- one name more
 pub names_more : (names : List (String Global)) (name : String Global) (k : ℕ) → map string_bytes names ≡ map decimal (range_with_len 1 k)
@@ -27,28 +28,38 @@ pub rules_more : (rules : List Rule) (rule : Rule) (q w : List ℕ) (n k : ℕ) 
 rules_more rules rule q w n k before this =
     rw (map_push rule_view rules rule, map-range_with_len_more (rule_of q w n) 0 k k (omega arith), before, this) refl
 
-one-way-is : (n : ℕ) → 1 ≤ n → n ≤ 4 → are_ways n (one_way n) ≡ true
-one-way-is zero some few = absurd (omega (arith, some))
-one-way-is (suc zero) some few = refl
-one-way-is (suc (suc zero)) some few = refl
-one-way-is (suc (suc (suc zero))) some few = refl
-one-way-is (suc (suc (suc (suc zero)))) some few = refl
-one-way-is (suc (suc (suc (suc (suc n))))) some few = absurd (omega (arith, few))
+-- one mask more
+pub ways_more : (ways : List Way) (way : Way) (masks : List ℕ) (mask k : ℕ) → k < length masks → mask ≡ get_or masks k mask → nat_lt 0 mask ≡ true
+    → way_views ways ≡ map rules_of_mask (filter (nat_lt 0) (take k masks)) → way_view way ≡ rules_of_mask mask
+    → way_views (ways ++ way ∷ []) ≡ map rules_of_mask (filter (nat_lt 0) (take (k + 1) masks))
+ways_more ways way masks mask k lt at some before this =
+    rw (map_push way_view ways way, before, this, filter_more (nat_lt 0) masks k mask lt, sym at, some, map_push rules_of_mask (filter (nat_lt 0) (take k masks)) mask) refl
 
--- 1 to 4 rules have one way, so the first fault is that of the members
-module _ (q w : List ℕ) (n : ℕ) (some : 1 ≤ length q) (few : length q ≤ 4) where
-  ways : are_ways (length (rules_of q w n)) (one_way (length q)) ≡ true
-  ways = ap (λ (k : ℕ). are_ways k (one_way (length q))) (length-map-range_with_len (rule_of q w n) 0 (length q)) ∙ one-way-is (length q) some few
+-- no mask has a rule, so there is one with all
+pub all-rules : (n m : ℕ) (ms : List ℕ) → list_any (nat_lt 0) ms ≡ false → m ≡ 2 ^ n - 1 → 0 < m → filter (nat_lt 0) (m ∷ []) ≡ masks_or_all n ms
+all-rules n m ms none is some = grind (arith, nat_tests, common_steps)
 
-  pub no-member : n < 1 → made_game None (counted_names n) (rules_of q w n) (one_way (length q)) ≡ Err Members
-  unfolding made_game
-  no-member none = grind (arith, nat_tests, common_steps, length-map-range_with_len, ways)
+-- the ways of the arrays
+abbrev ways_in : List ℕ → List ℕ → List (List ℕ)
+ways_in q ms = map rules_of_mask (masks_or_all (length q) ms)
 
-  pub many-members : 40 < n → made_game None (counted_names n) (rules_of q w n) (one_way (length q)) ≡ Err Members
-  unfolding made_game
-  many-members many = grind (arith, nat_tests, common_steps, length-map-range_with_len, ways)
+module _ (q w : List ℕ) (n : ℕ) (ms : List ℕ) (some : 1 ≤ length q) (few : length q ≤ 4) where
+  ways : (b : Bool) → are_ways (length q) (ways_in q ms) ≡ b → are_ways (length (rules_of q w n)) (ways_in q ms) ≡ b
+  ways b h = ap (λ (k : ℕ). are_ways k (ways_in q ms)) (length-map-range_with_len (rule_of q w n) 0 (length q)) ∙ h
 
-pub ruleset wrong_members = (no-member, many-members)
+  -- if the ways are wrong, they are the first fault
+  pub wrong-ways : are_ways (length q) (ways_in q ms) ≡ false → game_of_arrays q w n ms ≡ Err Ways
+  unfolding game_of_arrays made_game
+  wrong-ways wrong = grind (arith, nat_tests, common_steps, ways false wrong)
+
+  -- else a wrong number of members is
+  pub no-member : are_ways (length q) (ways_in q ms) ≡ true → n < 1 → game_of_arrays q w n ms ≡ Err Members
+  unfolding game_of_arrays made_game
+  no-member right none = grind (arith, nat_tests, common_steps, length-map-range_with_len, ways true right)
+
+  pub many-members : are_ways (length q) (ways_in q ms) ≡ true → 40 < n → game_of_arrays q w n ms ≡ Err Members
+  unfolding game_of_arrays made_game
+  many-members right many = grind (arith, nat_tests, common_steps, length-map-range_with_len, ways true right)
 
 -- a game that is made has its names
 checks-made : (title ways count : Bool) (name repeat weight : Option ℕ) (quota : Bool) (made g : GameView)
@@ -68,10 +79,11 @@ if-made true x g h = h
 if-made false x g h = absurd (cc)
 
 -- the game of arrays has as many members as they say
-pub members-of-arrays : (q w : List ℕ) (n : ℕ) (g : GameView) → game_of_arrays q w n ≡ Ok g → length g.names ≡ n
+pub members-of-arrays : (q w : List ℕ) (n : ℕ) (ms : List ℕ) (g : GameView) → game_of_arrays q w n ms ≡ Ok g → length g.names ≡ n
 unfolding game_of_arrays
-members-of-arrays q w n g h =
-    ap (λ (v : GameView). length v.names) (made-is None (counted_names n) (rules_of q w n) (one_way (length q)) g (if-made _ _ g h)) ∙ length-map-range_with_len decimal 1 n
+members-of-arrays q w n ms g h =
+    ap (λ (v : GameView). length v.names) (made-is None (counted_names n) (rules_of q w n) (map rules_of_mask (masks_or_all (length q) ms)) g (if-made _ _ g h))
+    ∙ length-map-range_with_len decimal 1 n
 
 -- what a table that is filled rests on
 pub ruleset zeros = (get_or-zeros)

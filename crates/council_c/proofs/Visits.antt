@@ -3,12 +3,14 @@ use Rattle.std.proofs.Common.{◌≡◌, ◌∙◌, ◌<◌, ◌≤◌, ◌+◌,
 use Rattle.std.proofs.Math.Nat.{mul-le-mul_left}
 use Rattle.std.proofs.lemmas.List.{get_or_at, length-map}
 use Rattle.std.specs.Option.{MatchOption, unwrap_or}
-use Rattle.council_game.specs.{Contribution.by_contribution, Game.GameView, Game.IsGame, Game.votes_of, Ranks.rule_by_rank}
+use Rattle.council_game.specs.{Contribution.by_contribution, Game.AreNonemptyCoalitions, Game.GameView, Game.IsGame, Game.votes_of, Ranks.rule_by_rank}
 use Rattle.council_game.specs.Votes.{IsVotes, Votes, minimal_coalitions}
-use Rattle.mwc_walk.specs.{Slices.slice, WalkView.WalkView, WalkView.given_count}
+use Rattle.mwc_walk.specs.{Listed.ListsAll, Slices.slice, WalkView.WalkView, WalkView.given_count}
 use Rattle.power_index.specs.Tables.{Tables, AreTallies, table_total}
-use Rattle.power_index.proofs.Shared.{Minimal.minimal-are-coalitions, Sound.total-is}
-use Rattle.council_c.specs.Bounded.{IsTooLong}
+use Rattle.power_index.proofs.Shared.{Minimal.minimal-are-coalitions, Minimal.minimal-some, Sound.total-is}
+use Rattle.council_c.specs.Bounded.{IsListed, IsTooLong}
+use Rattle.council_c.specs.declared.bounded.Listed.{Listed}
+use Rattle.council_c.specs.declared.bounded.Listed.TheVariants as listed
 use Rattle.council_run.specs.Run.{count_of}
 
 -- a walk over the whole of a game
@@ -38,6 +40,15 @@ module _ (g : GameView) (w : WalkView) (law : (v : Votes) → IsVotes v → slic
       let more : length g.names * given_count w ≤ length g.names * count_of g = mul-le-mul_left (length g.names) given in
       omega (arith, bound, more, bits)
 
+  -- if it made so many visits, it is too long
+  pub long-walk : (visits made : ℕ) → (length w.votes.rules ≡ 1 → made ≤ w.bits + (w.votes.members - w.bits) * given_count w)
+      → made ≤ w.bits + w.votes.members * 2 ^ w.votes.members → visits ≤ w.visits → made ≡ w.visits → IsTooLong visits g
+  long-walk visits made most ever long is =
+      let all = visits-end made ever in (
+        omega (arith, all, long, is),
+        λ one. let few = few-visits made most one in omega (arith, few, long, is),
+      )
+
 -- c comes after those before it
 module _ (g : GameView) (before after to_come : List ℕ) (c : ℕ) (is_game : IsGame g) (one : after ≡ before ++ c ∷ [])
     (whole : after ++ to_come ≡ minimal_coalitions (votes_of g)) where
@@ -55,6 +66,25 @@ module _ (g : GameView) (before after to_come : List ℕ) (c : ℕ) (is_game : I
   -- and there is room to count it
   pub next-room : (t : Tables) → count_of g ≤ 2 ^ 40 → AreTallies g before t → table_total t < 2 ^ 40
   next-room t few h = grind (arith, length-append, joined, total-is)
+
+  -- there is one more than before it
+  pub one-more : length before < count_of g
+  one-more = grind (arith, length-append, joined)
+
+-- the list of all of them
+pub lists : (g : GameView) (most : ℕ) (list : List ℕ) → IsGame g → list ≡ minimal_coalitions (votes_of g) → length list ≤ most → ListsAll g most list
+lists g most list is_game all few = record {
+  all = all;
+  some = subst (λ (l : List ℕ). 1 ≤ length l) (sym all) (minimal-some g is_game);
+  few = few;
+  coalitions = subst (AreNonemptyCoalitions g) (sym all) (minimal-are-coalitions g is_game);
+}
+
+-- what is listed stays so, if what is too long is too long in another sense
+pub listed-so : (g : GameView) (most : ℕ) (Long Other : Type 0) → (Long → Other) → (l : Listed) → IsListed g most Long l → IsListed g most Other l
+listed-so g most Long Other so (listed.All list) h = h
+listed-so g most Long Other so listed.TooMany h = h
+listed-so g most Long Other so listed.TooLong h = so h
 
 -- at the end a walk gave all of them
 pub ended : (whole front before to_come : List ℕ) → front ++ to_come ≡ whole → to_come ≡ [] → front ≡ before → before ≡ whole

@@ -23,6 +23,7 @@ IsStoppedBy status s (fault.Run (cause.Gather gather.TooMany)) = status ≡ 4
 IsStoppedBy status s (fault.Run cause.Memory) = status ≡ 5
 IsStoppedBy status s (fault.Run cause.States) = status ≡ 6
 IsStoppedBy status s fault.TooLong = status ≡ 7
+IsStoppedBy status s fault.Size = status ≡ 8
 IsStoppedBy status s why = ⊥
 
 -- the buffer shows what stopped the call, or nothing did and it is unchanged

@@ -7,8 +7,9 @@ use Rattle.council_run.specs.Run.{IsWithin}
 use Rattle.council_run.specs.declared.fault.Cause.TheVariants as cause
 use Rattle.mwc_gather.specs.declared.fault.GatherFault.TheVariants as gather
 use Rattle.council_c.specs.Answer.{status_of_call}
-use Rattle.council_c.specs.Arrays.{game_of_arrays}
-use Rattle.council_c.specs.Indices.{IsFaultOf, fit, with_fault}
+use Rattle.council_c.specs.Asked.{visits_of}
+use Rattle.council_c.specs.Bounded.{IsTooLong}
+use Rattle.council_c.specs.Indices.{HoldArrays, IsRight, Request, StopsArrays, with_fault}
 use Rattle.council_c.specs.Numbers.{minimal_of}
 use Rattle.council_c.specs.declared.fault.Fault.{Fault}
 use Rattle.council_c.specs.declared.fault.Fault.TheVariants as fault
@@ -31,15 +32,11 @@ abbrev pub most_masks : ℕ → ℕ
 most_masks room = min room COALITIONS
 
 -- why the coalitions of a game are not listed
-abbrev pub StopsList : ℕ → GameView → Fault → Type 0
-StopsList room g (fault.Run cause.Memory) = ⊤
-StopsList room g (fault.Run (cause.Gather gather.TooMany)) = IsWithin (Some (most_masks room)) g → ⊥
-StopsList room g why = ⊥
-
--- What was refused: the game, or its list.
-abbrev pub StopsMasks : List ℕ → List ℕ → ℕ → ℕ → Fault → ℕ → Type 0
-StopsMasks quotas weights n room why rule =
-    IsFaultOf quotas weights n why rule ⊎ ((g : GameView) × (game_of_arrays quotas weights n ≡ Ok g) × StopsList room g why)
+abbrev pub StopsList : ℕ → ℕ → GameView → Fault → Type 0
+StopsList room visits g (fault.Run cause.Memory) = ⊤
+StopsList room visits g (fault.Run (cause.Gather gather.TooMany)) = IsWithin (Some (most_masks room)) g → ⊥
+StopsList room visits g fault.TooLong = IsTooLong visits g
+StopsList room visits g why = ⊥
 
 -- The buffer begins with the masks, and the summary has their number; the rest is unchanged.
 abbrev pub AreMasks : GameView → List ℕ → List ℕ → CouncilSummary → CouncilSummary → Type 0
@@ -47,12 +44,9 @@ AreMasks g before after old new =
     (after ≡ masks_of g ++ drop (length (minimal_of g)) before)
     × (new ≡ record old { fault = 0; member = 0; rule = 0; coalitions = length (minimal_of g) })
 
--- As for numbers: 0 comes with the masks, 2 with lengths that do not fit, any other with the fault.
-abbrev pub AnswersMasks : List ℕ → List ℕ → ℕ → List ℕ → List ℕ → CouncilSummary → CouncilSummary → ℕ → Type 0
-AnswersMasks quotas weights n before after old new status =
-    ((status ≡ 0) × (fit (length quotas) (length weights) n old ≡ true)
-    × ((g : GameView) × (game_of_arrays quotas weights n ≡ Ok g) × AreMasks g before after old new))
-    ⊎ (((status ≡ 2) × (fit (length quotas) (length weights) n old ≡ false) × (after ≡ before) × (new ≡ old))
-    ⊎ ((why : Fault) × (rule : ℕ) × (fit (length quotas) (length weights) n old ≡ true)
-    × StopsMasks quotas weights n (length before) why rule × (status ≡ status_of_call why) × (after ≡ before)
-    × (new ≡ with_fault why rule old)))
+-- Status 0 comes with the masks, and any other with the fault; then the buffer is unchanged.
+abbrev pub AnswersMasks : Request → List ℕ → List ℕ → CouncilSummary → CouncilSummary → ℕ → Type 0
+AnswersMasks r before after old new status =
+    ((status ≡ 0) × IsRight r old × ((g : GameView) × HoldArrays r (Ok g) × AreMasks g before after old new))
+    ⊎ ((why : Fault) × (rule : ℕ) × StopsArrays (StopsList (length before) (visits_of r.words)) r old why rule
+    × (status ≡ status_of_call why) × (after ≡ before) × (new ≡ with_fault why rule old))

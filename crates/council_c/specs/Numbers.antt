@@ -1,11 +1,11 @@
 -- The numbers of a game and its members, as C gets them.
-use Rattle.std.specs.Prelude.{◌≡◌, ◌≤◌, ◌<◌, ℕ, ◌/◌, ◌%◌, ◌^◌, Bool, true, false, List, length, slice_index}
+use Rattle.std.specs.Prelude.{◌≡◌, ◌≤◌, ◌<◌, ℕ, ◌/◌, ◌%◌, ◌^◌, Bool, true, false, List, length, replicate, slice_index}
 use Rattle.council_game.specs.Game.{GameView, total, votes_of}
 use Rattle.council_game.specs.Votes.{minimal_coalitions, rule_at}
 use Rattle.power_index.specs.Counting.{count_of_member, count_of_size}
 use Rattle.power_index.specs.Fractions.{lowest_terms}
 use Rattle.power_index.specs.Indices.{deegan_packel, public_good}
-use Rattle.power_index.specs.SwingIndices.{banzhaf, penrose, shapley_shubik}
+use Rattle.power_index.specs.SwingIndices.{banzhaf, penrose, power_to_act, power_to_initiate, power_to_prevent, shapley_shubik}
 use Rattle.power_index.specs.Swings.{swings, winning_coalitions}
 use Rattle.council_c.specs.declared.results.CouncilFraction.{CouncilFraction}
 use Rattle.council_c.specs.declared.results.CouncilMember.{CouncilMember}
@@ -34,6 +34,9 @@ minimal_numbers g i = record {
   banzhaf = in_words (0, 0);
   penrose = in_words (0, 0);
   shapley_shubik = in_words (0, 0);
+  prevent = in_words (0, 0);
+  initiate = in_words (0, 0);
+  reserved = replicate 6 0;
 }
 
 -- the numbers of member i, with or without those of its swings
@@ -44,6 +47,8 @@ numbers true g i = record (minimal_numbers g i) {
   banzhaf = in_words (lowest_terms (banzhaf g i));
   penrose = in_words (lowest_terms (penrose g i));
   shapley_shubik = in_words (lowest_terms (shapley_shubik g i));
+  prevent = in_words (lowest_terms (power_to_prevent g i));
+  initiate = in_words (lowest_terms (power_to_initiate g i));
 }
 
 -- how many coalitions win, if that is asked for
@@ -51,13 +56,20 @@ abbrev pub winning_number : Bool → GameView → ℕ
 winning_number false g = 0
 winning_number true g = length (winning_coalitions g)
 
+-- the power of the body to act, if that is asked for
+abbrev pub act_number : Bool → GameView → CouncilFraction
+act_number false g = in_words (0, 0)
+act_number true g = in_words (lowest_terms (power_to_act g))
+
 -- the numbers of the game as a whole: how many coalitions there are, by size too; how many win; the
--- total of each rule; and no fault
+-- total of each rule; its power to act; and no fault
 pub record IsSummary (with_swings : Bool) (g : GameView) (s : CouncilSummary) : Type 0 where
   pub coalitions : s.coalitions ≡ length (minimal_of g)
   pub of_size : (k : ℕ) → k ≤ length g.names → slice_index s.of_size k ≡ count_of_size g k (minimal_of g)
   pub no_size : (k : ℕ) → length g.names < k → slice_index s.of_size k ≡ 0
   pub winning : s.winning ≡ winning_number with_swings g
+  pub act : s.act ≡ act_number with_swings g
+  pub reserved : s.reserved ≡ replicate 12 0
   pub totals : (r : ℕ) → r < length g.rules → slice_index s.totals r ≡ total (rule_at g.rules r)
   pub no_total : (r : ℕ) → length g.rules ≤ r → slice_index s.totals r ≡ 0
   pub no_fault : (s.fault ≡ 0) × (s.member ≡ 0) × (s.rule ≡ 0)

@@ -1,33 +1,42 @@
 //! The calls.
-ghost use Rattle.std.specs.Prelude.{◌≡◌, if◌then◌else◌, length};
+ghost use Rattle.std.specs.Prelude.{◌≡◌, length};
 ghost use Rattle.council_c.specs.Answer.{Answers};
 ghost use Rattle.council_c.specs.Explain.{Explains};
 ghost use Rattle.council_c.specs.Indices.{AnswersArrays};
 ghost use Rattle.council_c.specs.Masks.{AnswersMasks};
-ghost use Rattle.council_run.specs.declared.columns.Columns.TheVariants as columns;
 
+use crate::arrays::Arrays;
 use crate::explain::fault_of;
-use crate::fault::Fault;
 use crate::fill::fill;
-use crate::indices::{find_numbers, fit, note};
+use crate::indices::{find_numbers, note};
 use crate::masks::list_masks;
-use crate::options::CouncilOptions;
 use crate::results::{CouncilMember, CouncilSummary};
-use council_run::Columns;
 use std::alloc::Global;
 
-/// Puts the report of a game that shows these numbers into `text`, and returns the status.
-fn answer(
+/// Reads the bytes of a game, and puts its report into `text`.
+///
+/// If there is none, it puts in the text of the fault. Either is cut off if it does not fit, and
+/// has no byte after it. `length` becomes the length of the whole text: if that is more than `text`
+/// has room for, call again with a longer one. `options` are the words of a `council_options`.
+///
+/// The result is the status that the program would end with: 0 for a report, 2 for options that no
+/// call takes, 3 for a fault of the game, 4 for too many coalitions, 5 for out of memory and 6 if
+/// the swings take too many states; or 7 if a walk made all its visits, and 8 if the options have
+/// not the size that they name.
+///
+/// It starts no thread, keeps nothing from one call to the next, and gives out no memory. Calls may
+/// run at the same time, each on its own buffers.
+#[unsafe(no_mangle)]
+pub extern "C" fn council_report_raw(
     alloc: Global,
     game: &[u8],
-    options: &CouncilOptions,
-    columns: Columns,
+    options: &[u64],
     text: &mut [u8],
     length: &mut u64,
 ) -> u32
-    ensures { Answers columns options.now game.now text.old text.new length.new result }
+    ensures { Answers options.now game.now text.old text.new length.new result }
 {
-    match fill(alloc, game, options, columns, text) {
+    match fill(alloc, game, options, text) {
         Ok(whole) => {
             *length = whole;
             0
@@ -39,69 +48,23 @@ fn answer(
     }
 }
 
-/// Reads the bytes of a game, and puts its report into `text`.
-///
-/// If there is none, it puts in the text of the fault. Either is cut off if it does not fit, and
-/// has no byte after it. `length` becomes the length of the whole text: if that is more than `text`
-/// has room for, call again with a longer one. The result is the status that the program would end
-/// with: 0 for a report, 2 for options that no call takes, 3 for a fault of the game, 4 for too
-/// many coalitions, and 5 for out of memory.
-///
-/// It starts no thread, keeps nothing from one call to the next, and gives out no memory. Calls may
-/// run at the same time, each on its own buffers.
-#[unsafe(no_mangle)]
-pub extern "C" fn council_report(
-    alloc: Global,
-    game: &[u8],
-    options: &CouncilOptions,
-    text: &mut [u8],
-    length: &mut u64,
-) -> u32
-    ensures { Answers columns.Minimal options.now game.now text.old text.new length.new result }
-{
-    answer(alloc, game, options, Columns::Minimal, text, length)
-}
-
-/// Does as `council_report`, and shows the swings; if `only` is true, it shows only these.
-///
-/// Then no minimal winning coalition is found, and of the options only `notation` has an effect.
-/// The result is 6 if the swings take too many states.
-#[unsafe(no_mangle)]
-pub extern "C" fn council_swings_report(
-    alloc: Global,
-    game: &[u8],
-    options: &CouncilOptions,
-    only: bool,
-    text: &mut [u8],
-    length: &mut u64,
-) -> u32
-    ensures { Answers (if only then columns.Swings else columns.Both) options.now game.now
-        text.old text.new length.new result }
-{
-    let columns = if only { Columns::Swings } else { Columns::Both };
-    answer(alloc, game, options, columns, text, length)
-}
-
 /// Puts the numbers of the members of a game into `results`, and those of the game into `summary`.
 ///
 /// `weights` has the weights of the first rule, those of the second, and so on, and `results` has
-/// room for each member. With `swings`, those and the indices that rest on them are computed too.
-/// The coalitions are counted by states, or if these are too many by a walk of at most `visits`
-/// visits; 0 means 2^64 - 1, which is more than any walk makes.
+/// room for each member. Of the options, swings, visits, states and ways have an effect. The
+/// coalitions are counted by states, or if these are too many by a walk.
 ///
-/// The result is a status: 0; 2 if the lengths do not fit each other, or the summary has not the
-/// sizes of its structs; 3 for a fault of the game, whose number, member and rule are then in the
-/// summary; 5 for out of memory; 6 if the swings take too many states; 7 if the walk did not end.
-/// With any but 0 the results are unchanged. With 2 the summary is too.
-///
-/// It starts no thread, keeps nothing from one call to the next, and gives out no memory.
+/// The result is a status: 0; 2 for options that no call takes; 3 for a fault of the game, whose
+/// number, member and rule are then in the summary; 5 for out of memory; 6 if the swings take too
+/// many states; 7 if the walk did not end; 8 if the lengths do not fit each other, or the summary
+/// or the options have not the sizes of their structs. With any but 0 the results are unchanged.
+/// With 2 and 8 the summary is too.
 #[unsafe(no_mangle)]
-pub extern "C" fn council_indices(
+pub extern "C" fn council_indices_raw(
     alloc: Global,
     quotas: &[u64],
     weights: &[u64],
-    swings: bool,
-    visits: u64,
+    options: &[u64],
     results: &mut [CouncilMember],
     summary: &mut CouncilSummary,
 ) -> u32
@@ -109,15 +72,16 @@ pub extern "C" fn council_indices(
       quotas = quotas.now;
       weights = weights.now;
       members = length results.old;
-      swings = swings;
-      visits = visits;
+      words = options.now;
     }) results.old results.new summary.old summary.new result }
 {
-    let members = results.len();
-    if !fit(quotas, weights, members, summary) {
-        return Fault::Options.status();
-    }
-    match find_numbers(alloc, quotas, weights, members, swings, visits) {
+    let arrays = Arrays {
+        quotas,
+        weights,
+        members: results.len(),
+        words: options,
+    };
+    match find_numbers(alloc, &arrays, summary) {
         Ok(found) => {
             results.copy_from_slice(&found.members);
             *summary = found.summary;
@@ -133,26 +97,35 @@ pub extern "C" fn council_indices(
 /// Puts the minimal winning coalitions of a game into `masks`, in listing order, and their number
 /// into the summary.
 ///
-/// Binary digit i of a mask is 1 if member i is in. Arrays are as for `council_indices`; `members`
-/// is how many there are.
+/// Binary digit i of a mask is 1 if member i is in. Arrays are as for `council_indices_raw`;
+/// `members` is how many there are. Of the options, visits, states and ways have an effect.
 ///
 /// The result is a status as there, and 4 if there are more coalitions than `masks` has room for,
-/// or than 4,000,000. With any but 0 the masks are unchanged. With 2 the summary is too.
+/// or than 4,000,000. With any but 0 the masks are unchanged. With 2 and 8 the summary is too.
 #[unsafe(no_mangle)]
-pub extern "C" fn council_list(
+pub extern "C" fn council_list_raw(
     alloc: Global,
     quotas: &[u64],
     weights: &[u64],
+    options: &[u64],
     members: usize,
     masks: &mut [u64],
     summary: &mut CouncilSummary,
 ) -> u32
-    ensures { AnswersMasks quotas.now weights.now members masks.old masks.new summary.old summary.new result }
+    ensures { AnswersMasks (record {
+      quotas = quotas.now;
+      weights = weights.now;
+      members = members;
+      words = options.now;
+    }) masks.old masks.new summary.old summary.new result }
 {
-    if !fit(quotas, weights, members, summary) {
-        return Fault::Options.status();
-    }
-    match list_masks(alloc, quotas, weights, members, masks.len()) {
+    let arrays = Arrays {
+        quotas,
+        weights,
+        members,
+        words: options,
+    };
+    match list_masks(alloc, &arrays, summary, masks.len()) {
         Ok(list) => {
             masks[..list.len()].copy_from_slice(&list);
             *summary = CouncilSummary {
@@ -192,12 +165,12 @@ pub extern "C" fn council_explain(
 
 /// The version of this library, as 10,000 for the first number, 100 for the second and 1 for the
 /// third.
-const VERSION: u32 = 10_300;
+const VERSION: u32 = 10_200;
 
-/// Returns the version of this library: 10,300 is 1.3.0.
+/// Returns the version of this library: 10,200 is 1.2.0.
 #[unsafe(no_mangle)]
 pub extern "C" fn council_version() -> u32
-    ensures { result ≡ 10300 }
+    ensures { result ≡ 10200 }
 {
     VERSION
 }

@@ -55,6 +55,7 @@ pub(crate) fn fault_of(status: u32, summary: &CouncilSummary) -> Option<Fault>
         5 => Some(Fault::Run(Cause::Memory)),
         6 => Some(Fault::Run(Cause::States)),
         7 => Some(Fault::TooLong),
+        8 => Some(Fault::Size),
         _ => None,
     }
 }

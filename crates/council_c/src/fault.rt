@@ -15,6 +15,8 @@ use thiserror::Error;
 /// Why there is no report, with the texts of the program.
 #[derive(Clone, Copy, Debug, Error)]
 pub enum Fault {
+    /// A length, or the size of a struct, is none that the call takes.
+    Size,
     /// No call takes the options.
     Options,
     /// The run stopped.
@@ -54,6 +56,7 @@ impl Fault {
         ensures { result ≡ status_of_call self }
     {
         match self {
+            Fault::Size => 8,
             Fault::Options => 2,
             Fault::Run(cause) => u32::from(status(&RunFault { cause, written: 0 })),
             Fault::TooLong => 7,
@@ -65,6 +68,7 @@ impl Fault {
         ensures { inline_text result ≡ text_of_call self }
     {
         match self {
+            Fault::Size => short_text("bad size"),
             Fault::Options => short_text("bad options"),
             Fault::Run(cause) => cause.text(),
             Fault::TooLong => short_text("too many visits"),

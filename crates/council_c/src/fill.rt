@@ -1,22 +1,20 @@
 //! A report in a buffer.
-ghost use Rattle.std.specs.Prelude.{◌≡◌, Bool, IfErr, IfOk, OnErr, OnOk, false, length, true};
-ghost use Rattle.council_game.specs.Options.{lines_of};
-ghost use Rattle.council_c.specs.Asked.{limit_of, lines_of_call, most_of};
-ghost use Rattle.council_run.specs.declared.columns.Columns.{Columns};
-ghost use Rattle.council_run.specs.Columns.{limit_with, report_of};
+ghost use Rattle.std.specs.Prelude.{◌≡◌, IfErr, IfNone, IfOk, IfSome, OnErr, OnOk, false, length, true};
+ghost use Rattle.council_game.specs.Options.{lines_of as lines_in};
+ghost use Rattle.council_c.specs.Answer.{FillsBy, Reports, Shows, StopsCall, StopsOn, TakesTooLong};
+ghost use Rattle.council_c.specs.Asked.{limit_in};
+ghost use Rattle.council_run.specs.Columns.{report_of};
 ghost use Rattle.council_run.specs.Findings.{AreFindings, columns_of};
-ghost use Rattle.council_run.specs.Shared.Finding.{FindsAll};
-ghost use Rattle.council_run.specs.Plans.{is_too_many, lines_of_plan};
-ghost use Rattle.council_c.specs.Answer.{FillsBy, Reports, Shows, StopsCall, StopsOn};
 
+use crate::arrays::name_ways;
 use crate::fault::Fault;
 use crate::finding::find_in_one_thread;
-use crate::options::CouncilOptions;
+use crate::options::{Call, read_options};
 use crate::page::{Page, put};
 use council_file::parse_game;
-use council_game::{Game, Memory, Options, Plan, ReportLines};
+use council_game::{Game, Memory, ReportLines};
 use council_report::ReportFault;
-use council_run::{Columns, Findings, RunFault};
+use council_run::{Findings, RunFault};
 use std::alloc::Global;
 use std::io;
 
@@ -63,19 +61,8 @@ fn put_report(
     Ok(length)
 }
 
-/// Returns how the coalitions are found.
-fn plan_of(call: &CouncilOptions, options: &Options) -> Plan
-    requires most { options.now.most ≡ most_of call.now }
-    requires lines { lines_of options.now ≡ lines_of_call call.now }
-    requires bare { call.now.tally ≡ true → options.now.list ≡ false }
-    ensures limit { (columns : Columns) (many : Bool)
-        → limit_with columns result options.now.most many ≡ limit_of columns call.now }
-    ensures lines { lines_of_plan result options.now ≡ lines_of_call call.now }
-{
-    if call.tally { Plan::Count } else { Plan::List }
-}
-
-/// Puts the report of a game file into a buffer, as much as fits; returns its length.
+/// Puts the report of a game file into a buffer, as much as fits; returns its length, or nothing if
+/// a walk made all its visits before its end.
 ///
 /// # Errors
 ///
@@ -84,45 +71,47 @@ fn plan_of(call: &CouncilOptions, options: &Options) -> Plan
 fn put_game(
     alloc: Global,
     bytes: &[u8],
-    options: &Options,
-    plan: Plan,
-    columns: Columns,
+    call: &Call,
     room: &mut [u8],
-) -> Result<u64, RunFault>
-    requires { options.now.list ≡ (lines_of_plan plan options.now).list }
-    ensures ok { IfOk result (FillsBy (report_of columns (lines_of options.now)) (limit_with columns plan options.now.most false)
-        bytes.now room.old room.new) }
-    ensures err { IfErr result (λ fault. StopsOn columns
-        (limit_with columns plan options.now.most (is_too_many result)) bytes.now fault.cause) }
+) -> Result<Option<u64>, RunFault>
+    requires { call.now.tally ≡ true → call.now.options.list ≡ false }
+    ensures ok { IfOk result (λ o. IfSome o (FillsBy (report_of call.now.columns (lines_in call.now.options))
+        (limit_in call.now.columns call.now.tally call.now.options.most) bytes.now room.old room.new)) }
+    ensures long { IfOk result (λ o. IfNone o (TakesTooLong call.now.visits bytes.now)) }
+    ensures err { IfErr result (λ fault. StopsOn call.now.columns
+        (limit_in call.now.columns call.now.tally call.now.options.most) bytes.now fault.cause) }
     ensures kept { OnErr result (room.new ≡ room.old) }
+    ensures same { IfOk result (λ o. IfNone o (room.new ≡ room.old)) }
 {
     let game = parse_game(alloc, bytes)?;
-    let found = find_in_one_thread(alloc, &game, options, plan, columns)?;
-    Ok(put_report(alloc, &game, &found, options.lines(), room)?)
+    match find_in_one_thread(alloc, &game, call)? {
+        Some(found) => Ok(Some(put_report(alloc, &game, &found, call.options.lines(), room)?)),
+        None => Ok(None),
+    }
 }
 
 /// Puts the report of a game file into a buffer, as much as fits; returns its length.
 ///
 /// # Errors
 ///
-/// The options are wrong, or as for `put_game`.
+/// Size or Options if the words of the options are wrong; TooLong; or as for `put_game`.
 pub(crate) fn fill(
     alloc: Global,
     bytes: &[u8],
-    call: &CouncilOptions,
-    columns: Columns,
+    words: &[u64],
     room: &mut [u8],
 ) -> Result<u64, Fault>
-    ensures ok { IfOk result (λ len. Reports columns call.now bytes.now room.old room.new len) }
-    ensures err { IfErr result (StopsCall columns call.now bytes.now) }
+    ensures ok { IfOk result (λ len. Reports words.now bytes.now room.old room.new len) }
+    ensures err { IfErr result (StopsCall words.now bytes.now) }
     ensures kept { OnErr result (room.new ≡ room.old) }
 {
-    let Some(options) = call.options() else {
+    let call = read_options(words)?;
+    if name_ways(&call.ways) {
         return Err(Fault::Options);
-    };
-    let plan = plan_of(call, &options);
-    match put_game(alloc, bytes, &options, plan, columns, room) {
-        Ok(length) => Ok(length),
+    }
+    match put_game(alloc, bytes, &call, room) {
+        Ok(Some(length)) => Ok(length),
+        Ok(None) => Err(Fault::TooLong),
         Err(fault) => Err(Fault::Run(fault.cause)),
     }
 }

@@ -1,8 +1,9 @@
 //! The numbers of the game that arrays hold.
-ghost use Rattle.std.specs.Prelude.{◌≡◌, ◌<◌, ◌⊎◌, ◌*◌, IfErr, IfOk, IfSome, Ok, length, map, true};
+ghost use Rattle.std.specs.Prelude.{◌≡◌, ◌<◌, ◌⊎◌, IfErr, IfOk, IfSome, false, length, map, true};
 ghost use Rattle.std.specs.Option.{is_some};
-ghost use Rattle.council_c.specs.Indices.{AreNumbers, IsFaultOf, StopsNumbers, StopsOnGame, fit, with_fault};
-ghost use Rattle.council_c.specs.Arrays.{game_of_arrays, member_of_fault};
+ghost use Rattle.council_c.specs.Arrays.{member_of_fault};
+ghost use Rattle.council_c.specs.Calls.{IsReady, request_of};
+ghost use Rattle.council_c.specs.Indices.{AreNumbers, HasNoGame, IsRight, StopsArrays, StopsCounts, StopsNumbers, fits, with_fault};
 ghost use Rattle.council_c.specs.Numbers.{IsSummary, numbers};
 ghost use Rattle.council_c.specs.declared.fault.Fault.TheVariants as fault;
 ghost use Rattle.council_game.specs.Members.{members};
@@ -10,15 +11,23 @@ ghost use Rattle.council_game.specs.declared.limits.TheConstants.{PLAIN_MEMBERS}
 ghost use Rattle.council_run.specs.declared.fault.Cause.TheVariants as cause;
 ghost use Rattle.power_index.specs.Swings.{AreWinningCounts};
 
-use crate::arrays::{game_of_arrays, rule_of_fault};
+use crate::arrays::{Arrays, game_of_arrays, rule_of_fault};
 use crate::bounded::count_or_stop;
 use crate::fault::Fault;
 use crate::numbers::{all_numbers, summarize};
+use crate::options::{Call, has_size, read_options};
 use crate::results::{CouncilMember, CouncilSummary, MEMBER_SIZE, SUMMARY_SIZE};
 use council_game::{Game, GameFault, Memory, NoGate};
-use council_run::{Cause, RunFault, find_swings};
+use council_run::{Cause, RunFault, choose_game, find_swings};
 use power_index::Swings;
 use std::alloc::Global;
+
+/// A game, and what is asked of it.
+#[derive(Drop)]
+pub(crate) struct Ready {
+    pub(crate) game: Game,
+    pub(crate) call: Call,
+}
 
 /// The numbers of a game and its members.
 #[derive(Drop)]
@@ -51,15 +60,15 @@ impl From<Memory> for Stop {
 }
 
 /// Counts the swings of a game, if they are asked for.
-fn find(alloc: Global, game: &Game, asked: bool) -> Result<Option<Swings>, RunFault>
-    ensures ok { IfOk result (λ o. (is_some o ≡ asked) × IfSome o (AreWinningCounts game.now)) }
+fn find(alloc: Global, game: &Game, call: &Call) -> Result<Option<Swings>, RunFault>
+    ensures ok { IfOk result (λ o. (is_some o ≡ call.now.swings) × IfSome o (AreWinningCounts game.now)) }
     ensures err { IfErr result (λ why. (why.cause ≡ cause.Memory) ⊎ ((why.cause ≡ cause.States)
-        × (asked ≡ true) × (PLAIN_MEMBERS < length game.now.names))) }
+        × (call.now.swings ≡ true) × (PLAIN_MEMBERS < length game.now.names))) }
 {
-    if !asked {
+    if !call.swings {
         return Ok(None);
     }
-    Ok(Some(find_swings(alloc, game, &NoGate)?))
+    Ok(Some(find_swings(alloc, game, call.options.room, &NoGate)?))
 }
 
 /// Computes the numbers of a game and its members.
@@ -67,14 +76,15 @@ fn find(alloc: Global, game: &Game, asked: bool) -> Result<Option<Swings>, RunFa
 /// # Errors
 ///
 /// The first of these: out of memory for the swings, or States; out of memory, or TooLong.
-fn compute(alloc: Global, game: &Game, asked: bool, visits: u64) -> Result<Numbers, Fault>
-    ensures ok { IfOk result (λ found. (found.members.items ≡ map (numbers asked game.now) (members game.now))
-        × IsSummary asked game.now found.summary) }
-    ensures err { IfErr result (StopsOnGame asked visits game.now) }
+fn compute(alloc: Global, game: &Game, call: &Call) -> Result<Numbers, Fault>
+    ensures ok { IfOk result (λ found. (found.members.items ≡ map (numbers call.now.swings game.now) (members game.now))
+        × IsSummary call.now.swings game.now found.summary) }
+    ensures err { IfErr result (StopsCounts call.now.swings call.now.visits game.now) }
 {
-    let swings = find(alloc, game, asked)?;
-    let most = if visits == 0 { u64::MAX } else { visits };
-    let Some(counts) = count_or_stop(alloc, game, most)? else {
+    let ordered = game.by_contribution(alloc)?;
+    let walked = choose_game(game, &ordered);
+    let swings = find(alloc, walked, call)?;
+    let Some(counts) = count_or_stop(alloc, walked, call.options.room, call.visits)? else {
         return Err(Fault::TooLong);
     };
     let members = all_numbers(alloc, game, &counts, swings.as_ref())?;
@@ -82,31 +92,42 @@ fn compute(alloc: Global, game: &Game, asked: bool, visits: u64) -> Result<Numbe
     Ok(Numbers { members, summary })
 }
 
-/// Makes the game of arrays.
+/// Returns whether the options have their size, each rule has a weight for each member, and the
+/// structs have the sizes of this version.
+fn fits(arrays: &Arrays<'_>, summary: &CouncilSummary) -> bool
+    ensures { result ≡ fits (request_of arrays.now) summary.now }
+{
+    has_size(arrays.words)
+        && arrays.quotas.len().checked_mul(arrays.members) == Some(arrays.weights.len())
+        && summary.size == SUMMARY_SIZE
+        && summary.member_size == MEMBER_SIZE
+}
+
+/// Reads the options, and makes the game of arrays.
 ///
 /// # Errors
 ///
-/// The first fault of the game, and the rule that it is of; or out of memory.
+/// The first of these: Size; Options; the first fault of the game, and the rule that it is of, or
+/// out of memory.
 pub(crate) fn read(
     alloc: Global,
-    quotas: &[u64],
-    weights: &[u64],
-    members: usize,
-) -> Result<Game, Stop>
-    requires { length weights.now ≡ length quotas.now * members }
-    ensures ok { IfOk result (λ g. game_of_arrays quotas.now weights.now members ≡ Ok g) }
-    ensures err { IfErr result (λ why. IsFaultOf quotas.now weights.now members why.fault why.rule) }
+    arrays: &Arrays<'_>,
+    summary: &CouncilSummary,
+) -> Result<Ready, Stop>
+    ensures ok { IfOk result (IsReady (request_of arrays.now) summary.now) }
+    ensures err { IfErr result (λ why. HasNoGame (request_of arrays.now) summary.now why.fault why.rule) }
 {
-    match game_of_arrays(alloc, quotas, weights, members) {
-        Ok(game) => Ok(game),
+    if !fits(arrays, summary) {
+        return Err(Stop::from(Fault::Size));
+    }
+    let call = read_options(arrays.words)?;
+    match game_of_arrays(alloc, arrays, &call.ways) {
+        Ok(game) => Ok(Ready { game, call }),
         Err(GameFault::Memory) => Err(Stop::from(Fault::Run(Cause::Memory))),
-        Err(fault) => {
-            let rule = rule_of_fault(alloc, quotas, weights, members, fault)?;
-            Err(Stop {
-                fault: Fault::Run(Cause::Game(fault)),
-                rule,
-            })
-        }
+        Err(fault) => Err(Stop {
+            fault: Fault::Run(Cause::Game(fault)),
+            rule: rule_of_fault(alloc, arrays, fault)?,
+        }),
     }
 }
 
@@ -129,47 +150,24 @@ fn member_of(fault: GameFault) -> u64
 /// The first of these: as for `read`; as for `compute`.
 pub(crate) fn find_numbers(
     alloc: Global,
-    quotas: &[u64],
-    weights: &[u64],
-    members: usize,
-    asked: bool,
-    visits: u64,
+    arrays: &Arrays<'_>,
+    summary: &CouncilSummary,
 ) -> Result<Numbers, Stop>
-    requires { length weights.now ≡ length quotas.now * members }
-    ensures ok { IfOk result (λ found. AreNumbers (record {
-      quotas = quotas.now;
-      weights = weights.now;
-      members = members;
-      swings = asked;
-      visits = visits;
-    }) found.members.items found.summary) }
-    ensures err { IfErr result (λ why. StopsNumbers (record {
-      quotas = quotas.now;
-      weights = weights.now;
-      members = members;
-      swings = asked;
-      visits = visits;
-    }) why.fault why.rule) }
+    ensures ok { IfOk result (λ found. IsRight (request_of arrays.now) summary.now
+        × AreNumbers (request_of arrays.now) found.members.items found.summary) }
+    ensures err { IfErr result (λ why. StopsArrays (StopsNumbers arrays.now.words.now)
+        (request_of arrays.now) summary.now why.fault why.rule) }
 {
-    let game = read(alloc, quotas, weights, members)?;
-    Ok(compute(alloc, &game, asked, visits)?)
+    let ready = read(alloc, arrays, summary)?;
+    Ok(compute(alloc, &ready.game, &ready.call)?)
 }
 
-/// Returns whether each rule has a weight for each member, and the structs have the sizes of this
-/// version.
-pub(crate) fn fit(quotas: &[u64], weights: &[u64], members: usize, summary: &CouncilSummary) -> bool
-    ensures { result ≡ fit (length quotas.now) (length weights.now) members summary.now }
-{
-    quotas.len().checked_mul(members) == Some(weights.len())
-        && summary.size == SUMMARY_SIZE
-        && summary.member_size == MEMBER_SIZE
-}
-
-/// Puts the numbers of a fault into the summary.
+/// Puts the numbers of a fault into the summary, unless what was asked is wrong.
 pub(crate) fn note(stop: Stop, summary: &mut CouncilSummary)
     ensures { summary.new ≡ with_fault stop.fault stop.rule summary.old }
 {
     let (number, member, rule) = match stop.fault {
+        Fault::Size | Fault::Options => return,
         Fault::Run(Cause::Game(fault)) => (u64::from(fault.number()), member_of(fault), stop.rule),
         _ => (0, 0, 0),
     };

@@ -3,7 +3,7 @@
 //! declares them for C.
 //!
 //! ```text
-//! uint32_t status = council_indices(quotas, 1, weights, 3, false, 0, members, 3, &summary);
+//! uint32_t status = council_indices(quotas, 1, weights, 3, &options, members, 3, &summary);
 //! uint32_t status = council_report(game, strlen(game), &options, text, sizeof text, &length);
 //! ```
 #![tactic(auto)]
@@ -23,9 +23,7 @@ mod page;
 mod results;
 
 pub use call::{
-    council_explain, council_indices, council_list, council_report, council_swings_report,
-    council_version,
+    council_explain, council_indices_raw, council_list_raw, council_report_raw, council_version,
 };
 pub use fault::Fault;
-pub use options::CouncilOptions;
 pub use results::{CouncilFraction, CouncilMember, CouncilSummary, CouncilWide};

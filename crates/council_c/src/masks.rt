@@ -1,17 +1,20 @@
 //! The minimal winning coalitions of the game that arrays hold, as masks.
-ghost use Rattle.std.specs.Prelude.{◌≡◌, ◌≤◌, ◌*◌, ◌^◌, ◌<◌, IfErr, IfOk, Ok, Some, length, map};
-ghost use Rattle.council_c.specs.Arrays.{game_of_arrays};
-ghost use Rattle.council_c.specs.Masks.{StopsList, StopsMasks, digit_of, mask_of, masks_of};
+ghost use Rattle.std.specs.Prelude.{◌≡◌, ◌≤◌, ◌^◌, ◌<◌, IfErr, IfOk, length, map};
+ghost use Rattle.council_c.specs.Asked.{visits_of};
+ghost use Rattle.council_c.specs.Calls.{AreMasksOf, request_of};
+ghost use Rattle.council_c.specs.Indices.{StopsArrays};
+ghost use Rattle.council_c.specs.Masks.{StopsList, digit_of, mask_of};
 ghost use Rattle.council_c.specs.Numbers.{minimal_of};
-ghost use Rattle.council_game.specs.Game.{GameView};
-ghost use Rattle.council_run.specs.Found.{GatherFaultIs, IsNotFound};
-ghost use Rattle.mwc_gather.specs.declared.fault.GatherFault.TheVariants as gather;
 
+use crate::arrays::Arrays;
+use crate::bounded::{Listed, list_within};
 use crate::fault::Fault;
-use crate::finding::list_by_walk;
 use crate::indices::{Stop, read};
+use crate::options::Call;
+use crate::results::CouncilSummary;
 use council_game::{Coalition, Game, Memory, limits};
-use council_run::{Coalitions, Found, RunFault};
+use council_run::{Cause, choose_game, count_few};
+use mwc_gather::GatherFault;
 use std::alloc::Global;
 
 /// Returns the binary digit of a member in the mask of a coalition, or 0 if the member is not in.
@@ -53,34 +56,26 @@ fn masks_of(alloc: Global, game: &Game, list: &[Coalition]) -> Result<Vec<u64>, 
 ///
 /// # Errors
 ///
-/// TooMany if there are more than `most`; or out of memory.
-fn list_whole(alloc: Global, game: &Game, most: u32) -> Result<Vec<Coalition>, RunFault>
+/// TooMany if there are more than `room`, or than a list may have; TooLong; or out of memory.
+fn list(alloc: Global, game: &Game, room: usize, call: &Call) -> Result<Vec<Coalition>, Fault>
     ensures ok { IfOk result (λ v. v.items ≡ minimal_of game.now) }
-    ensures few { IfOk result (λ v. length v.items ≤ most) }
-    ensures err { IfErr result (λ why. IsNotFound (Some most) game.now why.cause) }
-    ensures many { GatherFaultIs gather.TooMany result }
-{
-    let Found { coalitions, .. } = list_by_walk(alloc, game, most, true)?;
-    match coalitions {
-        Coalitions::Whole(list) => Ok(list),
-        // memory: a walk keeps a whole list if it is asked for one
-        _ => Err(RunFault::from(Memory)),
-    }
-}
-
-/// Lists the masks of a game's minimal winning coalitions, in listing order.
-///
-/// # Errors
-///
-/// TooMany if there are more than `room`, or than a list may have; or out of memory.
-fn list(alloc: Global, game: &Game, room: usize) -> Result<Vec<u64>, Fault>
-    ensures ok { IfOk result (λ v. v.items ≡ masks_of game.now) }
     ensures few { IfOk result (λ v. length v.items ≤ room) }
-    ensures err { IfErr result (StopsList room game.now) }
+    ensures err { IfErr result (StopsList room call.now.visits game.now) }
 {
     let most = room.min(limits::COALITIONS as usize) as u32;
-    let list = list_whole(alloc, game, most)?;
-    Ok(masks_of(alloc, game, &list)?)
+    let ordered = game.by_contribution(alloc)?;
+    let walked = choose_game(game, &ordered);
+    count_few(alloc, walked, most, call.options.room)?;
+    match list_within(alloc, walked, most, call.visits)? {
+        Listed::All(mut all) => {
+            if let Some(ordered) = &ordered {
+                ordered.renumber_all(&mut all, game);
+            }
+            Ok(all)
+        }
+        Listed::TooMany => Err(Fault::Run(Cause::Gather(GatherFault::TooMany))),
+        Listed::TooLong => Err(Fault::TooLong),
+    }
 }
 
 /// Lists the masks of the game that arrays hold.
@@ -90,16 +85,16 @@ fn list(alloc: Global, game: &Game, room: usize) -> Result<Vec<u64>, Fault>
 /// The first of these: as for `read`; as for `list`.
 pub(crate) fn list_masks(
     alloc: Global,
-    quotas: &[u64],
-    weights: &[u64],
-    members: usize,
+    arrays: &Arrays<'_>,
+    summary: &CouncilSummary,
     room: usize,
 ) -> Result<Vec<u64>, Stop>
-    requires { length weights.now ≡ length quotas.now * members }
-    ensures ok { IfOk result (λ v. (g : GameView) × (game_of_arrays quotas.now weights.now members ≡ Ok g) × (v.items ≡ masks_of g)) }
+    ensures ok { IfOk result (λ v. AreMasksOf (request_of arrays.now) summary.now v.items) }
     ensures few { IfOk result (λ v. length v.items ≤ room) }
-    ensures err { IfErr result (λ why. StopsMasks quotas.now weights.now members room why.fault why.rule) }
+    ensures err { IfErr result (λ why. StopsArrays (StopsList room (visits_of arrays.now.words.now))
+        (request_of arrays.now) summary.now why.fault why.rule) }
 {
-    let game = read(alloc, quotas, weights, members)?;
-    Ok(list(alloc, &game, room)?)
+    let ready = read(alloc, arrays, summary)?;
+    let list = list(alloc, &ready.game, room, &ready.call)?;
+    Ok(masks_of(alloc, &ready.game, &list)?)
 }

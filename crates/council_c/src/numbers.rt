@@ -1,7 +1,7 @@
 //! The numbers of a game, computed.
 ghost use Rattle.std.specs.Prelude.{◌≡◌, ◌≤◌, ◌<◌, ℕ, IfOk, IfSome, length, map, slice_index};
 ghost use Rattle.std.specs.Option.{is_some};
-ghost use Rattle.council_c.specs.Numbers.{IsSummary, minimal_numbers, minimal_of, numbers};
+ghost use Rattle.council_c.specs.Numbers.{IsSummary, act_number, minimal_numbers, minimal_of, numbers};
 ghost use Rattle.council_game.specs.Game.{total};
 ghost use Rattle.council_game.specs.Members.{members};
 ghost use Rattle.council_game.specs.Votes.{rule_at};
@@ -12,7 +12,10 @@ ghost use Rattle.power_index.specs.Swings.{AreWinningCounts};
 use crate::results::{CouncilFraction, CouncilMember, CouncilSummary, MEMBER_SIZE, SUMMARY_SIZE};
 use council_game::{Game, Memory, limits};
 use power_index::laws::minimal_coalitions_can_be_counted;
-use power_index::{Counts, Swings, banzhaf, deegan_packel, penrose, public_good, shapley_shubik};
+use power_index::{
+    Counts, Swings, banzhaf, deegan_packel, penrose, power_to_act, power_to_initiate,
+    power_to_prevent, public_good, shapley_shubik,
+};
 use std::alloc::Global;
 
 /// Returns the numbers of a member that rest on the minimal winning coalitions.
@@ -31,6 +34,9 @@ fn minimal_numbers(game: &Game, counts: &Counts, member: usize) -> CouncilMember
         banzhaf: CouncilFraction::NONE,
         penrose: CouncilFraction::NONE,
         shapley_shubik: CouncilFraction::NONE,
+        prevent: CouncilFraction::NONE,
+        initiate: CouncilFraction::NONE,
+        reserved: [0; 6],
     }
 }
 
@@ -54,6 +60,8 @@ fn member_numbers(
             banzhaf: CouncilFraction::of(banzhaf(swings, member)),
             penrose: CouncilFraction::of(penrose(swings, member)),
             shapley_shubik: CouncilFraction::of(shapley_shubik(swings, member)),
+            prevent: CouncilFraction::of(power_to_prevent(swings, member)),
+            initiate: CouncilFraction::of(power_to_initiate(swings, member)),
             ..numbers
         },
         None => numbers,
@@ -110,6 +118,18 @@ fn totals_of(game: &Game) -> [u64; limits::RULES]
     totals
 }
 
+/// Returns the power of the body to act, if there are swings.
+fn act_of(game: &Game, swings: Option<&Swings>) -> CouncilFraction
+    requires { IfSome swings (λ s. AreWinningCounts game.now s.now) }
+    ensures { result ≡ act_number (is_some swings.entry) game.now }
+{
+    game.was_checked();
+    match swings {
+        Some(swings) => CouncilFraction::of(power_to_act(swings)),
+        None => CouncilFraction::NONE,
+    }
+}
+
 /// Returns the numbers of the game as a whole.
 pub(crate) fn summarize(game: &Game, counts: &Counts, swings: Option<&Swings>) -> CouncilSummary
     requires counts { AreCountsOfGame game.now counts.now }
@@ -129,5 +149,7 @@ pub(crate) fn summarize(game: &Game, counts: &Counts, swings: Option<&Swings>) -
         },
         of_size: sizes_of(game, counts),
         totals: totals_of(game),
+        act: act_of(game, swings),
+        reserved: [0; 12],
     }
 }

@@ -38,12 +38,18 @@ pub struct CouncilMember {
     pub deegan_packel: CouncilFraction,
     /// The public good index.
     pub public_good: CouncilFraction,
-    /// The Banzhaf index, if you asked for swings, as for the next two.
+    /// The Banzhaf index, if you asked for swings, as for the next four.
     pub banzhaf: CouncilFraction,
     /// Penrose's measure, also called the absolute Banzhaf index.
     pub penrose: CouncilFraction,
     /// The Shapley-Shubik index.
     pub shapley_shubik: CouncilFraction,
+    /// Coleman's power to prevent action.
+    pub prevent: CouncilFraction,
+    /// Coleman's power to initiate action.
+    pub initiate: CouncilFraction,
+    /// Words for later versions, all 0.
+    pub reserved: [u64; 6],
 }
 
 /// The numbers of a game, or its fault.
@@ -68,12 +74,16 @@ pub struct CouncilSummary {
     pub of_size: [u64; limits::SIZES],
     /// The total of the weights of each rule.
     pub totals: [u64; limits::RULES],
+    /// Coleman's power of the body to act, if you asked for swings.
+    pub act: CouncilFraction,
+    /// Words for later versions, all 0.
+    pub reserved: [u64; 12],
 }
 
 /// The sizes of the two structs in bytes.
-pub(crate) const SUMMARY_SIZE: u64 = 416;
+pub(crate) const SUMMARY_SIZE: u64 = 544;
 
-pub(crate) const MEMBER_SIZE: u64 = 176;
+pub(crate) const MEMBER_SIZE: u64 = 288;
 
 impl CouncilWide {
     /// Returns the words of a number.

@@ -14,9 +14,9 @@ use Rattle.council_game.proofs.Shared.Joins.{one-number, next-numbers}
 use Rattle.power_index.specs.{Counting.members, Fractions.lowest_terms}
 use Rattle.power_index.specs.Tables.{Tables, table_of_size, table_of_member, table_deegan_packel, table_public_good}
 use Rattle.power_index.proofs.Shared.{Members.size-le, Small.AreBelow, Small.deegan_packel-wide, Small.public_good-wide}
-use Rattle.power_index.specs.{SwingIndices.banzhaf, SwingIndices.penrose, SwingIndices.shapley_shubik, Swings.AreWinningCounts, Swings.swings}
-use Rattle.power_index.proofs.Shared.Small.{banzhaf-small, penrose-small, shapley-small, swings-few}
-use Rattle.council_report.specs.Lines.{line, with_slashes, name_of, weights_of_coalition, weights_of_member}
+use Rattle.power_index.specs.{SwingIndices.banzhaf, SwingIndices.penrose, SwingIndices.power_to_initiate, SwingIndices.power_to_prevent, SwingIndices.shapley_shubik, Swings.AreWinningCounts, Swings.swings}
+use Rattle.power_index.proofs.Shared.Small.{banzhaf-small, initiate-small, penrose-small, prevent-small, shapley-small, swings-few}
+use Rattle.council_report.specs.Lines.{index_fields, line, with_slashes, name_of, weights_of_coalition, weights_of_member}
 use Rattle.council_report.specs.SwingLines.{added_fields, swing_fields}
 use Rattle.council_report.specs.Inner.{Lines.fields_of, Lines.fields_of_counts, Lines.lines_of_members, Lines.lines_of_sizes, Lines.sizes_of_counts}
 use Rattle.council_report.specs.Inner.Numbers.{AreSomeCounts}
@@ -142,17 +142,21 @@ fields-of-counts g t are i lt =
     let second = fraction-wide (lowest_terms (table_public_good t i)) (wider _ (public_good-wide t i are.sound inside)) in
     (omega (arith, count), (first, (omega arith, (second, (omega arith, tt)))))
 
-fields-of-swings : (g : GameView) → IsGame g → (i : ℕ) → i < length g.names → (length (swing_fields g i) ≤ 7) × AreFields 97 (swing_fields g i)
+fields-of-swings : (g : GameView) → IsGame g → (i : ℕ) → i < length g.names → (length (swing_fields g i) ≤ 11) × AreFields 97 (swing_fields g i)
 unfolding swing_fields
 fields-of-swings g game i lt =
     let count = number-fits (swings g i) (omega (arith, swings-few g game i lt)) in
     let first = fraction-wide (lowest_terms (banzhaf g i)) (wider _ (banzhaf-small g game i lt)) in
     let second = fraction-wide (lowest_terms (penrose g i)) (wider _ (penrose-small g game i lt)) in
     let third = fraction-wide (lowest_terms (shapley_shubik g i)) (shapley-small g game i lt) in
-    (omega arith, (omega (arith, count), (first, (omega arith, (second, (omega arith, (third, (omega arith, tt))))))))
+    let fourth = fraction-wide (lowest_terms (power_to_prevent g i)) (wider _ (prevent-small g game i lt)) in
+    let fifth = fraction-wide (lowest_terms (power_to_initiate g i)) (wider _ (initiate-small g game i lt)) in
+    let coleman : AreFields 97 (index_fields (lowest_terms (power_to_prevent g i)) ++ index_fields (lowest_terms (power_to_initiate g i))) =
+    (fourth, (omega arith, (fifth, (omega arith, tt)))) in
+    (omega arith, (omega (arith, count), (first, (omega arith, (second, (omega arith, (third, (omega arith, coleman))))))))
 
--- a member's line has at most 2 fields, and 12 more
-member-line-fits : (g : GameView) → IsGame g → (i : ℕ) → i < length g.names → (fields : List (List ℕ)) → length fields ≤ 12
+-- a member's line has at most 2 fields, and 16 more
+member-line-fits : (g : GameView) → IsGame g → (i : ℕ) → i < length g.names → (fields : List (List ℕ)) → length fields ≤ 16
     → AreFields 97 fields → length (member_line g i fields) ≤ 4096
 unfolding member_line
 member-line-fits g game i lt fields few each =
@@ -169,7 +173,7 @@ member-fits k i lt =
     let g : GameView = k.game.now in
     let counts = some-fields k.counts (λ c. fields_of_counts c.now i) (λ c. AreSomeCounts g c.now) 5 k.counted
     (λ c are. (omega arith, fields-of-counts g c.now are i lt)) in
-    let more = some-fields k.swings (λ s. swing_fields g i) (λ s. AreWinningCounts g s.now) 7 k.winning
+    let more = some-fields k.swings (λ s. swing_fields g i) (λ s. AreWinningCounts g s.now) 11 k.winning
     (λ s are. fields-of-swings g k.is_game i lt) in
     let both = fields-both 97 (option_map_or (λ c. fields_of_counts c.now i) k.counts []) (added_fields g k.swings i) counts.1 more.1 in
     member-line-fits g k.is_game i lt (fields_of k i) (omega (

@@ -19,7 +19,8 @@ use crate::output::Block;
 use council_game::Game;
 use itoa::Buffer;
 use power_index::{
-    Counts, Fraction, Swings, banzhaf, deegan_packel, penrose, public_good, shapley_shubik,
+    Counts, Fraction, Swings, banzhaf, deegan_packel, penrose, power_to_initiate, power_to_prevent,
+    public_good, shapley_shubik,
 };
 
 /// Appends a field `top/bottom`.
@@ -33,7 +34,7 @@ fn push_fraction(out: &mut Block, fraction: Fraction)
 }
 
 /// Appends two fields: an index as a fraction and as decimals.
-fn push_index(out: &mut Block, index: Fraction)
+pub(crate) fn push_index(out: &mut Block, index: Fraction)
     requires { IsIndex (pair_of index) }
     ensures { AppendsInRoom out.old out.new (flat_map with_tab (index_fields (pair_of index))) }
 {
@@ -91,7 +92,7 @@ fn push_count_fields(out: &mut Block, counts: &Counts, member: usize)
     push_index(out, public_good(counts, member));
 }
 
-/// Appends a member's swings and the three indices that rest on them.
+/// Appends a member's swings and the five indices that rest on them.
 #[tactic(auto, unfolding(crate::specs::SwingLines::swing_fields))]
 fn push_swing_fields(out: &mut Block, swings: &Swings, member: usize)
     requires { member < swings.now.members }
@@ -102,6 +103,8 @@ fn push_swing_fields(out: &mut Block, swings: &Swings, member: usize)
     push_index(out, banzhaf(swings, member));
     push_index(out, penrose(swings, member));
     push_index(out, shapley_shubik(swings, member));
+    push_index(out, power_to_prevent(swings, member));
+    push_index(out, power_to_initiate(swings, member));
 }
 
 /// Appends the fields of a member from the counts, if there are any.

@@ -2,20 +2,24 @@
 ghost use Rattle.std.specs.Prelude.{◌≡◌, ◌<◌, ◌+◌, ◌++◌, [], codes, drop, length, slice_index, slice_index_or};
 ghost use Rattle.std.specs.List.{flat_map};
 ghost use Rattle.council_game.specs.Votes.{rule_at};
+ghost use Rattle.council_game.specs.Game.{GameView, IsGame};
 ghost use Rattle.council_game.specs.Notation.{notation};
+ghost use Rattle.power_index.specs.Swings.{AreWinningCounts};
 ghost use Rattle.council_report.specs.Inner.Ready.{AppendsText};
 ghost use Rattle.council_report.specs.Lines.{notation_line, rules_of_way, ways_line};
 ghost use Rattle.council_report.specs.Inner.Lines.{heading_of, minimal_lines};
 ghost use Rattle.council_report.specs.Report.{game_lines, notation_lines};
-ghost use Rattle.council_report.specs.SwingLines.{winning_lines};
+ghost use Rattle.council_report.specs.SwingLines.{act_line, winning_lines};
 
 use crate::ReportLines;
+use crate::count_lines::push_index;
 use crate::game_numbers::GameNumbers;
 use crate::lines::{
     push_count, push_members, push_quota, push_title, push_total, push_winning_count,
 };
 use crate::output::Block;
 use council_game::{Game, push_joined, write_notation};
+use power_index::{Swings, power_to_act};
 
 /// Returns the number of a rule of a way, from 1.
 fn rule_number(game: &Game, way: usize, place: usize) -> u64
@@ -102,12 +106,23 @@ fn push_minimal(out: &mut Block, numbers: &GameNumbers<'_>)
     }
 }
 
-/// Appends the number of winning coalitions, if there are swings.
+/// Appends the line `act`: Coleman's power of the body to act.
+#[tactic(auto, unfolding(crate::specs::SwingLines::act_line))]
+fn push_act(out: &mut Block, swings: &Swings)
+    ensures { (g : GameView) → IsGame g → AreWinningCounts g swings.now → AppendsText out.old out.new (act_line g) }
+{
+    out.push(b"act");
+    push_index(out, power_to_act(swings));
+    out.push(b"\n");
+}
+
+/// Appends the number of winning coalitions and the power to act, if there are swings.
 fn push_winning(out: &mut Block, numbers: &GameNumbers<'_>)
     ensures { AppendsText out.old out.new (winning_lines numbers.now.game.now numbers.now.swings) }
 {
     if let Some(swings) = numbers.swings {
         push_winning_count(out, swings);
+        push_act(out, swings);
     }
 }
 

@@ -102,7 +102,9 @@ fn refuse_words(rt: &(impl AllocGlobal + Print + Eprint), words: &[String]) -> E
 fn tip_for(word: &str) -> Option<&'static str> {
     match word {
         "--banzhaf" | "--penrose" | "--shapley" | "--shapley-shubik" => {
-            Some("--swings adds the Banzhaf index, Penrose's measure and the Shapley-Shubik index")
+            Some(
+                "--swings adds the Banzhaf index, Penrose's measure, the Shapley-Shubik index and Coleman's powers",
+            )
         }
         "--csv" | "--json" | "--latex" | "--markdown" => {
             Some("council-tools export makes csv, json, latex or markdown of a report")

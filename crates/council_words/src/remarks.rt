@@ -73,11 +73,11 @@ pub fn remark_on_columns(arguments: &Arguments<'_>) -> Option<&'static str> {
         None
     } else if arguments.only_swings {
         Some(
-            "a member's line has its name, weight and swings, and as fractions and as decimals the Banzhaf index, Penrose's measure and the Shapley-Shubik index; council-tools table prints headings",
+            "a member's line has its name, weight and swings, and as fractions and as decimals the Banzhaf index, Penrose's measure, the Shapley-Shubik index and Coleman's powers to prevent and to initiate action; council-tools table prints headings",
         )
     } else if arguments.swings {
         Some(
-            "a member's line has its name, weight and coalitions, as fractions and as decimals the Deegan-Packel index and the public good index, its swings, and likewise the Banzhaf index, Penrose's measure and the Shapley-Shubik index; council-tools table prints headings",
+            "a member's line has its name, weight and coalitions, as fractions and as decimals the Deegan-Packel index and the public good index, its swings, and likewise the Banzhaf index, Penrose's measure, the Shapley-Shubik index and Coleman's powers to prevent and to initiate action; council-tools table prints headings",
         )
     } else {
         Some(

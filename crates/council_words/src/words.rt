@@ -66,6 +66,7 @@ rules a quota, a total or a weight has one value for each rule, with / between.
   notation   [q; w1, .., wn], a line for each rule (--notation)
   minimal    the number of minimal winning coalitions
   winning    the number of winning coalitions (--swings, --only-swings)
+  act        Coleman's power of the body to act (--swings, --only-swings)
   coalition  its size, its weight, and its members' names, the heaviest first
              (--list)
   size       a size, how many coalitions have it, and how many of those contain
@@ -73,8 +74,9 @@ rules a quota, a total or a weight has one value for each rule, with / between.
   member     a name, its weight, how many coalitions contain the member, the
              Deegan-Packel index as a fraction and as decimals, and the public
              good index likewise; with --swings then how many swings the member
-             has, and likewise its Banzhaf index, Penrose's measure and its
-             Shapley-Shubik index
+             has, and likewise its Banzhaf index, Penrose's measure, its
+             Shapley-Shubik index, and Coleman's powers to prevent and to
+             initiate action
 
 A swing of a member is a winning coalition with it that loses without it. With
 --only-swings there are no numbers of minimal winning coalitions: a member has

@@ -9,7 +9,8 @@ use Rattle.std.proofs.lemmas.{Bool.cases_eq, List.FromFn.get_or-range_with_len, 
 use Rattle.council_game.specs.{Game.GameView, Game.IsGame}
 use Rattle.council_game.proofs.Shared.{Games.few-members}
 use Rattle.power_index.specs.Fractions.{lowest_terms}
-use Rattle.power_index.specs.{SwingIndices.banzhaf, SwingIndices.factorial, SwingIndices.penrose, SwingIndices.shapley_shubik, Swings.all_swings, Swings.swings}
+use Rattle.power_index.specs.{SwingIndices.banzhaf, SwingIndices.factorial, SwingIndices.penrose, SwingIndices.power_to_initiate, SwingIndices.power_to_prevent, SwingIndices.shapley_shubik, Swings.all_swings, Swings.swings}
+use Rattle.power_index.proofs.Shared.Winning.{winning-few}
 use Rattle.power_index.proofs.{SwingBounds.swings-of-losing, Orders.shapley-within}
 
 -- a pair of numbers below a bound
@@ -61,6 +62,16 @@ module _ (g : GameView) (game : IsGame g) (i : ℕ) (lt : i < length g.names) wh
   penrose-small =
       let less : length g.names - 1 ≤ 40 = omega (arith, few-members g game) in
       let most = pow_mono less in lowest-below (10 ^ 28) (penrose g i) (omega (arith, swings-few), omega (arith, most))
+
+  pub prevent-small : AreBelow (10 ^ 28) (lowest_terms (power_to_prevent g i))
+  unfolding power_to_prevent
+  prevent-small = lowest-below (10 ^ 28) (power_to_prevent g i) (omega (arith, swings-few), omega (arith, winning-few g game))
+
+  pub initiate-small : AreBelow (10 ^ 28) (lowest_terms (power_to_initiate g i))
+  unfolding power_to_initiate
+  initiate-small =
+      let most = pow_mono (few-members g game) in
+      lowest-below (10 ^ 28) (power_to_initiate g i) (omega (arith, swings-few), omega (arith, most))
 
   pub shapley-small : AreBelow (10 ^ 48) (lowest_terms (shapley_shubik g i))
   unfolding shapley_shubik

@@ -6,7 +6,7 @@ use Rattle.council_c.proofs.arrays.copy_rules.Given as goal
 
 abbrev pub invariant-loop-r : goal.invariant-loop-r
 invariant-loop-r l = record {
-  rules : rule_views l.rules.items ≡ map (rule_of l.quotas l.weights l.members) (range_with_len 0 l.r);
-  full : All (λ rule. length rule.weights.items ≡ l.members) l.rules.items;
+  rules : rule_views l.rules.items ≡ map (rule_of l.arrays.quotas.now l.arrays.weights.now l.arrays.members) (range_with_len 0 l.r);
+  full : All (λ rule. length rule.weights.items ≡ l.arrays.members) l.rules.items;
   count : length l.rules.items ≡ l.r;
 }
