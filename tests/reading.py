@@ -41,8 +41,8 @@ FURTHER = [
         ("mwc_pipe", "ring_out", "RingOut", "end"),
         ("mwc_pipe", "rest", "Rest", "next"),
     ]),
-    ("The program", 84, [("council", "main", None, "end_on")]),
-    ("The calls from C", 233, [("council_c", "call", None, None)]),
+    ("The program", 95, [("council", "main", None, "end_on")]),
+    ("The calls from C", 283, [("council_c", "call", None, None)]),
 ]
 # in reading order: the first pattern that fits a module
 PARTS = [

@@ -11,7 +11,7 @@ use Rattle.council_run.specs.declared.findings.Findings.TheVariants as findings
 use Rattle.council_run.specs.declared.found.Found.{Found}
 use Rattle.power_index.specs.Swings.{AreWinningCounts}
 use Rattle.power_index.specs.declared.swings.Swings.{Swings}
-use Rattle.council_c.specs.Calls.{MayFind, MayFindAll}
+use Rattle.council_c.specs.Inner.Calls.{MayFind, MayFindAll}
 
 module _ (limit : Option ℕ) (lines : ReportLines) (visits : ℕ) (g : GameView) where
   pub finds-minimal : (o : Option Found) → MayFind limit lines visits g (Ok o)

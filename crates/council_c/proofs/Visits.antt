@@ -8,7 +8,8 @@ use Rattle.council_game.specs.Votes.{IsVotes, Votes, minimal_coalitions}
 use Rattle.mwc_walk.specs.{Listed.ListsAll, Slices.slice, WalkView.WalkView, WalkView.given_count}
 use Rattle.power_index.specs.Tables.{Tables, AreTallies, table_total}
 use Rattle.power_index.proofs.Shared.{Minimal.minimal-are-coalitions, Minimal.minimal-some, Sound.total-is}
-use Rattle.council_c.specs.Bounded.{IsListed, IsTooLong}
+use Rattle.council_c.specs.Bounded.{IsTooLong}
+use Rattle.council_c.specs.Inner.Calls.{IsListed}
 use Rattle.council_c.specs.declared.bounded.Listed.{Listed}
 use Rattle.council_c.specs.declared.bounded.Listed.TheVariants as listed
 use Rattle.council_run.specs.Run.{count_of}

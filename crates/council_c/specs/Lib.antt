@@ -6,4 +6,4 @@ pub mod Numbers
 pub mod Indices
 pub mod Masks
 pub mod Explain
-pub mod Calls
+pub mod Inner

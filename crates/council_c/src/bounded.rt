@@ -2,7 +2,8 @@
 ghost use Rattle.std.specs.Prelude.{◌≡◌, ◌<◌, ◌≤◌, IfNone, IfOk, IfSome, [], length};
 ghost use Rattle.council_game.specs.declared.limits.TheConstants.{PLAIN_MEMBERS};
 ghost use Rattle.council_game.specs.Game.{votes_of};
-ghost use Rattle.council_c.specs.Bounded.{IsListed, IsTooLong};
+ghost use Rattle.council_c.specs.Bounded.{IsTooLong};
+ghost use Rattle.council_c.specs.Inner.Calls.{IsListed};
 ghost use Rattle.mwc_walk.specs.WalkView.{given};
 ghost use Rattle.power_index.specs.Tables.{AreCountsOfGame};
 

@@ -5,7 +5,7 @@ ghost use Rattle.council_game.specs.declared.report_lines.ReportLines.{ReportLin
 ghost use Rattle.council_run.specs.Found.{GatherFaultIs};
 ghost use Rattle.std.specs.Option.{option_map};
 ghost use Rattle.council_c.specs.Asked.{limit_in};
-ghost use Rattle.council_c.specs.Calls.{MayFind, MayFindAll};
+ghost use Rattle.council_c.specs.Inner.Calls.{MayFind, MayFindAll};
 ghost use Rattle.council_run.specs.declared.columns.Columns.TheVariants as columns;
 ghost use Rattle.council_run.specs.declared.findings.Findings.TheVariants as findings;
 ghost use Rattle.mwc_gather.specs.declared.fault.GatherFault.TheVariants as gather;

@@ -2,7 +2,7 @@
 ghost use Rattle.std.specs.Prelude.{◌≡◌, ◌<◌, ◌⊎◌, IfErr, IfOk, IfSome, false, length, map, true};
 ghost use Rattle.std.specs.Option.{is_some};
 ghost use Rattle.council_c.specs.Arrays.{member_of_fault};
-ghost use Rattle.council_c.specs.Calls.{IsReady, request_of};
+ghost use Rattle.council_c.specs.Inner.Calls.{IsReady, request_of};
 ghost use Rattle.council_c.specs.Indices.{AreNumbers, HasNoGame, IsRight, StopsArrays, StopsCounts, StopsNumbers, fits, with_fault};
 ghost use Rattle.council_c.specs.Numbers.{IsSummary, numbers};
 ghost use Rattle.council_c.specs.declared.fault.Fault.TheVariants as fault;

@@ -1,7 +1,7 @@
 //! The minimal winning coalitions of the game that arrays hold, as masks.
 ghost use Rattle.std.specs.Prelude.{◌≡◌, ◌≤◌, ◌^◌, ◌<◌, IfErr, IfOk, length, map};
 ghost use Rattle.council_c.specs.Asked.{visits_of};
-ghost use Rattle.council_c.specs.Calls.{AreMasksOf, request_of};
+ghost use Rattle.council_c.specs.Inner.Calls.{AreMasksOf, request_of};
 ghost use Rattle.council_c.specs.Indices.{StopsArrays};
 ghost use Rattle.council_c.specs.Masks.{StopsList, digit_of, mask_of};
 ghost use Rattle.council_c.specs.Numbers.{minimal_of};

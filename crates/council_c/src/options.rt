@@ -1,7 +1,7 @@
 //! The options of a call.
 ghost use Rattle.std.specs.Prelude.{◌≡◌, ◌≤◌, ◌==◌, IfErr, IfOk, if◌then◌else◌};
 ghost use Rattle.council_c.specs.Asked.{ask_both, ask_much, columns_of, has_size, have_other_answer, have_unknown, visits_of, ways_of, word};
-ghost use Rattle.council_c.specs.Calls.{IsCall, Refuses};
+ghost use Rattle.council_c.specs.Inner.Calls.{IsCall, Refuses};
 
 use crate::fault::Fault;
 use council_game::{Options, limits};

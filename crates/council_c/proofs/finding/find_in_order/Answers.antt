@@ -5,7 +5,7 @@ use Rattle.council_game.specs.declared.report_lines.ReportLines.{ReportLines}
 use Rattle.council_run.specs.declared.columns.Columns.{Columns}
 use Rattle.council_run.specs.declared.findings.Findings.{Findings}
 use Rattle.council_c.specs.Asked.{limit_in}
-use Rattle.council_c.specs.Calls.{MayFindAll}
+use Rattle.council_c.specs.Inner.Calls.{MayFindAll}
 use Rattle.council_c.proofs.Findings.{finds-both, finds-minimal, finds-nothing}
 use Rattle.council_c.proofs.finding.find_in_order.Goals as goal
 

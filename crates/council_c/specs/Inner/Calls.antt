@@ -1,5 +1,5 @@
 -- A call: what its words ask for, read; and what it finds.
-use Rattle.std.specs.Prelude.{◌≡◌, ℕ, true, false, List, Option, Some, None, Result, Ok, Err}
+use Rattle.std.specs.Prelude.{◌≡◌, ◌<◌, ℕ, true, false, List, Option, Some, None, Result, Ok, Err}
 use Rattle.council_game.specs.declared.report_lines.ReportLines.{ReportLines}
 use Rattle.council_game.specs.Options.{lines_of as lines_in}
 use Rattle.council_game.specs.Game.{GameView}
@@ -11,6 +11,10 @@ use Rattle.council_run.specs.declared.findings.Findings.{Findings}
 use Rattle.council_run.specs.declared.found.Found.{Found}
 use Rattle.council_c.specs.Asked.{are_wrong, asks, asks_swings, columns_of, has_size, lines_of, most_of, visits_of, ways_of}
 use Rattle.council_c.specs.Bounded.{IsTooLong}
+use Rattle.council_run.specs.Run.{count_of}
+use Rattle.mwc_walk.specs.Listed.{ListsAll}
+use Rattle.council_c.specs.declared.bounded.Listed.{Listed}
+use Rattle.council_c.specs.declared.bounded.Listed.TheVariants as listed
 use Rattle.council_c.specs.declared.fault.Fault.{Fault}
 use Rattle.council_c.specs.declared.fault.Fault.TheVariants as fault
 use Rattle.council_c.specs.Indices.{HoldArrays, IsRight, Request}
@@ -62,3 +66,9 @@ abbrev pub MayFindAll : Columns → Option ℕ → ReportLines → ℕ → GameV
 MayFindAll columns limit lines visits g (Ok (Some found)) = FindsAll columns limit lines g (Ok found)
 MayFindAll columns limit lines visits g (Ok None) = IsTooLong visits g
 MayFindAll columns limit lines visits g (Err fault) = FindsAll columns limit lines g (Err fault)
+
+-- what a walk lists: all coalitions, or why there is no list
+abbrev pub IsListed : GameView → ℕ → Type 0 → Listed → Type 0
+IsListed g most Long (listed.All list) = ListsAll g most list.items
+IsListed g most Long listed.TooMany = most < count_of g
+IsListed g most Long listed.TooLong = Long

@@ -1,0 +1,2 @@
+-- What only proofs, private functions and invariants need: no public contract mentions it.
+pub mod Calls
