@@ -244,7 +244,9 @@ find_names <- function(weights, members) {
     if (is.character(attr(weights, "row.names"))) row.names(weights)
   } else if (is.matrix(weights)) {
     rownames(weights)
-  } else if (!is.list(weights)) {
+  } else if (is.list(weights)) {
+    names(weights[[1]])
+  } else {
     names(weights)
   }
   if (is.null(own)) seq_len(members) else own
