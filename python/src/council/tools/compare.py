@@ -185,7 +185,8 @@ def main(args: list[str]) -> None:
         for at, it in enumerate(reports, 1):
             quotas = f"{write_weights(it.quotas, units[at - 1])} of {write_weights(it.totals, units[at - 1])}"
             ways = f" ({describe_ways(it.ways)})" if len(it.ways) > 1 else ""
-            numbers = [f"{what}: {number:,}" for what, number in it.count_coalitions()] + ["power to act: " + cut_off(it.power_to_act_exact)] * (it.winning is not None)
+            numbers = [f"{what}: {number:,}" for what, number in it.count_coalitions()]
+            numbers += [f"power to act: {cut_off(it.power_to_act_exact)}"] if it.winning else []
             print(f"{sign}{at}  {make_printable(it.heading())}: {quotas}{ways}, {', '.join(numbers)}")
         print(f"{sign}indices, and differences of exact ones: six decimals, cut off" + "\n" * (not sign))
     for line in {"text": write_table, "csv": write_csv, "latex": write_latex}[words.format](games, units, indices):

@@ -98,7 +98,7 @@ for (const table of document.querySelectorAll("table.members")) {
   });
 }
 """
-COLEMAN = "J. S. Coleman (1971): Control of Collectivities and the Power of a Collectivity to Act. In B. Lieberman (ed.), <i>Social Choice</i>. Gordon and Breach."
+COLEMAN = "J. S. Coleman (1971): Control of Collectivities and the Power of a Collectivity to Act. In B. Lieberman (ed.), <i>Social Choice</i>. New York: Gordon and Breach."
 # what each index is, and its sources
 ABOUT = {
     "deegan_packel": ("The <b>Deegan-Packel index</b> of a member is the share that it gets if each minimal winning coalition is as likely as another and "
