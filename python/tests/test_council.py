@@ -321,6 +321,8 @@ class Reports(unittest.TestCase):
         self.assertEqual([council.report([5, 3], dict(zip("ABCD", table))), council.report([5, 3], {"votes": [3, 2, 2, 1], "heads": [1] * 4}, by="rule", names="ABCD")], [two, two])
         self.assertEqual(council.report(5, {"A": 3, "B": 2, "C": 2, "D": 1}), council.report(5, [3, 2, 2, 1], names="ABCD"))
         self.assertEqual([council.report([5], its) for its in ([3, 2, 2, 1], [[3, 2, 2, 1]], [[3], [2], [2], [1]])], [council.report(5, [3, 2, 2, 1])] * 3)
+        series = type("Series", (list,), {"index": frame.index})
+        self.assertEqual([(it.name, it.weight, it.weights) for it in council.report(5, series([3, 2, 2, 1])).members], [(*it, it[1:]) for it in zip("ABCD", (3, 2, 2, 1))])
 
     def test_a_report_as_a_sequence(self):
         report = council.report(51, [50, 49, 1], names=["A", "<b>", "C"], title="T" * 99, swings=True)
@@ -358,8 +360,6 @@ class Reports(unittest.TestCase):
                 council.Game(*words)
             self.assertTrue(caught.exception.explanation)
         self.assertEqual(council.Game(BIG, LONG).quotas, tuple(BIG))
-        series = type("Series", (list,), {"index": frame.index})
-        self.assertEqual([(it.name, it.weight, it.weights) for it in council.report(5, series([3, 2, 2, 1])).members], [(*it, it[1:]) for it in zip("ABCD", (3, 2, 2, 1))])
 
     def test_headings_and_shares(self):
         report = council.report([5, 3], [[3, 2, 2, 1], [1, 1, 1, 1]], title=" ")

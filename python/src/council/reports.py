@@ -132,6 +132,9 @@ class Report:
             raise KeyError(which)
         return found
 
+    def __contains__(self, which: object) -> bool:
+        return any(which in (it, it.name) for it in self.members)
+
     def _key(self) -> tuple[Any, ...]:
         return self.title, self.quotas, self.sort_ways(), self.minimal, self.winning, self.members
 

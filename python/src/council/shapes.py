@@ -1,6 +1,7 @@
 """Reads a game from the values that people have: numbers, lists, dicts, arrays and DataFrames."""
 from __future__ import annotations
 
+import collections.abc
 import numbers
 import operator
 import os
@@ -106,11 +107,11 @@ def read_parts(quota: Any, weights: Any, names: Optional[Iterable[object]] = Non
         raise TypeError("give a quota and weights")
     if by not in (None, "rule", "member"):
         raise ValueError('by is "rule" or "member"')
-    if isinstance(weights, Mapping) and by != "rule":
+    if isinstance(weights, collections.abc.Mapping) and by != "rule":
         if names is not None:
             raise TypeError("the keys of the weights are the names: give no others")
         names, weights, by = list(weights), list(weights.values()), "member"
-    elif isinstance(weights, Mapping):
+    elif isinstance(weights, collections.abc.Mapping):
         weights = list(weights.values())
     elif hasattr(weights, "columns") and hasattr(weights, "to_numpy"):
         names, by, weights = find_names(weights.index, names), "member", weights.to_numpy(dtype=object)

@@ -24,7 +24,7 @@ council <- function(quota, weights, names = NULL, title = "", file = NULL, game 
     library <- if (is.null(program) && !only_swings) find_library()
     table <- if (!is.null(library) && is_plain(parts)) ask_library(library, parts, coalitions, swings)
     if (!is.null(table)) {
-      warn_of_slips(NULL, attr(table, "quota"), attr(table, "total"), attr(table, "ways"))
+      warn_of_slips(raw(0), attr(table, "quota"), attr(table, "total"), attr(table, "ways"))
       return(table)
     }
     format_game(parts)
@@ -52,7 +52,7 @@ council <- function(quota, weights, names = NULL, title = "", file = NULL, game 
 warn_of_slips <- function(bytes, quota, total, ways) {
   text <- rawToChar(bytes)
   has <- function(pattern) grepl(pattern, text, perl = TRUE, useBytes = TRUE)
-  if (length(bytes) && has("^\\s*\\[\\s*[0-9]") && (has(",\\s*0[0-9]{2}\\b") || (has(",[0-9]{3}\\b") && has(",\\s")))) {
+  if (has("^\\s*\\[\\s*[0-9]") && (has(",\\s*0[0-9]{2}\\b") || (has(",[0-9]{3}\\b") && has(",\\s")))) {
     warning("a comma ends a weight, also between thousands: 1,000 is read as 1 and 0", call. = FALSE)
   }
   is_low <- 2 * quota <= total
