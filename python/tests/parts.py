@@ -72,9 +72,10 @@ class Engines(unittest.TestCase):
         made, rooms = make_library(0, b"")[0], []
 
         def call(*words):
-            summary, options = words[-1]._obj, words[4]._obj
+            summary, options = words[-1], words[4]._obj
             rooms.append(([it.value for it in words[:-1] if isinstance(it, library.Size)], options.swings, list(options.ways)))
-            summary.rule, summary.coalitions = rule, 1
+            self.assertEqual(summary[:2], [544, 288])
+            summary[library.RULE], summary[library.COALITIONS] = rule, 1
             return status
 
         def explain(status, summary, text, room, length):
@@ -88,7 +89,7 @@ class Engines(unittest.TestCase):
             self.assertEqual(list(made.list_masks([2], [[1] * 4], [[1, 2], [4]], most)), [0])
             self.assertEqual(rooms.pop(), ([1, 4, 16, 4, room], 0, [3, 8, 0, 0, 0, 0]))
         summary, numbers = made.count([2, 3], [[1] * 4, [2] * 4], None, swings=1)
-        self.assertEqual((summary.coalitions, len(numbers), rooms.pop()), (1, 4, ([2, 8, 16, 4], 1, [0] * 6)))
+        self.assertEqual((summary[library.COALITIONS], numbers, rooms.pop()), (1, [[0] * 36] * 4, ([2, 8, 16, 4], 1, [0] * 6)))
         for status, rule, wanted in (3, 2, 2), (4, 0, None), (5, 0, None):
             for ask in lambda: made.count([2], [[1]], None), lambda: made.list_masks([2], [[1]], None, 1):
                 with self.assertRaises(library.NoAnswer) as caught:
@@ -221,7 +222,7 @@ class Engines(unittest.TestCase):
                 with mock.patch.object(finding, "Library", lambda path: path), mock.patch.object(finding, "load_library", finding.load_library.__wrapped__):
                     self.assertEqual(find_library(), wanted and f"{top}/{wanted}")
         # as council.h has it
-        self.assertEqual([ctypes.sizeof(it) for it in (library.Options, library.Ratio, library.Numbers, library.Summary)], [128, 32, 288, 544])
+        self.assertEqual(ctypes.sizeof(library.Options), 128)
         if Path(finding.__file__).resolve().parent == TOP / "python/src/council" and (TOP / "tools/built.sh").is_file():
             self.assertEqual((finding.HOME, finding.CLONE), (str(TOP / "python/src/council"), str(TOP)))
         with tempfile.TemporaryDirectory() as folder, mock.patch.object(finding, "__file__", f"{folder}/a.pyz/council/finding.py"):

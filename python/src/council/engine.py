@@ -10,9 +10,9 @@ import subprocess
 from contextlib import suppress
 from typing import Optional, Sequence
 
-from .columns import GROUPS
+from .columns import GROUPS, MINIMAL
 from .finding import NotFound, find_library, find_program
-from .library import GAME, STATES, TOO_LONG, TOO_MANY, Library, NoAnswer
+from .library import ACT, COALITIONS, GAME, STATES, TOO_LONG, TOO_MANY, WINNING, Library, NoAnswer, read_fractions
 from .members import Coalitions, make_member, name_columns
 from .reports import MOST, Report
 from .ways import Ways
@@ -122,16 +122,16 @@ def compute_numbers(library: Library, title: str, names: Sequence[str], quotas: 
         number = None
         if it.status == TOO_MANY:
             with suppress(NoAnswer):
-                number = library.count(quotas, columns, ways, visits=VISITS)[0].coalitions
+                number = library.count(quotas, columns, ways, visits=VISITS)[0][COALITIONS]
         raise refuse(it.status, it.fault, "", b"", most, number, it.rule) from None
-    groups = GROUPS if swings else GROUPS[:1]
-    called = name_columns(groups, len(quotas))
-    members = [
-        make_member(called, name, weights, [(getattr(it, group.column), [getattr(it, index.name).exact() for index in group.indices]) for group in groups])
-        for name, weights, it in zip(names, zip(*columns), numbers)
-    ]
-    counts = dict(zip(groups, (summary.coalitions, summary.winning)))
-    made = Report(title, quotas, counts, members, ways=ways if ways and len(ways) > 1 else (), act=summary.act.exact() if swings else None)
+    groups, few = (GROUPS if swings else [MINIMAL]), len(MINIMAL.indices)
+    called, members = name_columns(groups, len(quotas)), []
+    for name, weights, its in zip(names, zip(*columns), numbers):
+        exact = read_fractions(its[2 : 2 + 4 * sum(len(it.indices) for it in groups)])
+        members.append(make_member(called, name, weights, zip(its, (exact[:few], exact[few:])[: len(groups)])))
+    counts = dict(zip(groups, (summary[COALITIONS], summary[WINNING])))
+    act = read_fractions(summary[ACT : ACT + 4])[0] if swings else None
+    made = Report(title, quotas, counts, members, ways=ways if ways and len(ways) > 1 else (), act=act)
     made.coalitions = None if masks is None else Coalitions(members, masks)
     return made
 

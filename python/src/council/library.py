@@ -15,12 +15,15 @@ from ctypes import byref, sizeof
 from fractions import Fraction
 from typing import Any, Optional, Sequence
 
-from .columns import INDICES
 from .ways import WAYS, Ways
 
 U32, U64, Size = ctypes.c_uint32, ctypes.c_uint64, ctypes.c_size_t
 # room for a report without a list, in bytes
 ROOM = 1 << 16
+# the words of `struct council_member`, whose fractions begin at the third, and of `struct
+# council_summary`: some of them, and where Coleman's power to act begins
+MEMBER, SUMMARY = 36, 68
+RULE, COALITIONS, WINNING, ACT = 4, 5, 6, 52
 # statuses of council.h
 GAME, TOO_MANY, MEMORY, STATES, TOO_LONG = 3, 4, 5, 6, 7
 LONG = 0.05
@@ -32,29 +35,9 @@ class Options(ctypes.Structure):
     _fields_ = [*[(it, U64) for it in ("size", "most", "visits", "states", "tally", "list", "sizes", "notation", "swings", "only_swings")], ("ways", U64 * WAYS)]
 
 
-class Ratio(ctypes.Structure):
-    """`struct council_fraction`."""
-
-    _fields_ = [(it, U64) for it in ("top_high", "top_low", "bottom_high", "bottom_low")]
-
-    def exact(self) -> Fraction:
-        """Returns its value."""
-        return Fraction(self.top_high << 64 | self.top_low, self.bottom_high << 64 | self.bottom_low)
-
-
-class Numbers(ctypes.Structure):
-    """`struct council_member`."""
-
-    _fields_ = [("coalitions", U64), ("swings", U64), *[(it.name, Ratio) for it in INDICES], ("reserved", U64 * 6)]
-
-
-class Summary(ctypes.Structure):
-    """`struct council_summary`."""
-
-    _fields_ = [
-        *[(it, U64) for it in ("size", "member_size", "fault", "member", "rule", "coalitions", "winning")],
-        ("of_size", U64 * 41), ("totals", U64 * 4), ("act", Ratio), ("reserved", U64 * 12),
-    ]
+def read_fractions(words: Sequence[int]) -> list[Fraction]:
+    """Reads fractions, each of two numbers of 128 bits."""
+    return [Fraction(words[at] << 64 | words[at + 1], words[at + 2] << 64 | words[at + 3]) for at in range(0, len(words), 4)]
 
 
 class NoAnswer(Exception):
@@ -112,10 +95,12 @@ class Library:
             status = self._run(self._calls.council_report_raw, game, Size(len(game)), byref(words), Size(sizeof(words) // 8), text, Size(room), byref(length))
         return status, ctypes.string_at(text, length.value).decode("utf-8")
 
-    def count(self, quotas: Sequence[int], columns: Sequence[Sequence[int]], ways: Optional[Ways], **options: int) -> tuple[Summary, Sequence[Numbers]]:
-        """Returns the numbers of a game, and those of each member."""
-        numbers = (Numbers * len(columns[0]))()
-        return self._ask(self._calls.council_indices_raw, quotas, columns, ways, options, numbers, Size(len(numbers))), list(numbers)
+    def count(self, quotas: Sequence[int], columns: Sequence[Sequence[int]], ways: Optional[Ways], **options: int) -> tuple[Sequence[int], list[list[int]]]:
+        """Returns the words of a game, and those of each member."""
+        members = len(columns[0])
+        words = (U64 * (MEMBER * members))()
+        summary = self._ask(self._calls.council_indices_raw, quotas, columns, ways, options, words, Size(members))
+        return summary, [words[MEMBER * at : MEMBER * (at + 1)] for at in range(members)]
 
     def list_masks(self, quotas: Sequence[int], columns: Sequence[Sequence[int]], ways: Optional[Ways], most: int, **options: int) -> Sequence[int]:
         """Returns the coalitions of a game, which has at most `most`."""
@@ -123,21 +108,21 @@ class Library:
         # (none is a part of another, so there are at most as many as sets of half of the members)
         masks = (U64 * min(most, math.comb(members, members // 2)))()
         summary = self._ask(self._calls.council_list_raw, quotas, columns, ways, options, Size(members), masks, Size(len(masks)))
-        return array("Q", bytes(memoryview(masks)[: summary.coalitions]))
+        return array("Q", bytes(memoryview(masks)[: summary[COALITIONS]]))
 
-    def _ask(self, call: Any, quotas: Sequence[int], columns: Sequence[Sequence[int]], ways: Optional[Ways], options: dict[str, int], *words: Any) -> Summary:
+    def _ask(self, call: Any, quotas: Sequence[int], columns: Sequence[Sequence[int]], ways: Optional[Ways], options: dict[str, int], *words: Any) -> Sequence[int]:
         """Calls with a game as arrays, `columns` being the weights of each rule."""
         weights = [it for its in columns for it in its]
         arrays = [word for its in (quotas, weights) for word in ((U64 * len(its))(*its), Size(len(its)))]
         asked = Options(size=sizeof(Options), **options)
         asked.ways[:] = [sum(1 << rule - 1 for rule in it) for it in ways or ()] + [0] * (WAYS - len(ways or ()))
-        summary = Summary(size=sizeof(Summary), member_size=sizeof(Numbers))
-        status = self._run(call, *arrays, byref(asked), Size(sizeof(asked) // 8), *words, byref(summary))
+        summary = (U64 * SUMMARY)(8 * SUMMARY, 8 * MEMBER)
+        status = self._run(call, *arrays, byref(asked), Size(sizeof(asked) // 8), *words, summary)
         if status:
             text, length = ctypes.create_string_buffer(ROOM), U64()
-            self._calls.council_explain(status, byref(summary), text, Size(ROOM), byref(length))
-            raise NoAnswer(status, ctypes.string_at(text, length.value).decode("utf-8"), summary.rule or None)
-        return summary
+            self._calls.council_explain(status, summary, text, Size(ROOM), byref(length))
+            raise NoAnswer(status, ctypes.string_at(text, length.value).decode("utf-8"), summary[RULE] or None)
+        return summary[:]
 
     def _run(self, call: Any, *words: Any) -> int:
         """Calls in this thread, and if that takes long, in one of its own. No other thread than the

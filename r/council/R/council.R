@@ -166,7 +166,7 @@ ask_library <- function(library, parts, coalitions, swings) {
     values <- c(values, stats::setNames(c(list(made[[3]][, at]), lapply(texts, divide), texts), c(asked[[at]], paste0(its, "_exact"))))
   }
   several <- if (length(parts$ways) > 1) lapply(parts$ways, as.integer) else list(seq_along(parts$quota))
-  table <- make_table(parts$names, asplit(parts$columns, 2), values, parts$title, parts$quota, colSums(parts$columns), several)
+  table <- make_table(parts$names, lapply(seq_along(parts$quota), function(rule) parts$columns[, rule]), values, parts$title, parts$quota, colSums(parts$columns), several)
   for (at in seq_along(asked)) attr(table, names(asked)[at]) <- made[[2]][at]
   if (swings) table <- set_act(table, made[[4]][length(made[[4]])])
   if (coalitions) attr(table, "coalitions") <- made[[5]]
