@@ -75,8 +75,9 @@ class Alarm:
 
 
 ALARM = Alarm()
-# (a forked child has the lock, but not the thread)
-os.register_at_fork(after_in_child=ALARM.__init__)  # type: ignore[misc]
+if hasattr(os, "register_at_fork"):
+    # (a forked child has the lock, but not the thread)
+    os.register_at_fork(after_in_child=ALARM.__init__)  # type: ignore[misc]
 
 
 class Library:

@@ -41,28 +41,21 @@ class Parts(NamedTuple):
     def is_plain(self) -> bool:
         """Returns whether all numbers are whole, and a game may have these names, title and ways."""
         texts = [self.quotas, *self.columns]
-        is_whole = all(it.isdigit() and len(it) < 20 for its in texts for it in its) and all(texts)
-        return is_whole and not self.find_name_fault() and (self.ways is None or not find_fault(self.ways, len(self.quotas)))
+        is_whole = all(texts) and all(it.isdigit() and len(it) < 20 for its in texts for it in its)
+        has_texts = is_text(self.title, TITLE) and all(it and is_text(it, NAME) for it in self.names) and len({*self.names}) == len(self.names)
+        return is_whole and has_texts and (self.ways is None or not find_fault(self.ways, len(self.quotas)))
 
     def to_toml(self) -> str:
         """Returns the text of the game file."""
         return format_game(self.names, self.quotas, zip(*self.columns), self.title, ways=self.ways)
 
-    def find_name_fault(self) -> str:
-        """Says what is wrong with the title or a name, or nothing."""
-        if not is_text(self.title, TITLE):
-            return f"the title {shorten(self.title)} has more than {TITLE} bytes in UTF-8, or a control character"
-        for number, it in enumerate(self.names, 1):
-            if not it or not is_text(it, NAME):
-                return f"the name of member {number}, {shorten(it)}, is empty, has more than {NAME} bytes in UTF-8, or a control character"
-            if it in self.names[: number - 1]:
-                return f"members {self.names.index(it) + 1} and {number} are both named {shorten(it)}"
-        return ""
-
     def find_fault(self) -> tuple[str, Optional[int]]:
-        """Says why council refuses the game, and of which rule the fault is, from 1."""
+        """Says why council refuses the game, in the order of its faults, and of which rule the fault is,
+        from 1."""
         rules, members = len(self.quotas), len(self.names)
         of = [f" under rule {it}" if rules > 1 else "" for it in range(1, rules + 1)]
+        if not is_text(self.title, TITLE):
+            return f"the title {shorten(self.title)} has more than {TITLE} bytes in UTF-8, or a control character", None
         if not 1 <= rules <= RULES:
             return f"there are {rules} quotas, and a game has 1 to {RULES}", None
         for rule, quota in enumerate(self.quotas):
@@ -72,8 +65,12 @@ class Parts(NamedTuple):
             return told, None
         if not 1 <= members <= MEMBERS:
             return f"there are {members} members, and a game has 1 to {MEMBERS}: of a parliament, take the parties", None
-        if told := self.find_name_fault():
-            return told, None
+        for number, it in enumerate(self.names, 1):
+            if not it or not is_text(it, NAME):
+                return f"the name of member {number}, {shorten(it)}, is empty, has more than {NAME} bytes in UTF-8, or a control character", None
+        for number, it in enumerate(self.names, 1):
+            if self.names.index(it) + 1 < number:
+                return f"members {self.names.index(it) + 1} and {number} are both named {shorten(it)}", None
         for at, name in enumerate(self.names):
             for rule, its in enumerate(self.columns):
                 if not is_whole(its[at]):

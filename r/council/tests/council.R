@@ -48,7 +48,7 @@ stopifnot(
   inherits(six, c("council", "data.frame"), which = TRUE) == 1:2, identical(shown[1], "quota 12 of 17; 4 minimal winning coalitions, 14 winning coalitions"), any(grepl("0.238095", shown)), !any(grepl("5/21|_exact", shown)),
   any(grepl("5/21", capture.output(print(six, exact = TRUE)))), identical(format(six, digits = 2)$penrose[1], "0.31"), startsWith(capture.output(print(council(2, c(1, 1), title = "T")))[1], "T: quota 2 of 2"),
   identical(capture.output(print(six[1:2, 1:2])), c(" name weight", "    1      4", "    2      4")),
-  identical(class(as.data.frame(six)), "data.frame"), identical(names(attributes(as.data.frame(six))), c("names", "row.names", "class")), identical(as.data.frame(six)$banzhaf_exact, six$banzhaf_exact),
+  identical(class(as.data.frame(six)), "data.frame"), setequal(names(attributes(as.data.frame(six))), c("names", "row.names", "class")), identical(as.data.frame(six)$banzhaf_exact, six$banzhaf_exact),
   identical(class(wide), "data.frame"), identical(wide$name, c("A", "B", "C", "D")), identical(wide$deegan_packel_exact.x, c("1/2", "1/4", "1/4", NA)), identical(wide$public_good_exact.y, c(NA, "1/2", "1/2", "0/1"))
 )
 
