@@ -22,8 +22,9 @@ for more in {}, {"swings": True}, {"coalitions": True}:
     print(f"Python {more}: {best:,.0f} calls a second")
 END
 command -v Rscript >/dev/null || exit 0
-cp -rL r/council "$temp/council"
-R CMD INSTALL --library="$temp" "$temp/council" >/dev/null 2>&1
+mkdir "$temp/sources"
+cp -rL r/council "$temp/sources/"
+R CMD INSTALL --library="$temp" "$temp/sources/council" >/dev/null 2>&1
 Rscript --vanilla - "$temp" <<'END'
 library(council, lib.loc = commandArgs(TRUE))
 for (swings in c(FALSE, TRUE)) {

@@ -109,7 +109,7 @@ def refuse(status: int, fault: str, told: str, game: bytes = b"", most: int = MO
         there = f"there are {number}, and " if number else ""
         told = f"{there}coalitions=True lists at most {most}: without it they are counted, any number of them"
     elif status == STATES:
-        told = "its swings take too many states: without swings=True its minimal winning coalitions are counted"
+        told = "there is no room for the states that the swings take: its minimal winning coalitions can be counted without them"
     return (TooMany if status in (TOO_MANY, STATES) else Refused)(status, fault, told, game.decode("utf-8", "replace"), rule)
 
 
