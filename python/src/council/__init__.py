@@ -162,7 +162,7 @@ def choose_columns(coalitions: bool, most: int, swings: bool, only_swings: bool)
 def warn(made: Report, text: str) -> None:
     """Warns the caller of a call of what is hardly meant."""
     low = describe_low_quotas(made.quotas, made.totals, made.ways)
-    for it in find_slips(text) + [it for it in low if it.endswith("could win")]:
+    for it in (find_slips(text) if text else []) + [it for it in low if it.endswith("could win")]:
         warnings.warn(it, stacklevel=3)
 
 

@@ -125,9 +125,9 @@ def compute_numbers(library: Library, title: str, names: Sequence[str], quotas: 
                 number = library.count(quotas, columns, ways, visits=VISITS)[0][COALITIONS]
         raise refuse(it.status, it.fault, "", b"", most, number, it.rule) from None
     groups, few = (GROUPS if swings else [MINIMAL]), len(MINIMAL.indices)
-    called, members = name_columns(groups, len(quotas)), []
+    called, members, end = name_columns(groups, len(quotas)), [], 2 + 4 * sum(len(it.indices) for it in groups)
     for name, weights, its in zip(names, zip(*columns), numbers):
-        exact = read_fractions(its[2 : 2 + 4 * sum(len(it.indices) for it in groups)])
+        exact = read_fractions(its[2:end])
         members.append(make_member(called, name, weights, zip(its, (exact[:few], exact[few:])[: len(groups)])))
     counts = dict(zip(groups, (summary[COALITIONS], summary[WINNING])))
     act = read_fractions(summary[ACT : ACT + 4])[0] if swings else None
