@@ -140,6 +140,7 @@ fn has_few_swings(rt: &impl AllocGlobal, game: &Game) -> bool {
     match game.by_contribution(rt.alloc()) {
         Ok(ordered) => {
             let game = choose_game(game, &ordered);
+            // memory: a remark is left out
             find_swings(rt.alloc(), game, FEW_STATES, &NoGate).is_ok()
         }
         Err(_) => false, // memory: a remark is left out

@@ -95,7 +95,7 @@ pub(crate) fn has_more(counted: &Option<Box<Counts>>, most: u32) -> bool
     }
 }
 
-/// Walks on until there were `visits` visits; returns whether the walk ends soon.
+/// Returns whether a walk ends soon, as seen after it was taken to `visits` visits.
 ///
 /// That is if it has ended, or finds more than `most` coalitions within some 2^26 visits if it goes
 /// on as it began. It takes 2^12 visits to tell.
@@ -148,7 +148,7 @@ pub(crate) fn count_first(
     Ok(None)
 }
 
-/// Counts the coalitions of a game by states, if a walk over it may take longer than that.
+/// Counts the coalitions of a game by states if a walk may take longer than that.
 ///
 /// The walk goes by rank place, so hand it the game that `choose_game` returns. There are at most
 /// `room` states.
