@@ -3,25 +3,29 @@
 
     tests/cases.py PROGRAM [SUBJECT | SUBJECT/NAME]..
 
-A folder of tests/cases has the cases of one subject. A case is a few files of one name, of which
-you can leave out all that have a default:
+A file of tests/cases has the cases of one subject, in order of their names. A case is this; you can
+leave out what has a default:
 
-    NAME.toml, NAME.txt    a game; the command finds it as the file `game`
-    NAME.cmd               a command for bash, by default `council game`
-    NAME.out, NAME.err     what it writes to standard output and standard error, by default nothing
-    NAME.status            its exit status, by default 0
+    === NAME
+    $ council game         a command for bash, the default; each further line of it begins with `$ `
+    status 0               its exit status
+    --- game               a game; the command finds it as the file `game`
+    --- out                what the command writes to standard output, by default nothing
+    --- err                and to standard error
 
-`default.cmd`, `default.toml` and so on change a default for all cases of a folder. The command
-runs in an empty folder; `council` is the program, and $TOP the repository. If the command has
-`council --explain`, it also runs without that option, and must then only lack the indented lines of
-standard error.
+After `--- game, escaped` and so on `\\xff` is a byte, `\\\\` a backslash, and a backslash at the end of a
+line takes the line end away. A first case `default` changes a default for all cases of its file.
+The command runs in an empty folder; `council` is the program, and $TOP the repository. If the
+command has `council --explain`, it also runs without that option, and must then only lack the
+indented lines of standard error.
 
-To add a case, add its files. Take what you expect from a definition, a publication or
+To add a case, add it at its place. Take what you expect from a definition, a publication or
 tests/oracle.py, never from the program. Each case prints `ok SUBJECT/NAME`, or
 `FAILED SUBJECT/NAME: why` and a diff from what was expected to what was found.
 """
 import difflib
 import os
+import re
 import subprocess
 import sys
 import tempfile
@@ -50,17 +54,34 @@ def is_plain(line):
     return not line.startswith(b"  ")
 
 
-class Case:
-    def __init__(self, folder, name):
-        self.folder, self.name = folder, name
-        self.game = self.read(".toml", ".txt", default=None)
-        self.command = self.read(".cmd", default=b"council game").decode().strip()
-        self.wanted = int(self.read(".status", default=b"0")), self.read(".out"), self.read(".err")
+def unescape(text):
+    """Returns the bytes of an escaped text."""
+    ends = re.sub(rb"(?<!\\)((?:\\\\)*)\\\n", rb"\1", text)
+    return re.sub(rb"\\(?:x(..)|\\)", lambda it: bytes.fromhex(it[1].decode()) if it[1] else b"\\", ends)
 
-    def read(self, *kinds, default=b""):
-        """Returns what the case, or else its folder, has of one of these kinds."""
-        paths = [self.folder / f"{name}{kind}" for name in (self.name, "default") for kind in kinds]
-        return next((it.read_bytes() for it in paths if it.exists()), default)
+
+def parts(text):
+    """Returns what a case says: its name, and its parts by their names."""
+    head, *sections = re.split(rb"(?m)^--- ", text)
+    name, *lines = head.decode().splitlines()
+    said = {}
+    if commands := [line[2:] for line in lines if line.startswith("$")]:
+        said["command"] = "\n".join(commands)
+    if status := [line.split()[1] for line in lines if line.startswith("status ")]:
+        said["status"] = int(status[0])
+    for section in sections:
+        kind, _, content = section.partition(b"\n")
+        kind, _, escaped = kind.decode().partition(", ")
+        said[kind] = unescape(content) if escaped else content
+    return name, said
+
+
+class Case:
+    def __init__(self, subject, name, said):
+        self.label = f"{subject}/{name}"
+        self.game = said.get("game")
+        self.command = said.get("command", "council game")
+        self.wanted = said.get("status", 0), said.get("out", b""), said.get("err", b"")
 
     def run(self, command, wanted, environment):
         """Runs the command; returns how its status and outputs differ from those expected."""
@@ -79,19 +100,20 @@ class Case:
             status, out, err = self.wanted
             plain = status, out, b"".join(filter(is_plain, err.splitlines(keepends=True)))
             found += self.run(self.command.replace(OPTION, "council"), plain, environment)
-        label = f"{self.folder.name}/{self.name}"
         if not found:
-            return [f"ok {label}"]
+            return [f"ok {self.label}"]
         why = found.pop(0) if found[0].startswith("status") else "another output"
-        return [f"FAILED {label}: {why}, by: {self.command}", *(f"    {it}" for it in found)]
+        return [f"FAILED {self.label}: {why}, by: {self.command}", *(f"    {it}" for it in found)]
 
 
 def cases(chosen):
     """Yields the cases of the subjects and names that were chosen, or all."""
-    for folder in sorted(it for it in CASES.iterdir() if it.is_dir()):
-        for name in sorted({it.name.partition(".")[0] for it in folder.iterdir()} - {"default"}):
-            if not chosen or folder.name in chosen or f"{folder.name}/{name}" in chosen:
-                yield Case(folder, name)
+    for file in sorted(CASES.glob("*.txt")):
+        found = dict(map(parts, re.split(rb"(?m)^=== ", file.read_bytes())[1:]))
+        default = found.pop("default", {})
+        for name, said in found.items():
+            if not chosen or file.stem in chosen or f"{file.stem}/{name}" in chosen:
+                yield Case(file.stem, name, {**default, **said})
 
 
 def main(program, *chosen):

@@ -272,6 +272,7 @@ lists 100 3
 lengths
 threads
 visits
+kinds
 stop
 options
 words

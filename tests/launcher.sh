@@ -51,7 +51,7 @@ lib)
     mkdir -p out/rlib && touch out/rlib/stamp
     [ "\$(basename "\$PWD")" != "\$(cat "$temp/fails")" ] ;;
 run)
-    printf '#!/bin/sh\necho built\n' >out/council
+    printf '#!/bin/sh\necho built "\$@"\n' >out/council
     chmod +x out/council ;;
 esac
 END
@@ -100,6 +100,32 @@ said "and how long it takes, on so many processors" '3 proofs, [0-9]* at once: s
 said "and how a table is had sooner" 'tools/preview FILE'
 use
 asked_for "a second use asks nothing" ""
+
+# ---- a first use that shows a table before it is proved
+echo game >"$temp/game.toml"
+for report in built other; do
+    name="a preview that prints $report"
+    rm -rf "$copy"/crates/*/out
+    touch "$temp/holds"
+    printf '#!/bin/sh\necho %s "$1"\n' "$report" >"$copy/tools/preview"
+    chmod +x "$copy/tools/preview"
+    PATH=$kit:$PATH timeout "$seconds" "$copy/council" --preview "$temp/game.toml" >"$temp/out" 2>"$temp/err" </dev/null &
+    for _ in $(seq 100); do
+        ! grep -q '^council: not proved yet; the proof goes on, some [0-9]* minutes:$' "$temp/err" || break
+        sleep 0.1
+    done
+    rm "$temp/holds"
+    wait "$!"
+    status=$?
+    wanted=$([ "$report" = built ] && echo 0 || echo 1)
+    if [ "$status" -ne "$wanted" ] || [ "$(cat "$temp/out")" != "built $temp/game.toml" ] || ! grep -q "^$report $temp" "$temp/err"; then
+        failed "$name" "status $status: $(tr '\n' '/' <"$temp/err")"
+    elif [ "$(grep -c 'prints something else' "$temp/err")" -ne "$wanted" ]; then
+        failed "$name" "$(tr '\n' '/' <"$temp/err")"
+    else
+        ok "$name"
+    fi
+done
 
 # ---- a first use whose standard error is closed or takes nothing
 for error in '&-' /dev/full; do

@@ -134,7 +134,7 @@ END
     run --workers 1 --list "$temp/twenty.txt"
     {
         cat "$temp/out"
-        tail -n 1 "$top/tests/cases/terminal/columns.err" | tr -d '\r'
+        sed -n '/^=== columns$/,/^=== /s/^\(council: a member.*\)\\x0d$/\1/p' "$top/tests/cases/terminal.txt"
         echo "council: the quota is at most half of the total, so two coalitions without a common member could win"
     } | sed 's/$/\r/' >"$temp/report"
     if timeout "$seconds" python3 - "$program" "$temp/twenty.txt" "$temp/report" "$clock" >"$temp/told" 2>&1 <<'END'

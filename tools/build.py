@@ -2,6 +2,7 @@
 """Proves what the program stands on, side by side, and builds the program.
 
     tools/build.py [--keep]
+    tools/build.py --preview WORD..   shows early what the program will print for these words
     tools/build.py --library          the library for other languages in place of the program
     tools/build.py --take             for .ci/run: takes what `rt ci` has just proved
 
@@ -24,6 +25,9 @@ a lane more: it fills the time in which the last library is proved. The log goes
 a line for each library to standard error. How long each took stands in crates/council/out/seconds; the order of the
 next build rests on it, and where it has nothing on the lines of code.
 
+With --preview the sources are run beside the proofs, without a proof, by tools/preview. What they print goes to
+standard error, and is compared with what the proved program prints: the status is 3 if that is something else.
+
 A second start beside the first waits, and has nothing to do where that has built the program. What was built of
 what is kept by tools/built.sh.
 """
@@ -40,6 +44,7 @@ import signal
 import subprocess
 import sys
 import tempfile
+import threading
 import time
 from concurrent.futures import FIRST_COMPLETED, ThreadPoolExecutor, wait
 
@@ -474,6 +479,34 @@ class Told:
         say(f"{text}; some {self.minutes()} min left")
 
 
+class Preview:
+    """What the sources print for some words, run without a proof beside the proofs."""
+
+    def __init__(self, words, told):
+        self.words, self.told, self.report = words, told, None
+        how = {"stdin": subprocess.DEVNULL, "stdout": subprocess.PIPE, "stderr": subprocess.DEVNULL, "start_new_session": True}
+        self.run = subprocess.Popen([f"{TOP}/tools/preview", *words], **how)
+        threading.Thread(target=self.show, daemon=True).start()
+
+    def show(self):
+        report = self.run.communicate()[0]
+        if self.run.returncode == 0 and self.told:
+            self.report = report
+            say(f"not proved yet; the proof goes on, some {self.told.minutes()} minutes:")
+            os.write(2, report)
+
+    def end(self):
+        self.told = None
+        if self.run.poll() is None:
+            os.killpg(self.run.pid, signal.SIGTERM)
+
+    def is_proved(self):
+        """Whether the program prints the same; also if nothing was shown."""
+        if self.report is None:
+            return True
+        return self.report == subprocess.run([f"{OUT}/{PROGRAM}", *self.words], stdin=subprocess.DEVNULL, stdout=subprocess.PIPE, check=False).stdout
+
+
 def prove_all(names, lines, prove, told):
     """Proves the libraries, each after those below it; whether all were. The one with the longest chain above it
     begins at once, and the others give way to it. The processors that are free are shared among those that can begin: a further
@@ -552,13 +585,27 @@ def wait_for_others():
         return False
 
 
-def build(names, goal, lines, keeps, held, sources):
+def build(names, goal, lines, keeps, held, sources, early):
     """Proves the libraries, and builds the program or the library for other languages; the status. These crates are held
-    until then."""
+    until then. The words `early` are previewed, if there are any."""
     proved = [it for it in names if (stamp := stamp_of(it)) and text_of(f"{TOP}/crates/{it}/out/rlib/stamp") == stamp]
     told = Told(names, goal, lines, {**costs([*names, goal], lines), **dict.fromkeys(proved, 0)})
-    if not prove_all(names, lines, prove_and_keep if keeps else prove_once, told):
-        return 1
+    preview = Preview(early, told) if early else None
+    try:
+        if not prove_all(names, lines, prove_and_keep if keeps else prove_once, told):
+            return 1
+        status = build_goal(names, goal, lines, keeps, held, told)
+    finally:
+        if preview:
+            preview.end()
+    if status == 0 and preview and not preview.is_proved():
+        say("the proved program prints something else than its sources did without a proof: please report this")
+        status = 3
+    return status or (with_memory(sources) if goal == LIBRARY else 0)
+
+
+def build_goal(names, goal, lines, keeps, held, told):
+    """Builds the program or the library for other languages over what was proved; the status."""
     told.begin(goal)
     if goal == LIBRARY:
         for name in names if keeps else []:
@@ -574,7 +621,7 @@ def build(names, goal, lines, keeps, held, sources):
         told.took[goal] = time.time() - told.begun[goal]
         keep_measured(told.took)
     log_of(goal)
-    return status or (with_memory(sources) if goal == LIBRARY else 0)
+    return status
 
 
 def main():
@@ -582,7 +629,9 @@ def main():
         # (one that `nohup` has set aside stays so)
         if it != signal.SIGHUP or signal.getsignal(it) != signal.SIG_IGN:
             signal.signal(it, stop)
-    lines, words = lines_of_crates(), sys.argv[1:]
+    lines, words, early = lines_of_crates(), sys.argv[1:], []
+    if words[:1] == ["--preview"]:
+        words, early = [], words[1:]
     if not set(words) <= {"--keep", "--library", "--take"}:
         print(__doc__.split("\n\n")[1], file=sys.stdout if words == ["--help"] else sys.stderr)
         return 0 if words == ["--help"] else 2
@@ -612,8 +661,8 @@ def main():
     sources = built("sources")
     keeps = "--keep" in words or not kit() or any(os.path.isdir(f"{TOP}/crates/{it}/out/incremental") for it in names)
     try:
-        status = build(names, goal, lines, keeps, held, sources)
-        if status == 0 and goal == PROGRAM:
+        status = build(names, goal, lines, keeps, held, sources, early)
+        if status in (0, 3) and goal == PROGRAM:
             built("keep", sources)
         return status
     finally:

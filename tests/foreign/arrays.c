@@ -7,6 +7,7 @@
  *     arrays lists GAMES SEED      the coalitions of random games, in buffers of every length
  *     arrays threads               the same games by eight threads at once
  *     arrays visits                walks that may make few visits
+ *     arrays kinds                 games that states count while a walk would take minutes
  *     arrays stop                  a flag ends each call
  *     arrays options               options of other versions, and some that no call takes
  *     arrays words                 the words of each status, in buffers of every length
@@ -515,6 +516,41 @@ static void run_visits(void)
 		fail("too long, and something was written", 0);
 }
 
+/* ---- games of few kinds have few states, and so many coalitions that a walk takes minutes */
+struct kind {
+	size_t count;
+	uint64_t weights[3];
+};
+
+static void list_kinds(size_t rules, const uint64_t *quotas, const struct kind *kinds, size_t count)
+{
+	size_t members = 0;
+	for (size_t k = 0; k < count; k++)
+		members += kinds[k].count;
+	uint64_t weights[3 * MEMBERS], masks[1000];
+	for (size_t k = 0, i = 0; k < count; k++)
+		for (size_t left = kinds[k].count; left > 0; left--, i++)
+			for (size_t r = 0; r < rules; r++)
+				weights[r * members + i] = kinds[k].weights[r];
+	struct council_summary summary = no_summary();
+	struct council_options options = {.size = sizeof options, .visits = 1 << 23, .most = 1};
+	for (; options.most <= 1000; options.most += 999)
+		if (council_list(quotas, rules, weights, rules * members, &options, members, masks, 1000, &summary) != COUNCIL_TOO_MANY)
+			fail("a walk of kinds", (long)options.most);
+	struct council_member results[MEMBERS];
+	options.most = 0;
+	if (council_indices(quotas, rules, weights, rules * members, &options, results, members, &summary) != COUNCIL_REPORT || summary.coalitions < 1000000)
+		fail("a count of kinds", (long)members);
+}
+
+static void run_kinds(void)
+{
+	const struct kind producers[] = {{18, {3, 20}}, {6, {100, 2}}, {4, {50, 1}}, {12, {20, 200}}};
+	const struct kind groups[] = {{13, {50, 363, 484}}, {13, {1, 61, 66}}, {13, {15, 12, 1}}};
+	list_kinds(2, (uint64_t[]){657, 1666}, producers, 4);
+	list_kinds(3, (uint64_t[]){572, 3779, 4776}, groups, 3);
+}
+
 /* ---- a flag that another thread sets ends each call soon; and one that is set before, at once */
 static volatile uint32_t stop;
 
@@ -688,6 +724,8 @@ int main(int count, char **words)
 		run_threads();
 	else if (count == 2 && !strcmp(words[1], "visits"))
 		run_visits();
+	else if (count == 2 && !strcmp(words[1], "kinds"))
+		run_kinds();
 	else if (count == 2 && !strcmp(words[1], "stop"))
 		run_stop();
 	else if (count == 2 && !strcmp(words[1], "options"))

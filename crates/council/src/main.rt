@@ -12,7 +12,7 @@ use council_explain::explain;
 use council_file::{parse_game, read_bytes};
 use council_game::{Game, GameFault, Gate, Plan, Sink, Source};
 use council_run::{
-    Cause, Columns, LEAST_BITS, NoGate, RunFault, choose_game, find_swings, number_by_states, report_game, status,
+    Cause, Columns, FEW_STATES, LEAST_BITS, NoGate, RunFault, choose_game, find_swings, number_by_states, report_game, status,
 };
 use council_words::{
     Arguments, Progress, collect_words, parse_arguments, remark_on_columns, remark_on_names,
@@ -28,10 +28,6 @@ use std::sync::Wait;
 use std::thread::Threads;
 use std::time::Clock;
 use std::{fs, io};
-
-/// The most states by which a game that has no report is counted, to say more of it: some tenths of
-/// a second.
-const FEW_STATES: u32 = 1 << 16;
 
 /// Returns what helps against a fault, or what `--explain` says of it.
 ///
@@ -140,6 +136,7 @@ fn has_few_swings(rt: &impl AllocGlobal, game: &Game) -> bool {
     match game.by_contribution(rt.alloc()) {
         Ok(ordered) => {
             let game = choose_game(game, &ordered);
+            // memory: a remark is left out
             find_swings(rt.alloc(), game, FEW_STATES, &NoGate).is_ok()
         }
         Err(_) => false, // memory: a remark is left out

@@ -26,5 +26,5 @@ pub use counting::{
 pub use fault::{Cause, RunFault, status};
 pub use findings::Findings;
 pub use found::{Coalitions, Found, on_heap};
-pub use listing::{count_few, list_by_workers};
+pub use listing::{FEW_STATES, count_few, list_by_workers};
 pub use runs::{report_game, run, tally};

@@ -28,6 +28,12 @@ const LONG: usize = 1 << 19;
 /// takes at most as long as these visits, but for the first count, which takes some milliseconds.
 const STAGES: [(u32, u32); 3] = [(1 << 10, 1 << 11), (1 << 18, 1 << 16), (1 << 22, 1 << 20)];
 
+/// Some states: it takes a few milliseconds to count by them, or to see that there are more.
+pub const FEW_STATES: u32 = 1 << 13;
+
+/// From so many visits on, a walk that ends soon takes longer than a count by `FEW_STATES`.
+const MANY_VISITS: u64 = 1 << 20;
+
 /// The most members of a game that is walked over within seconds, whatever its rules are.
 const FEW_MEMBERS: usize = 26;
 
@@ -65,6 +71,7 @@ fn count_gathered(
     game: &Game,
     gathered: &Gathered,
     counted: Option<Box<Counts>>,
+    room: u32,
 ) -> Result<Box<Counts>, Memory>
     requires whole { HoldAll game.now gathered.now }
     requires counted { IfSome counted (λ counts. AreCountsOfGame game.now counts.value) }
@@ -73,9 +80,8 @@ fn count_gathered(
     if let Some(counts) = counted {
         return Ok(counts);
     }
-    // more members were counted by as many states before the walk
-    if game.members() <= FEW_MEMBERS && is_long(gathered) {
-        if let Some(counts) = count_by_states(alloc, game, STAGES[0].1 as usize, &NoGate)? {
+    if is_long(gathered) {
+        if let Some(counts) = count_by_states(alloc, game, room.min(FEW_STATES) as usize, &NoGate)? {
             return Ok(counts);
         }
     }
@@ -95,25 +101,24 @@ pub(crate) fn has_more(counted: &Option<Box<Counts>>, most: u32) -> bool
     }
 }
 
-/// Walks on until there were `visits` visits; returns whether the walk ends soon.
+/// Takes a walk to `visits` visits; returns how many it takes on the whole if it ends soon.
 ///
 /// That is if it has ended, or finds more than `most` coalitions within some 2^26 visits if it goes
 /// on as it began. It takes 2^12 visits to tell.
-fn is_near(walk: &mut Walk<'_>, visits: u64, most: u32, found: &mut u64) -> bool {
+fn foresee_end(walk: &mut Walk<'_>, visits: u64, most: u32, found: &mut u64) -> Option<u64> {
     while walk.visits() < visits {
         match walk.seek(visits - walk.visits()) {
             Seek::Found(_) => *found = found.saturating_add(1),
-            Seek::End => return true,
+            Seek::End => return Some(0),
             Seek::NotYet => {}
         }
         let done = walk.visits();
-        if done >= 1 << 12
-            && found.saturating_mul(1 << 26) >= done.saturating_mul(u64::from(most))
-        {
-            return true;
+        let wanted = done.saturating_mul(u64::from(most));
+        if done >= 1 << 12 && found.saturating_mul(1 << 26) >= wanted {
+            return Some(wanted / (*found).max(1));
         }
     }
-    false
+    None
 }
 
 /// Counts the coalitions of a game by states, as long as a walk over it may take longer than that.
@@ -134,8 +139,11 @@ pub(crate) fn count_first(
     let mut walk = Walk::new(game, 0, 0);
     let mut found = 0;
     for (visits, states) in &STAGES {
-        if is_near(&mut walk, u64::from(*visits), most, &mut found) {
-            return Ok(None);
+        if let Some(whole) = foresee_end(&mut walk, u64::from(*visits), most, &mut found) {
+            if whole < MANY_VISITS {
+                return Ok(None);
+            }
+            return count_by_states(alloc, game, room.min(FEW_STATES) as usize, &NoGate);
         }
         let states = room.min(*states) as usize;
         if let Some(counts) = count_by_states(alloc, game, states, &NoGate)? {
@@ -148,7 +156,7 @@ pub(crate) fn count_first(
     Ok(None)
 }
 
-/// Counts the coalitions of a game by states, if a walk over it may take longer than that.
+/// Counts the coalitions of a game by states if a walk may take longer than that.
 ///
 /// The walk goes by rank place, so hand it the game that `choose_game` returns. There are at most
 /// `room` states.
@@ -215,7 +223,7 @@ pub(crate) fn list_counted<T: Threads + Wait + Sync, G: Gate + Sync>(
 {
     let walked = choose_game(game, ordered);
     let gathered = gather_all(rt, alloc, walked, options, gate)?;
-    let counts = count_gathered(alloc, walked, &gathered, counted)?;
+    let counts = count_gathered(alloc, walked, &gathered, counted, options.room)?;
     let coalitions = keep(alloc, game, ordered, gathered, options.list)?;
     Ok(Found { counts, coalitions })
 }

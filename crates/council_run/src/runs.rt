@@ -153,8 +153,8 @@ fn lines_of(plan: Plan, options: &Options) -> ReportLines
 ///
 /// The first fault that is met, in this order: out of memory for the game in the order of
 /// contribution; if swings are shown, out of memory for them, or States; out of memory for states;
-/// TooMany if these show it; of the gathering, its Start before its Memory, Ring and TooMany; out of
-/// memory for the row of its pieces, for their counts or for the report; of the writer. No byte
+/// TooMany if these show it; of the gathering, its Start before its Memory, Ring and TooMany; out
+/// of memory for the row of its pieces, for their counts or for the report; of the writer. No byte
 /// goes out before all memory is there: after each fault but `Write` the writer took nothing, and
 /// after `Write` it has the first bytes of the report. A write that takes no byte or fails,
 /// whatever the cause, is `Write`, and so is a flush that fails.

@@ -14,8 +14,8 @@ use council_file::parse_game;
 use council_game::{Coalition, Game, GameFault, Rule, plain_list};
 use council_report::ReportLines;
 use game_calls::{
-    at_quota, coalition_named, critical_members, first_unnamed, game_from_slices, has_member,
-    outsiders, vetoers, with_member, without_member,
+    Forecast, at_quota, coalition_named, critical_members, first_unnamed, foresee,
+    game_from_slices, has_member, outsiders, vetoers, with_member, with_quota, without_member,
 };
 use mwc_pipe::Word;
 use power_index::{Fraction, Index, lowest};
@@ -126,6 +126,23 @@ fn other_quotas(rt: HostRuntime) {
     assert!(rt; game.total() == 100);
     let counts = counts_at_quotas(alloc, &game, &[51, 100]).expect(&rt, "memory");
     assert!(rt; counts.as_slice() == [2, 1].as_slice());
+    let unanimous = with_quota(alloc, &game, 0, 100).expect(&rt, "a game");
+    assert_same(&rt, unanimous.quota(), 100, "with_quota");
+}
+
+#[test]
+fn votes_that_are_not_all_cast(rt: HostRuntime) {
+    let game = board(&rt, rt.alloc());
+    assert!(rt; game.members() == 3);
+    let (nobody, ada) = (Coalition::none(), with_member(&game, Coalition::none(), 0));
+    let two = with_member(&game, ada, 1);
+    for (ayes, nays, wanted) in [
+        (ada, nobody, Forecast::Open),
+        (two, nobody, Forecast::Passed),
+        (nobody, ada, Forecast::Failed),
+    ] {
+        assert_same(&rt, foresee(&game, ayes, nays), wanted, "foresee");
+    }
 }
 
 #[test]

@@ -11,3 +11,4 @@ pub mod Ordered
 pub mod Ways
 pub mod Swings
 pub mod Weighing
+mod Sizes

@@ -5,6 +5,7 @@ use Rattle.std.proofs.lemmas.Grind.{common_steps}
 use Rattle.council_game.specs.Game.{GameView, IsGame, AreNonemptyCoalitions}
 use Rattle.power_index.specs.{Counting.count_of_member, Indices.public_good}
 use Rattle.power_index.specs.Fractions.{SameFraction, fraction_cmp, lowest_terms}
+use Rattle.power_index.specs.{SwingIndices.banzhaf, Swings.all_swings, Swings.swings}
 use Rattle.power_index.proofs.Shared.AddUp.{public_good_bottom}
 use Rattle.power_index.proofs.Shared.LowestTerms.{lowest_terms-lowest, carried, lowest_from_same}
 
@@ -53,3 +54,7 @@ pub by_counts : (g : GameView) (list : List ℕ) (i j : ℕ) → IsGame g → 0 
 unfolding public_good
 by_counts g list i j game some h =
     scaled (public_good g list i).1 (count_of_member g i list) (count_of_member g j list) (public_good_bottom g list i game some h)
+
+pub by_swings : (g : GameView) (i j : ℕ) → 0 < all_swings g → fraction_cmp (banzhaf g i) (banzhaf g j) ≡ nat_cmp (swings g i) (swings g j)
+unfolding banzhaf
+by_swings g i j some = scaled (all_swings g) (swings g i) (swings g j) some

@@ -1,5 +1,6 @@
 -- Games of the same members: under other rules, with other weights, at another quota.
-use Rattle.std.specs.Prelude.{ℕ, List, [], ◌∷◌, length}
+use Rattle.std.specs.Prelude.{ℕ, ◌==◌, List, [], ◌∷◌, if◌then◌else◌, length, map}
+use Rattle.std.specs.List.{range_with_len}
 use Rattle.council_game.specs.Votes.{RuleView, rule_at}
 use Rattle.council_game.specs.Game.{GameView, ranked_by_first}
 use Rattle.council_game.specs.Ways.{one_way}
@@ -15,3 +16,15 @@ with_weights g weights = under_rules g (record { quota = (rule_at g.rules 0).quo
 -- the members and the first rule of a game, at this quota, with the rank places by that rule
 abbrev pub at_quota : GameView → ℕ → GameView
 at_quota g q = under_rules g (record { quota = q; weights = (rule_at g.rules 0).weights } ∷ [])
+
+-- rule k of a game, at quota q if it is rule r
+abbrev pub at_quota_of : GameView → ℕ → ℕ → ℕ → RuleView
+at_quota_of g r q k = record (rule_at g.rules k) { quota = if k == r then q else (rule_at g.rules k).quota }
+
+-- the rules of a game, rule r at quota q
+abbrev pub rules_at : GameView → ℕ → ℕ → List RuleView
+rules_at g r q = map (at_quota_of g r q) (range_with_len 0 (length g.rules))
+
+-- the game of these rules, and of the same ways, with the rank places by the first rule
+abbrev pub with_quota : GameView → ℕ → ℕ → GameView
+with_quota g r q = ranked_by_first (record g { rules = rules_at g r q })

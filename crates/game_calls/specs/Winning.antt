@@ -5,6 +5,8 @@ use Rattle.council_game.specs.Votes.{Votes, has, wins, minimal_coalitions, rule_
 use Rattle.council_game.specs.Ways.{covers, has_rule, one_way}
 use Rattle.council_game.specs.Game.{GameView, has_low_quota, votes_of}
 use Rattle.council_game.specs.Members.{contains, IsSubsetOf}
+use Rattle.game_calls.specs.declared.forecast.Forecast.{Forecast}
+use Rattle.game_calls.specs.declared.forecast.Forecast.TheVariants as forecast
 
 -- in a game of n members, each place of a is in c
 abbrev pub IsSubset : ℕ → ℕ → ℕ → Type 0
@@ -66,3 +68,16 @@ pub record HaveSameWays (to : ℕ → ℕ) (g h : GameView) : Type 0 where
   pub rules : (r : ℕ) → r < length g.rules → rule_at h.rules (to r) ≡ rule_at g.rules r
   pub enough : list_all (λ way. list_any (covers (map to way)) h.ways) g.ways ≡ true
   pub needed : list_all (λ way. list_any (λ other. covers way (map to other)) g.ways) h.ways ≡ true
+
+-- coalition c may come of these votes: it has each of the ayes, and none of the nays
+abbrev pub MayCome : GameView → ℕ → ℕ → ℕ → Type 0
+MayCome g ayes nays c = IsSubsetOf g ayes c × AreDisjoint g nays c
+
+-- All coalitions that may come of the votes win, or all lose, or some win and some lose. (If a
+-- member is in both, none may come.)
+abbrev pub Foresees : GameView → ℕ → ℕ → Forecast → Type 0
+Foresees g ayes nays forecast.Passed = (c : ℕ) → MayCome g ayes nays c → wins (votes_of g) c ≡ true
+Foresees g ayes nays forecast.Failed = (c : ℕ) → MayCome g ayes nays c → wins (votes_of g) c ≡ false
+Foresees g ayes nays forecast.Open =
+    AreDisjoint g ayes nays
+    → ((c : ℕ) × MayCome g ayes nays c × (wins (votes_of g) c ≡ true)) × ((c : ℕ) × MayCome g ayes nays c × (wins (votes_of g) c ≡ false))

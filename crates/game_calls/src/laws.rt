@@ -12,15 +12,18 @@ ghost use Rattle.council_game.specs.Ranks.{rank_places};
 ghost use Rattle.council_game.specs.Renaming.{AreInverse, IsRenaming, exchanged};
 ghost use Rattle.council_game.specs.Votes.{RuleView, Votes, IsVotes, minimal_coalitions, wins, rule_at};
 ghost use Rattle.game_calls.specs.Quotas.{at_quota};
-ghost use Rattle.power_index.specs.Counting.{count_of_member, members};
+ghost use Rattle.power_index.specs.Counting.{contains, count_of_member, count_of_member_size, count_of_size, members};
 ghost use Rattle.power_index.specs.Fractions.{SameFraction, fraction_cmp, lowest_terms, AddUpToOne};
 ghost use Rattle.power_index.specs.Indices.{deegan_packel, public_good};
 ghost use Rattle.std.specs.List.Sorted.{IsPermutation};
 ghost use Rattle.std.specs.List.{filter, list_any, range_with_len};
 ghost use Rattle.std.specs.Ordering.{nat_cmp};
-ghost use Rattle.std.specs.Prelude.{◌≡◌, ℕ, ◌<◌, ◌^◌, false, [], length, slice_index, slice_index_or, true, All, ◌+◌, ◌++◌, ◌∷◌, Bool, if◌then◌else◌, ◌↔◌, ◌*◌, ◌≤◌, List, map, Ok, Option};
+ghost use Rattle.std.specs.Prelude.{◌≡◌, ℕ, ◌<◌, ◌^◌, false, [], length, slice_index, slice_index_or, true, All, ◌+◌, ◌++◌, ◌∷◌, Bool, if◌then◌else◌, ◌↔◌, ◌*◌, ◌≤◌, ◌&&◌, List, map, nat_le, Ok, Option, sum_by};
 ghost use Rattle.game_calls.specs.Winning.{IsSubset, HasMinimalSubsets, HasVetoersInAll, HasMinimalSubsetOf, HaveSameWays, IsInAll, IsProper, IsVetoer, by_way, have_high_rules};
-ghost use Rattle.power_index.specs.Swings.{coalitions, swings, winning_coalitions};
+ghost use Rattle.power_index.specs.SwingIndices.{banzhaf};
+ghost use Rattle.power_index.specs.Swings.{coalitions, is_critical, swings, swings_of_size, winning_coalitions};
+
+use power_index::laws::some_member_has_a_swing;
 
 /// Nobody is in the empty coalition.
 #[tactic(auto, using(crate::proofs::Masks::empty))]
@@ -222,6 +225,28 @@ pub fn counts_order_public_good()
     ensures { (g : GameView) (list : List ℕ) (i j : ℕ) → IsGame g → 0 < length list
         → AreNonemptyCoalitions g list → fraction_cmp (public_good g list i) (public_good g list j)
         ≡ nat_cmp (count_of_member g i list) (count_of_member g j list) }
+{}
+
+/// Banzhaf indices are ordered as the swings.
+#[tactic(auto, using(crate::proofs::Ordered::by_swings))]
+pub fn swings_order_banzhaf()
+    ensures { (g : GameView) (i j : ℕ) → IsGame g
+        → fraction_cmp (banzhaf g i) (banzhaf g j) ≡ nat_cmp (swings g i) (swings g j) }
+{
+    some_member_has_a_swing();
+}
+
+/// Counts by size add up: those of sizes 0 to k count all of at most k members.
+pub fn sizes_add_up()
+    ensures all { (g : GameView) (list : List ℕ) (k : ℕ)
+        → sum_by (λ s. count_of_size g s list) (range_with_len 0 (k + 1))
+        ≡ length (filter (λ c. nat_le (size_of g c) k) list) }
+    ensures members { (g : GameView) (list : List ℕ) (i k : ℕ)
+        → sum_by (λ s. count_of_member_size g i s list) (range_with_len 0 (k + 1))
+        ≡ length (filter (λ c. contains g i c && nat_le (size_of g c) k) list) }
+    ensures swings { (g : GameView) (i k : ℕ)
+        → sum_by (swings_of_size g i) (range_with_len 0 (k + 1))
+        ≡ length (filter (λ c. is_critical g c i && nat_le (size_of g c) k) (coalitions g)) }
 {}
 
 /// Fractions have the same lowest terms exactly if they are the same number.

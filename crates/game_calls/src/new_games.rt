@@ -3,14 +3,14 @@
 ghost use Rattle.council_game.specs.declared.limits.TheConstants.{RULES};
 ghost use Rattle.council_game.specs.Fault.{Answers};
 ghost use Rattle.council_game.specs.Game.{made_game, total};
-ghost use Rattle.council_game.specs.Rules.{rule_views};
+ghost use Rattle.council_game.specs.Rules.{rule_view, rule_views, way_views};
 ghost use Rattle.council_game.specs.Votes.{rule_at};
 ghost use Rattle.council_game.specs.Ways.{one_way};
-ghost use Rattle.game_calls.specs.Quotas.{at_quota, under_rules, with_weights};
+ghost use Rattle.game_calls.specs.Quotas.{at_quota, at_quota_of, rules_at, under_rules, with_quota, with_weights};
 ghost use Rattle.std.specs.Prelude.{◌≡◌, ◌∷◌, ◌<◌, ◌≤◌, [], All, IfOk, None, length, map, option_map, string_bytes};
 
 use crate::laws::{made_games_have_their_parts, quotas_can_be_changed};
-use council_game::{Game, GameFault, Memory, Rule, copy_title};
+use council_game::{Game, GameFault, Memory, Rule, Way, copy_title};
 use std::alloc::{AllocError, Global};
 
 /// Copies names.
@@ -47,15 +47,65 @@ pub fn game_from_slices(
     Game::new(alloc, None, names, weights, quota)
 }
 
-/// Lists the weights of the first rule.
-fn weights_of(alloc: Global, game: &Game) -> Result<Vec<u64>, AllocError>
-    ensures { IfOk result (λ v. v.items ≡ (rule_at game.now.rules 0).weights) }
+/// Lists the weights of a rule.
+fn weights_of(alloc: Global, game: &Game, rule: usize) -> Result<Vec<u64>, AllocError>
+    requires { rule < length game.now.rules }
+    ensures weights { IfOk result (λ v. v.items ≡ (rule_at game.now.rules rule).weights) }
+    ensures full { IfOk result (λ v. length v.items ≡ length game.now.names) }
 {
     let mut weights = Vec::new(alloc);
     for i in 0..game.members() {
-        weights.push(game.weight(i))?;
+        weights.push(game.rule_weight(rule, i))?;
     }
     Ok(weights)
+}
+
+/// Copies a rule, at another quota if it is `rule`.
+fn copy_rule(
+    alloc: Global,
+    game: &Game,
+    r: usize,
+    rule: usize,
+    quota: u64,
+) -> Result<Rule, AllocError>
+    requires { r < length game.now.rules }
+    ensures rule { IfOk result (λ copy. rule_view copy ≡ at_quota_of game.now rule quota r) }
+    ensures full { IfOk result (λ copy. length copy.weights.items ≡ length game.now.names) }
+{
+    let weights = weights_of(alloc, game, r)?;
+    if r == rule {
+        return Ok(Rule { quota, weights });
+    }
+    Ok(Rule {
+        quota: game.rule_quota(r),
+        weights,
+    })
+}
+
+/// Copies the rules, one of them at another quota.
+fn rules_at(alloc: Global, game: &Game, rule: usize, quota: u64) -> Result<Vec<Rule>, AllocError>
+    ensures rules { IfOk result (λ v. rule_views v.items ≡ rules_at game.now rule quota) }
+    ensures full { IfOk result (λ v. All (λ r. length r.weights.items ≡ length game.now.names) v.items) }
+    ensures count { IfOk result (λ v. (0 < length v.items) × (length v.items ≤ RULES)) }
+{
+    let mut rules = Vec::new(alloc);
+    for r in 0..game.rules() {
+        rules.push(copy_rule(alloc, game, r, rule, quota)?)?;
+    }
+    Ok(rules)
+}
+
+/// Copies the ways to win.
+fn copy_ways(alloc: Global, game: &Game) -> Result<Vec<Way>, AllocError>
+    ensures { IfOk result (λ v. way_views v.items ≡ game.now.ways) }
+{
+    let mut ways = Vec::new(alloc);
+    for w in 0..game.ways() {
+        ways.push(Way {
+            rules: Vec::from_slice(alloc, game.way(w))?,
+        })?;
+    }
+    Ok(ways)
 }
 
 /// Returns the game of the same title and members under other rules.
@@ -105,6 +155,28 @@ pub fn with_weights(alloc: Global, game: &Game, weights: Vec<u64>) -> Result<Gam
     under_rules(alloc, game, rules)
 }
 
+/// Returns the game at another quota of one of its rules.
+///
+/// Title, members, the other rules and the ways to win are the same.
+///
+/// # Errors
+///
+/// QuotaRange if the quota is not 1 to the total of the rule's weights, or Memory if an allocation
+/// was refused.
+pub fn with_quota(alloc: Global, game: &Game, rule: usize, quota: u64) -> Result<Game, GameFault>
+    requires { rule < length game.now.rules }
+    ensures answer { Answers result (made_game game.now.title game.now.names
+        (rules_at game.now rule quota) game.now.ways) }
+    ensures game { IfOk result (λ made. made ≡ with_quota game.now rule quota) }
+{
+    made_games_have_their_parts();
+    let title = copy_title(alloc, game.title())?;
+    let names = game.copy_names(alloc)?;
+    let rules = rules_at(alloc, game, rule, quota)?;
+    let ways = copy_ways(alloc, game)?;
+    Game::with_ways(alloc, title, names, rules, ways)
+}
+
 /// Returns the game under only its first rule, at another quota.
 ///
 /// Title and members are the same. The quota is 1 to the total of the weights.
@@ -121,7 +193,7 @@ pub fn at_quota(alloc: Global, game: &Game, quota: u64) -> Result<Game, Memory>
     quotas_can_be_changed();
     let title = copy_title(alloc, game.title())?;
     let names = game.copy_names(alloc)?;
-    let weights = weights_of(alloc, game)?;
+    let weights = weights_of(alloc, game, 0)?;
     match Game::new(alloc, title, names, weights, quota) {
         Ok(made) => Ok(made),
         Err(fault) => {

@@ -13,4 +13,4 @@ mod OrderShares
 mod Orders
 mod SwingBounds
 mod SwingCounts
-mod SwingPlaces
+pub mod SwingPlaces

@@ -72,7 +72,7 @@ module _ (g : GameView) (game : IsGame g) (i : ℕ) (lt : i < length g.names) wh
         next,
       )
 
-  no-swing-of-size-0 : swings_of_size g i 0 ≡ 0
+  pub no-swing-of-size-0 : swings_of_size g i 0 ≡ 0
   unfolding swings_of_size
   no-swing-of-size-0 =
       length-filter (λ c. is_critical g c i && (size n c == 0)) (down (2 ^ n))

@@ -37,3 +37,7 @@ power_to_prevent g i = (swings g i, length (winning_coalitions g))
 -- Coleman's power of member i to initiate action: its swings over the losing coalitions
 unfoldable pub power_to_initiate : GameView → ℕ → ℕ × ℕ
 power_to_initiate g i = (swings g i, 2 ^ length g.names - length (winning_coalitions g))
+
+-- all of member i: Banzhaf, Penrose, Shapley and Shubik, to prevent, to initiate
+abbrev pub swing_indices : GameView → ℕ → (ℕ × ℕ) × (ℕ × ℕ) × (ℕ × ℕ) × (ℕ × ℕ) × (ℕ × ℕ)
+swing_indices g i = (banzhaf g i, penrose g i, shapley_shubik g i, power_to_prevent g i, power_to_initiate g i)

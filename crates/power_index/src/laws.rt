@@ -1,5 +1,5 @@
 //! Laws of the definitions, with nothing to run: each index adds up to 1, what lowest terms are,
-//! and that two indices which are the same number are equal.
+//! which indices are equal, and that names and places change no count and no swing.
 ghost use Rattle.council_game.specs.declared.limits.TheConstants.{MEMBERS};
 ghost use Rattle.council_game.specs.Game.{GameView, IsGame, votes_of, AreNonemptyCoalitions};
 ghost use Rattle.council_game.specs.Renaming.{AreSymmetric, IsRenaming};
@@ -8,9 +8,9 @@ ghost use Rattle.power_index.specs.Counting.{members};
 ghost use Rattle.power_index.specs.Fractions.{AddUpToOne, HasLowestTerms, IsIndex, SameFraction};
 ghost use Rattle.power_index.specs.Indices.{deegan_packel, public_good};
 ghost use Rattle.power_index.specs.MemberIndices.{indices_of_member};
-ghost use Rattle.power_index.specs.Renaming.{HaveRenamedCounts};
-ghost use Rattle.power_index.specs.SwingIndices.{shapley_shubik};
-ghost use Rattle.power_index.specs.Swings.{AreWinningCounts, all_swings, swings, winning_coalitions};
+ghost use Rattle.power_index.specs.Renaming.{HaveRenamedCounts, HaveRenamedSwings};
+ghost use Rattle.power_index.specs.SwingIndices.{shapley_shubik, swing_indices};
+ghost use Rattle.power_index.specs.Swings.{AreWinningCounts, all_swings, swings, swings_of_size, winning_coalitions};
 ghost use Rattle.power_index.specs.Tables.{AreCounts, AreCountsOfGame, AreTallies, Tables};
 ghost use Rattle.std.specs.Prelude.{◌≡◌, ◌<◌, ◌≤◌, ◌+◌, ◌^◌, ℕ, List, length, map, sum_by};
 
@@ -114,4 +114,25 @@ pub fn shapley_shubik_adds_up()
 pub fn places_change_no_swing()
     ensures { (g h : GameView) (t : Tables) → IsGame g → IsGame h → h.names ≡ g.names → h.rules ≡ g.rules → h.ways ≡ g.ways
         → AreWinningCounts h t → AreWinningCounts g t }
+{}
+
+/// Which names the members have changes no swing.
+///
+/// If the members of a game, renamed, are those of another one, each has the swings, by size too,
+/// and the indices of the member of its new name.
+pub fn names_change_no_swing()
+    ensures { (to from : ℕ → ℕ) (g h : GameView) → IsGame g → IsGame h → IsRenaming to from g h
+        → HaveRenamedSwings to g h }
+{}
+
+/// Symmetric members have equal swings, by size too, and equal indices.
+///
+/// Members of the same weight under each rule are symmetric
+/// (`council_game::laws::members_of_equal_weight_are_symmetric`).
+#[tactic(auto, using(crate::proofs::SwingPlaces::symmetric))]
+pub fn symmetric_members_have_equal_swings()
+    ensures sizes { (g : GameView) (i j : ℕ) → IsGame g → i < length g.names → j < length g.names
+        → AreSymmetric g i j → (s : ℕ) → swings_of_size g i s ≡ swings_of_size g j s }
+    ensures indices { (g : GameView) (i j : ℕ) → IsGame g → i < length g.names → j < length g.names
+        → AreSymmetric g i j → swing_indices g i ≡ swing_indices g j }
 {}

@@ -2,6 +2,7 @@
 ghost use Rattle.council_game.specs.declared.limits.TheConstants.{MEMBERS};
 ghost use Rattle.council_game.specs.Game.{GameView, IsGame};
 ghost use Rattle.std.specs.Prelude.{◌≡◌, ◌*◌, ◌<◌, ◌≤◌, ◌^◌, length};
+ghost use Rattle.power_index.specs.Counting.{count_of_member, count_of_member_size, count_of_size};
 ghost use Rattle.power_index.specs.Swings.{AreOfSomeGame, AreWinningCounts, all_swings, swings, swings_of_size, winning_coalitions};
 
 use crate::Counts;
@@ -65,6 +66,34 @@ impl Swings {
         ensures few { result ≤ 2 ^ MEMBERS }
     {
         self.counts().wide_total()
+    }
+
+    /// Returns the number of winning coalitions of a size.
+    pub fn winning_of_size(&self, size: usize) -> u64
+        requires { size ≤ self.now.members }
+        ensures { (g : GameView) → AreWinningCounts g self.now
+            → result ≡ count_of_size g size (winning_coalitions g) }
+    {
+        self.counts().wide_of_size(size)
+    }
+
+    /// Returns the number of winning coalitions that have a member.
+    pub fn winning_with(&self, member: usize) -> u64
+        requires { member < self.now.members }
+        ensures { (g : GameView) → AreWinningCounts g self.now
+            → result ≡ count_of_member g member (winning_coalitions g) }
+    {
+        self.counts().wide_of_member(member)
+    }
+
+    /// Returns the number of winning coalitions of a size that have a member.
+    pub fn winning_with_of_size(&self, member: usize, size: usize) -> u64
+        requires member { member < self.now.members }
+        requires size { size ≤ self.now.members }
+        ensures { (g : GameView) → AreWinningCounts g self.now
+            → result ≡ count_of_member_size g member size (winning_coalitions g) }
+    {
+        self.counts().wide_of_member_size(member, size)
     }
 
     /// Returns how many swings a member has.

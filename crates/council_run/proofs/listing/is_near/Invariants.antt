@@ -1,5 +1,0 @@
-use Rattle.mwc_walk.specs.Seeks.{seeks_left}
-use Rattle.council_run.proofs.listing.is_near.Given as goal
-
-abbrev pub decreases-loop-walk : goal.decreases-loop-walk
-decreases-loop-walk l = seeks_left l.walk

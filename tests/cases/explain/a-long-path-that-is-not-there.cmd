@@ -1,1 +1,0 @@
-council --explain $(printf 'x%.0s' {1..200})

@@ -1,1 +1,0 @@
-printf 'PK\003\004%65537s' '' | council --explain

@@ -1,1 +1,0 @@
-council --explain "$(cat game)"

@@ -1,1 +1,0 @@
-council --explain --most 5 <game

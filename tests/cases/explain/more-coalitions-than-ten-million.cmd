@@ -1,1 +1,0 @@
-council --explain --list <game

@@ -1,1 +1,0 @@
-printf '%65536s' '' >long; council long

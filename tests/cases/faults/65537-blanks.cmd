@@ -1,1 +1,0 @@
-printf '%65537s' '' >long; council long

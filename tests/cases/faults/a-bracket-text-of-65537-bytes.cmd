@@ -1,1 +1,0 @@
-printf '[1; 1]%65531s' '' >long; council long

@@ -1,1 +1,0 @@
-(cat game; printf '#%70000s' '' | tr ' ' '#') >long; council long

@@ -1,1 +1,0 @@
-council missing/game.toml

@@ -1,1 +1,0 @@
-council $'game\377' --list <game

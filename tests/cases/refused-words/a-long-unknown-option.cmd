@@ -1,1 +1,0 @@
-council --$(printf 'x%.0s' {1..100}) <game

@@ -1,1 +1,0 @@
-council --workers $'\xef\xbb\xbf3\xe2\x81\xa9' <game

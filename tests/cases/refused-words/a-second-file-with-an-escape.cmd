@@ -1,1 +1,0 @@
-council game $'b\033]0;x\ay'

@@ -1,1 +1,0 @@
-council $'--f\033[31mo\n\xe2\x80\xaeo' <game

@@ -1,1 +1,0 @@
-council --order <game

@@ -1,1 +1,0 @@
-council -w 2 <game

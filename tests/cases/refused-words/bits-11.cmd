@@ -1,1 +1,0 @@
-council --bits 11 <game

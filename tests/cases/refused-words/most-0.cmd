@@ -1,1 +1,0 @@
-council --most 0 <game

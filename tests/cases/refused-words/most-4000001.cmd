@@ -1,1 +1,0 @@
-council --most 4000001 <game

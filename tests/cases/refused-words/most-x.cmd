@@ -1,1 +1,0 @@
-council --most x <game

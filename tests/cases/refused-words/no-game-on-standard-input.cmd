@@ -1,1 +1,0 @@
-cp game ./-; council - --list <<<'[2; 1, 1'

@@ -1,1 +1,0 @@
-council $'\377' <game

@@ -1,1 +1,0 @@
-council --workers 0 <game

@@ -1,1 +1,0 @@
-council --workers 17 <game

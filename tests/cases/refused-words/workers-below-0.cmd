@@ -1,1 +1,0 @@
-council --workers -1 <game

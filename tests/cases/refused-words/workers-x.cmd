@@ -1,1 +1,0 @@
-council --workers x <game

@@ -1,1 +1,0 @@
-printf '[1; 1]%65530s' '' >long; council long

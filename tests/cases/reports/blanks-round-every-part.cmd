@@ -1,1 +1,0 @@
-council game --notation

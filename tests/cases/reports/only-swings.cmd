@@ -1,1 +1,0 @@
-council --only-swings --notation <game

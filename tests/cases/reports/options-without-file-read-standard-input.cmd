@@ -1,1 +1,0 @@
-council --sizes --list <game

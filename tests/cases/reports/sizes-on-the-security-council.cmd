@@ -1,1 +1,0 @@
-council "$TOP/examples/un-security-council.toml" --sizes

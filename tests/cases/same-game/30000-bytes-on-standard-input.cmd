@@ -1,1 +1,0 @@
-(cat game; printf '#%30000s' '') | head -c 30000 >long; council <long

@@ -1,1 +1,0 @@
-(cat game; printf '#%65536s' '') | head -c 65536 >long; council long

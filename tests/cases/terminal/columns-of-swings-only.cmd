@@ -1,1 +1,0 @@
-python3 "$TOP/tests/terminal.py" --both council game --only-swings

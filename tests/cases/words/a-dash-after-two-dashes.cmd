@@ -1,1 +1,0 @@
-echo none >./-; council --workers 2 -- - <game

@@ -1,1 +1,0 @@
-echo none >./-; council - <game

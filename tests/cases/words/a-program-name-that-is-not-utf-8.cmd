@@ -1,1 +1,0 @@
-exec -a $'a\377' council game

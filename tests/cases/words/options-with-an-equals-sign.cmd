@@ -1,1 +1,0 @@
-council --workers=3 --bits=2 --most=2 game

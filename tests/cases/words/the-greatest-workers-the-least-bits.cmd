@@ -1,1 +1,0 @@
-council game --workers 16 --bits 0 --most 4000000

@@ -1,1 +1,0 @@
-council game --workers 1 --bits 10 --most 2

@@ -1,1 +1,0 @@
-awk '/^```/ { inside = !inside; next } inside' "$TOP/docs/FORMATS.md" | awk '/^quota = 51/, /^weight = 1$/' | council
