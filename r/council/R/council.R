@@ -144,14 +144,14 @@ load_library <- function() {
   tryCatch(lapply(getNativeSymbolInfo(names, dyn.load(path)), `[[`, "address"), error = function(it) NULL)
 }
 
-# The words of the options: their size, the most coalitions, visits, states, five that are yes or no,
-# only swings, and six ways. A walk of many visits is one for the workers of the program.
+# The most visits of a walk: a longer one is for the workers of the program.
 VISITS <- 1e7
 
 # Returns the table by the library; or nothing if there is a fault, which the program explains.
 ask_library <- function(library, parts, coalitions, swings) {
   members <- length(parts$names)
   ways <- vapply(parts$ways, function(way) sum(2^(way - 1)), 0)
+  # (those of council.h up to the ways; the first is their size in bytes)
   options <- c(128, 0, VISITS, 0, 0, 0, 0, 0, swings, 0, ways, numeric(6 - length(ways)))
   ranked <- order(-parts$columns[, 1])
   room <- if (coalitions) min(MOST, choose(members, members %/% 2)) else 0
@@ -181,7 +181,7 @@ is_plain <- function(parts) {
   length(numbers) > 0 && all(is.finite(numbers)) && all(numbers >= 0 & numbers < 2^53 & numbers == round(numbers)) &&
     all(nzchar(parts$names)) && !anyDuplicated(parts$names) && all(validUTF8(texts)) && !any(grepl("[\001-\037\177]", texts)) &&
     all(nchar(parts$names, "bytes") <= 64) && nchar(parts$title, "bytes") <= 200 &&
-    length(parts$ways) <= 6 && all(lengths(parts$ways) > 0) && all(rules %in% seq_along(parts$quota)) && !any(vapply(parts$ways, anyDuplicated, 0L))
+    (is.null(parts$ways) || length(parts$ways) %in% 1:6) && all(lengths(parts$ways) > 0) && all(rules %in% seq_along(parts$quota)) && !any(vapply(parts$ways, anyDuplicated, 0L))
 }
 
 # Returns the parts of a game: its quotas, a matrix with a column of weights for each rule, and names.

@@ -249,7 +249,7 @@ if (nzchar(library_path)) {
   Sys.setenv(COUNCIL_LIBRARY = library_path, COUNCIL_PROGRAM = "no-such-program")
   stopifnot(identical(ask_all(), by_program), said(council(51, c(50, 16.5))) == absent, said(council(51, c(50, 1), program = "no-such-program")) == absent, grepl("at most half", warned(council(50, c(50, 49, 1)))))
   do.call(Sys.setenv, as.list(kept))
-  stopifnot(identical(refused(200, c(50, 49))$fault, "quota out of range"), identical(refused(20, rep(1, 40), coalitions = TRUE)$status, 4L), identical(refused(1, c(1, 1), names = c("A", "A"))$fault, "member 2 repeats a name"))
+  stopifnot(identical(refused(200, c(50, 49))$fault, "quota out of range"), identical(refused(20, rep(1, 40), coalitions = TRUE)$status, 4L), identical(refused(1, c(1, 1), names = c("A", "A"))$fault, "member 2 repeats a name"), identical(refused(c(5, 3), votes, ways = list())$fault, "bad ways"), identical(refused(c(5, 3), votes, ways = list(1))$fault, "bad ways"))
 }
 
 # nothing is left of the runs
