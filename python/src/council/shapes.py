@@ -7,25 +7,14 @@ import operator
 import os
 from decimal import Decimal
 from fractions import Fraction
-from typing import Any, Iterable, Mapping, NamedTuple, Optional, Protocol, Sequence, SupportsFloat, SupportsIndex, Union
+from typing import Any, Iterable, Mapping, NamedTuple, Optional, SupportsFloat, SupportsIndex, Union
 
 from .game import MEMBERS, NAME, RULES, TITLE, WEIGHT, format_game, is_text
 from .ways import Ways, find_fault
 
-Number = Union[SupportsIndex, SupportsFloat]
-
-
-class Frame(Protocol):
-    """A DataFrame of pandas: a row for each member, and a column for each rule."""
-
-    @property
-    def columns(self) -> Any: ...
-
-    def to_numpy(self) -> Any: ...
-
-
-Quota = Union[Number, Iterable[Number]]
-Weights = Union[Mapping[Any, Number], Mapping[Any, Iterable[Number]], Iterable[Number], Iterable[Iterable[Number]], Frame]
+# (arrays and DataFrames are iterables of anything)
+Quota = Union[SupportsIndex, SupportsFloat, Iterable[Any]]
+Weights = Union[Mapping[Any, Any], Iterable[Any]]
 Path = Union[str, "os.PathLike[str]"]
 
 
