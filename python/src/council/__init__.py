@@ -55,8 +55,8 @@ def report(
       `by="rule"` or `by="member"` says which it is. A DataFrame has a row for each member, a dict
       a list for each, or by `by="rule"` one for each rule. Without names, members have those of
       its index or of a Series, if these are texts; else 1, 2, .. A coalition wins if it meets all
-      rules; `ways` joins rules by "or", up to six lists of rules counted from 1: by `ways=[[1,
-      2], [3]]` it wins if it meets rules 1 and 2, or rule 3.
+      rules; `ways` joins rules by "or", up to six lists of rules counted from 1: by
+      `ways=[[1, 2], [3]]` it wins if it meets rules 1 and 2, or rule 3.
     - the path of a game file: `report("eu.toml")` or `report(file="eu.toml")`.
     - `game`: the text of a game file, or a text such as "[51; 50, 49, 1]".
 

@@ -161,9 +161,7 @@ ask_library <- function(library, parts, coalitions, swings) {
   exact <- matrix(made[[4]][-length(made[[4]])], members)
   values <- list()
   for (at in seq_along(asked)) {
-    its <- asked[[at]][-1]
-    texts <- lapply(if (at == 1) 1:2 else 3:7, function(column) exact[, column])
-    values <- c(values, stats::setNames(c(list(made[[3]][, at]), lapply(texts, divide), texts), c(asked[[at]], paste0(its, "_exact"))))
+    values <- c(values, make_values(asked[[at]], made[[3]][, at], lapply(if (at == 1) 1:2 else 3:7, function(column) exact[, column])))
   }
   several <- if (length(parts$ways) > 1) lapply(parts$ways, as.integer) else list(seq_along(parts$quota))
   table <- make_table(parts$names, lapply(seq_along(parts$quota), function(rule) parts$columns[, rule]), values, parts$title, parts$quota, colSums(parts$columns), several)
@@ -336,12 +334,9 @@ read_report <- function(lines, coalitions) {
   values <- list()
   at <- 4L
   for (group in GROUPS[intersect(names(GROUPS), kinds)]) {
-    its <- group[-1]
-    exact <- lapply(at - 1L + 2L * seq_along(its), column)
-    values[[group[1]]] <- as.numeric(column(at))
-    values[its] <- lapply(exact, divide)
-    values[paste0(its, "_exact")] <- exact
-    at <- at + 1L + 2L * length(its)
+    exact <- lapply(at - 1L + 2L * seq_along(group[-1]), column)
+    values <- c(values, make_values(group, as.numeric(column(at)), exact))
+    at <- at + 1L + 2L * length(exact)
   }
   read_rules <- function(way) as.integer(strsplit(way, ",", fixed = TRUE)[[1]])
   several <- lapply(strsplit(field("ways"), " ", fixed = TRUE)[[1]], read_rules)
@@ -353,6 +348,11 @@ read_report <- function(lines, coalitions) {
     attr(table, "coalitions") <- lapply(find("coalition"), `[`, -(1:3))
   }
   table
+}
+
+# Returns the columns of a group: how many coalitions, and of each index doubles and fractions.
+make_values <- function(group, number, exact) {
+  stats::setNames(c(list(number), lapply(exact, divide), exact), c(group, paste0(group[-1], "_exact")))
 }
 
 # Makes the data frame of the members, with what is said of the game.
