@@ -284,6 +284,18 @@ END
     fi
 fi
 
+# ---- an object that was compiled with an older header, and has names of another library of Rattle
+name="an older caller"
+if command -v cc >/dev/null; then
+    echo '[51; 50, 49, 1]' >"$temp/older.txt"
+    run --list "$temp/older.txt"
+    cp "$temp/out" "$temp/wanted"
+    cc -std=c99 -Wall -Wextra -Werror -pedantic -c -o "$temp/older.o" "$here/older.c" 2>"$temp/err" &&
+        cc -o "$temp/older" "$temp/older.o" "$library" 2>>"$temp/err" && "$temp/older" >"$temp/out" 2>>"$temp/err"
+    status=$?
+    printed "$name" "$temp/wanted"
+fi
+
 # ---- the example of LIBRARY, with the game that it has, and with a fault
 name="the example of LIBRARY in C"
 if command -v cc >/dev/null; then
