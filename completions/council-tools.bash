@@ -23,23 +23,25 @@ _council_tools() {
     from-table:--blank) words="0" ;;
     from-table:--decimal) words=". ," ;;
     from-table:--encoding) return ;;
-    table:--index) words="deegan-packel public-good banzhaf penrose shapley-shubik" ;;
-    export:--index) words="deegan-packel public-good banzhaf penrose shapley-shubik" ;;
+    table:--index) words="deegan-packel public-good banzhaf penrose shapley-shubik power-to-prevent power-to-initiate" ;;
+    export:--index) words="deegan-packel public-good banzhaf penrose shapley-shubik power-to-prevent power-to-initiate" ;;
     export:--columns) return ;;
     export:--decimals) words="1 2 3 4 5 6 7 8 9 10 11 12 13 14 15 16 17 18 19 20 21 22 23 24 25 26 27 28 29 30" ;;
     export:--decimal) words=". ," ;;
     export:export) words="csv json latex markdown" ;;
-    page:--index) words="deegan-packel public-good banzhaf penrose shapley-shubik" ;;
+    page:--index) words="deegan-packel public-good banzhaf penrose shapley-shubik power-to-prevent power-to-initiate" ;;
     page:--source) return ;;
-    bars:--index) words="deegan-packel public-good banzhaf penrose shapley-shubik" ;;
+    bars:--index) words="deegan-packel public-good banzhaf penrose shapley-shubik power-to-prevent power-to-initiate" ;;
     bars:--decimals) words="1 2 3 4 5 6 7 8 9 10 11 12" ;;
     sweep:--rule) return ;;
     sweep:--from) return ;;
     sweep:--to) return ;;
     sweep:--step) return ;;
-    sweep:--index) words="deegan-packel public-good banzhaf penrose shapley-shubik" ;;
+    sweep:--index) words="deegan-packel public-good banzhaf penrose shapley-shubik power-to-prevent power-to-initiate" ;;
+    sweep:--format) words="tsv csv latex" ;;
     compare:--same) return ;;
-    compare:--index) words="deegan-packel public-good banzhaf penrose shapley-shubik" ;;
+    compare:--index) words="deegan-packel public-good banzhaf penrose shapley-shubik power-to-prevent power-to-initiate" ;;
+    compare:--format) words="text csv latex" ;;
     esac
     if [[ -z $words && $word == -* ]]; then
         case ${COMP_WORDS[1]} in
@@ -48,8 +50,8 @@ _council_tools() {
         export) words="--help --index --columns --decimals --decimal --game --mark" ;;
         page) words="--help --game --index --source --program" ;;
         bars) words="--help --index --decimals --game" ;;
-        sweep) words="--help --rule --from --to --step --picture --index --program" ;;
-        compare) words="--help --same --game --index" ;;
+        sweep) words="--help --rule --from --to --step --picture --index --all --format --program" ;;
+        compare) words="--help --same --game --index --format" ;;
         esac
     fi
     if [[ -n $words ]]; then

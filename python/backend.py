@@ -2,6 +2,7 @@
 """Makes the Python packages: the wheel, also for pip, and the zipapp council-tools.
 
     backend.py wheel FOLDER PROGRAM LIBRARY     a wheel with the program and libcouncil.so
+    backend.py sdist FOLDER                     the sources, whose wheel runs the program on the PATH
     backend.py zipapp FILE                      council-tools as one file
 
 `pip install ./python` calls `build_wheel` and loads nothing from the network: its wheel has neither
@@ -9,11 +10,13 @@ of the two, and looks for the program on the PATH. SOURCE_DATE_EPOCH sets the ti
 two packages of the same files are the same bytes. It needs only the standard library.
 """
 import base64
+import gzip
 import hashlib
 import io
 import os
 import re
 import sys
+import tarfile
 import time
 import zipfile
 
@@ -63,15 +66,26 @@ def write_zip(file, its):
             out.writestr(entry, data)
 
 
+def read_lists():
+    """Returns the keywords, the classifiers and the URLs of pyproject.toml."""
+    text = read(f"{HERE}/pyproject.toml").decode("utf-8")
+    lists = [re.findall('"(.*?)"', re.search(rf"^{it} = \[(.*?)\]", text, re.M | re.S)[1]) for it in ("keywords", "classifiers")]
+    return *lists, re.findall('^([A-Z][a-z]+) = "(.*)"$', text, re.M)
+
+
 def make_metadata(project):
     """Returns the file METADATA."""
+    keywords, classifiers, urls = read_lists()
     head = [
         "Metadata-Version: 2.1",
         f"Name: {project['name']}",
         f"Version: {project['version']}",
         f"Summary: {project['description']}",
-        "Author: The authors of council",
+        "Author: The project council",
         "License: MIT OR Apache-2.0",
+        f"Keywords: {','.join(keywords)}",
+        *(f"Classifier: {it}" for it in classifiers),
+        *(f"Project-URL: {name}, {url}" for name, url in urls),
         f"Requires-Python: {project['requires-python']}",
         "Description-Content-Type: text/markdown",
     ]
@@ -89,9 +103,7 @@ def make_wheel(folder, tag, more=()):
     pure = "false" if more else "true"
     its.append((f"{info}/WHEEL", f"Wheel-Version: 1.0\nGenerator: council\nRoot-Is-Purelib: {pure}\nTag: {tag}\n".encode(), 0o644))
     its.append((f"{info}/entry_points.txt", b"[console_scripts]\ncouncil-tools = council.tools:main\n", 0o644))
-    license = f"{HERE}/../LICENSE"
-    if os.path.isfile(license):
-        its.append((f"{info}/LICENSE", read(license), 0o644))
+    its += [(f"{info}/LICENSE", data, 0o644) for data in read_license()]
     record = []
     for path, data, _ in sorted(its):
         digest = base64.urlsafe_b64encode(hashlib.sha256(data).digest()).rstrip(b"=").decode()
@@ -107,9 +119,24 @@ def build_wheel(wheel_directory, config_settings=None, metadata_directory=None):
     return make_wheel(wheel_directory, "py3-none-any")
 
 
+def read_license():
+    """Returns the license of a clone or of a source package, in a list of at most one."""
+    return [read(it) for it in (f"{HERE}/LICENSE", f"{HERE}/../LICENSE") if os.path.isfile(it)][:1]
+
+
 def build_sdist(sdist_directory, config_settings=None):
-    """Refuses: a clone has the sources."""
-    raise NotImplementedError("the sources of this package are the folder python of a clone")
+    """Builds a source package for pip, whose wheel is that of `build_wheel`."""
+    project = read_project()
+    name = f"{project['name']}-{project['version']}"
+    its = [("PKG-INFO", make_metadata(project)), *(("LICENSE", it) for it in read_license())]
+    its += [(it, read(f"{HERE}/{it}")) for it in ("README.md", "backend.py", "pyproject.toml")]
+    its += [(f"src/{path}", data) for path, data in list_sources()]
+    with open(os.path.join(sdist_directory, f"{name}.tar.gz"), "wb") as file, gzip.GzipFile("", "wb", 9, file, 0) as out, tarfile.open(None, "w", out, format=tarfile.PAX_FORMAT) as tar:
+        for path, data in sorted(its):
+            entry = tarfile.TarInfo(f"{name}/{path}")
+            entry.size, entry.mtime = len(data), int(os.environ.get("SOURCE_DATE_EPOCH", 0))
+            tar.addfile(entry, io.BytesIO(data))
+    return f"{name}.tar.gz"
 
 
 def make_zipapp(path):
@@ -124,6 +151,8 @@ def make_zipapp(path):
 def main(words):
     if len(words) == 4 and words[0] == "wheel":
         print(make_wheel(words[1], PLATFORM, [("council", read(words[2])), ("libcouncil.so", read(words[3]))]))
+    elif len(words) == 2 and words[0] == "sdist":
+        print(build_sdist(words[1]))
     elif len(words) == 2 and words[0] == "zipapp":
         make_zipapp(words[1])
     else:

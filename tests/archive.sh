@@ -42,8 +42,8 @@ for command in cut find python3; do
     refused "no archive without $command" 1 "the command $command was not found"
 done
 if (cd "$temp/one" && sha256sum -c SHA256SUMS >/dev/null 2>&1); then ok "SHA256SUMS"; else failed "SHA256SUMS" "$(cat "$temp/one/SHA256SUMS")"; fi
-if tar tvzf "$archive" | grep -vqE '^(drwxr-xr-x|-rwxr-xr-x|-rw-r--r--) 0/0 '; then
-    failed "owners and modes in the archive" "$(tar tvzf "$archive" | grep -vE '^(drwxr-xr-x|-rwxr-xr-x|-rw-r--r--) 0/0 ' | head -n 1)"
+if tar tvzf "$archive" | grep -vqE '^(drwxr-xr-x|-rwxr-xr-x|-rw-r--r--|lrwxrwxrwx) 0/0 '; then
+    failed "owners and modes in the archive" "$(tar tvzf "$archive" | grep -vE '^(drwxr-xr-x|-rwxr-xr-x|-rw-r--r--|lrwxrwxrwx) 0/0 ' | head -n 1)"
 else
     ok "owners and modes in the archive"
 fi

@@ -52,7 +52,7 @@ if needs bash "completions/council-tools.bash completes"; then
         completed council-tools sw; completed council-tools bars --g; completed council-tools sweep --index p
         completed council-tools export j; completed council-tools bars --game examples/board.to' \
         bash "$top/completions/council-tools.bash" "$top" >"$temp/out" 2>"$temp/err"
-    if [ "$(tr '\n' ' ' <"$temp/out")" = "sweep --game public-good penrose json examples/board.toml " ] && [ ! -s "$temp/err" ]; then
+    if [ "$(tr '\n' ' ' <"$temp/out")" = "sweep --game public-good penrose power-to-prevent power-to-initiate json examples/board.toml " ] && [ ! -s "$temp/err" ]; then
         ok "completions/council-tools.bash completes"
     else
         failed "completions/council-tools.bash completes" "$(cat "$temp/out" "$temp/err" | tr '\n' ' ')"

@@ -40,6 +40,8 @@ if needs cc "from C" "from threads of C" "from C++"; then
     name="a shared object is linked"
     if "$top/tools/shared.sh" "$library" "$temp/libcouncil.so" 2>"$temp/cc"; then
         ok "$name"
+        # as an installed library, which the loader looks for by its soname
+        ln -s libcouncil.so "$temp/libcouncil.so.1"
         name="it exports the calls of council.h"
         calls=$(nm -D --defined-only "$temp/libcouncil.so" | grep -v ' w ' | sed 's/.* //' | sort | tr '\n' ' ')
         declared=$(sed -n 's/^[a-z0-9_]* \(council_[a-z_]*\)(.*/\1/p' "$top/include/council.h" | sort | tr '\n' ' ')

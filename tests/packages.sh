@@ -17,6 +17,7 @@ types() {
 }
 types "python/src and tools/tool_pages.py" --strict python/src/council tools/tool_pages.py
 types "python/src on Python 3.9" --strict --python-version 3.9 python/src/council
+! /usr/bin/python3 -c 'import numpy' 2>/dev/null || types "calls with arrays" --strict python/tests/typed.py
 types "python/backend.py and tools" python/backend.py tools/build.py tools/reference.py
 
 if needs python3 "the package for Python" "the package for R"; then

@@ -74,11 +74,13 @@ with tempfile.TemporaryDirectory() as folder:
 missing, count = [], 0
 for name in sorted(pages):
     crate = name.removesuffix(".html")
-    if crate not in ("index", "laws"):
+    if crate not in ("index", "laws", "python"):
         items = wanted(crate)
         count += len(items)
         missing += [f"{crate}: {it}" for it in sorted(items - pages[name].anchors)]
 report(not missing and count > 150, "tools/reference.py: every public item has its place", f"of {count}, not {missing}")
+lacking = {it for it in ("report", "Game.sweep", "Report.to_frame", "Refused", "format_game_file") if it not in pages["python.html"].anchors}
+report(not lacking, "tools/reference.py: the package for Python has its page", sorted(lacking))
 dead = []
 for name, page in pages.items():
     for link in page.links:

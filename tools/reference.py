@@ -3,12 +3,13 @@
 
     tools/reference.py FOLDER
 
-A page for each library, one of all laws, and an index with a search that needs no server. On a page stand the public items with their doc
+A page for each library, one of all laws, one of the package for Python, and an index with a search that needs no server. On a page stand the public items with their doc
 comments, signatures and clauses, as the sources have them, and then the definitions of specs/ that clauses may name. Each
 name of a clause or a definition is linked to its text. What is of the standard library has no link.
 """
 import glob
 import html
+import inspect
 import json
 import os
 import re
@@ -258,7 +259,7 @@ def index(crates):
         rows.append(f'<li><a href="{crate}.html">{crate}</a>: {html.escape(first[1].replace(chr(10) + "//! ", " ") if first else "")}</li>')
     listed = json.dumps(sorted(names), ensure_ascii=False).replace("<", "\\u003c")
     body = (f'<h1>Libraries of council</h1><p><input id="search" placeholder="A call, a type or a definition" aria-label="Search"></p><ul id="found"></ul>'
-            f'<ul>{"".join(rows)}<li><a href="laws.html">All laws</a></li></ul>'
+            f'<ul>{"".join(rows)}<li><a href="laws.html">All laws</a></li><li><a href="python.html">The package for Python</a></li></ul>'
             f"<script>const ITEMS={listed};{SEARCH}</script>")
     return page("Libraries of council", body)
 
@@ -274,13 +275,39 @@ def laws(crates, links):
     return page("Laws", "\n".join(out))
 
 
+def python():
+    """The package for Python: what it exports, by signatures and docstrings."""
+    sys.dont_write_bytecode = True
+    sys.path.insert(0, f"{TOP}/python/src")
+    import council
+
+    def write(name, it, kept=""):
+        # examples and exceptions keep their lines
+        blocks = (inspect.getdoc(it) or "").split("\n\n")
+        text = "\n\n".join(f"```\n{block}\n```" if block.startswith((">>>", "Raises:")) else block for block in blocks)
+        return f'<h3 id="{name}">{name}</h3>{kept}{prose(text.split(chr(10)))}'
+
+    def sign(name, it):
+        signature = re.sub("(: |-> )'(.*?)'", r"\1\2", str(inspect.signature(it)))
+        return f"<pre>{html.escape(name + signature)}</pre>"
+
+    out = [f'<p><a href="index.html">All libraries</a></p><h1>The package for Python</h1>{write("council", council)}']
+    for name in council.__all__:
+        it = getattr(council, name)
+        out.append(write(name, it, sign(name, it) if name == "Game" or not inspect.isclass(it) else ""))
+        for key, method in vars(it).items() if inspect.isclass(it) else ():
+            if not key.startswith("_") and inspect.isfunction(method):
+                out.append(write(f"{name}.{key}", method, sign(f"{name}.{key}", method)))
+    return page("The package for Python", "\n".join(out))
+
+
 def main():
     if len(sys.argv) != 2 or sys.argv[1].startswith("-"):
         sys.exit("usage: tools/reference.py FOLDER")
     crates = libraries()
     links = Links(crates)
     os.makedirs(sys.argv[1], exist_ok=True)
-    for name, text in [("index", index(crates)), ("laws", laws(crates, links)), *((it, page_of(it, links)) for it in crates)]:
+    for name, text in [("index", index(crates)), ("laws", laws(crates, links)), ("python", python()), *((it, page_of(it, links)) for it in crates)]:
         with open(f"{sys.argv[1]}/{name}.html", "w", encoding="utf-8") as it:
             it.write(text)
 

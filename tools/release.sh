@@ -93,6 +93,7 @@ if [ -n "$library" ]; then
     cp "$library" "$folder/lib/libcouncil.a"
     cp "$top/include/council.h" "$folder/include/council.h"
     "$top/tools/shared.sh" "$library" "$folder/lib/libcouncil.so"
+    ln -s libcouncil.so "$folder/lib/libcouncil.so.1"
     sed "s/@VERSION@/$version/" "$top/tools/archive/council.pc" >"$folder/lib/pkgconfig/council.pc"
     wheel=$(python3 "$top/python/backend.py" wheel "$temp" "$program" "$folder/lib/libcouncil.so")
     case $wheel in

@@ -5,6 +5,7 @@ import os
 import sys
 import tempfile
 import threading
+import time
 import unittest
 import warnings
 from fractions import Fraction
@@ -20,18 +21,20 @@ from council.reports import Fault, Report
 
 
 def make_library(status, data):
-    """Returns a library whose calls answer so, and a list of what they were asked."""
+    """Returns a library whose calls for reports answer so, and a list of what they were asked."""
     asked = []
 
-    def call(text, size, options, *only_and_place):
-        *only, place, room, length = only_and_place
-        asked.append((text[: size.value], [getattr(options._obj, it) for it, _ in library.Options._fields_], room.value, threading.current_thread().daemon, *(it.value for it in only)))
-        ctypes.memmove(place, data, min(len(data), room.value))
-        length._obj.value = len(data)
-        return status
+    def call(text, size, options, words, place, room, length):
+        asked.append((text[: size.value], {it: getattr(options._obj, it) for it, _ in library.Options._fields_[1:-1] if getattr(options._obj, it)}, room.value))
+        assert (options._obj.size, words.value) == (128, 16)
+        now = status if isinstance(status, int) else status.pop(0)
+        answer = b"too long" if now == library.TOO_LONG else data
+        ctypes.memmove(place, answer, min(len(answer), room.value))
+        length._obj.value = len(answer)
+        return now
 
     made = library.Library.__new__(library.Library)
-    made._calls = mock.Mock(council_report=call, council_swings_report=call)
+    made._calls = mock.Mock(council_report_raw=call)
     return made, asked
 
 
@@ -44,53 +47,74 @@ class Engines(unittest.TestCase):
 
     def test_what_the_library_is_asked(self):
         with mock.patch.object(Report, "from_text", lambda it: it):
-            for more, options in [
-                ({}, [0, True, False, False, False]), ({"only": False}, [0, True, False, False, False]), ({"only": True}, [0, False, False, False, False]),
-            ]:
+            for more, options in ({}, {"tally": 1}), ({"only": False}, {"tally": 1, "swings": 1}), ({"only": True}, {"only_swings": 1}):
                 made, asked = make_library(0, b"x" * 65536)
                 self.assertEqual(self.compute(made, b"[1; 1]", **more), "x" * 65536)
-                self.assertEqual(asked, [(b"[1; 1]", options, 65536, True, *more.values())])
+                self.assertEqual(asked, [(b"[1; 1]", options, 65536)])
                 with self.assertRaises(council.NotFound):
                     self.compute(made, b"[1; 1]", program="no-such-program")
-        # of a list only its masks, if there is room for them
+        # a list is found once: its masks, or if it takes long to count it the lines of a report
         made, asked = make_library(0, LISTED.encode())
-        for answer, wanted in ([3, 5], [(("1", "2"), (99,)), (("1", "3"), (51,))]), (library.NoAnswer(), None):
+        for answer, wanted in ([3, 5], [(("1", "2"), (99,)), (("1", "3"), (51,))]), (library.NoAnswer(5, "out of memory"), None):
             made.list_masks = mock.Mock(side_effect=[answer])
             with contextlib.nullcontext() if wanted else self.assertRaises(MemoryError):
                 self.assertEqual(self.compute(made, b"[1; 1]", listed=True, most=7).coalitions, wanted)
-            made.list_masks.assert_called_once_with((51,), [(50, 49, 1)], 2)
-        self.assertEqual(asked[0][1], [7, False, False, False, False])
-        # arrays hold no ways: of such a game the list is a text, for which there is room
+            made.list_masks.assert_called_once_with((51,), [(50, 49, 1)], [[1]], 2)
+        self.assertEqual(asked[0][1], {"tally": 1, "visits": engine.VISITS})
+        with self.assertRaisesRegex(council.TooMany, "there are 2, and coalitions=True lists at most 1"):
+            self.compute(made, b"[1; 1]", listed=True, most=1)
         long = "notation\t[1; 1]\n" * 5000 + BY_WAYS
-        made, asked = make_library(0, long.encode())
-        made.list_masks = mock.Mock(side_effect=AssertionError)
-        with mock.patch.object(engine, "find_library", lambda: made):
-            self.assertEqual(council.report(game="[1; 1]", coalitions=True, most=7).coalitions, Report.from_text(BY_WAYS).coalitions)
-        self.assertEqual([it[1:3] for it in asked], [([7, False, its, False, False], room) for its in (False, True) for room in (65536, len(long))])
-        made.list_masks.assert_not_called()
+        made, asked = make_library([library.TOO_LONG, 0, 0], long.encode())
+        self.assertEqual(self.compute(made, b"[1; 1]", listed=True, most=7, only=False).coalitions, Report.from_text(BY_WAYS).coalitions)
+        self.assertEqual([it[1:] for it in asked], [({"tally": 1, "visits": engine.VISITS, "swings": 1}, 65536), ({"most": 7, "list": 1, "swings": 1}, 65536), ({"most": 7, "list": 1, "swings": 1}, len(long))])
 
     def test_numbers_and_masks_of_the_library(self):
         made, rooms = make_library(0, b"")[0], []
 
         def call(*words):
-            summary = words[-1]._obj
-            rooms.append([it.value for it in words[:-1] if not isinstance(it, ctypes.Array)])
-            summary.rule, summary.coalitions = rule, 1
+            summary, options = words[-1], words[4]._obj
+            rooms.append(([it.value for it in words[:-1] if isinstance(it, library.Size)], options.swings, list(options.ways)))
+            self.assertEqual(summary[:2], [544, 288])
+            summary[library.RULE], summary[library.COALITIONS] = rule, 1
             return status
 
-        made._calls.council_list = made._calls.council_indices = call
+        def explain(status, summary, text, room, length):
+            text.value, length._obj.value = b"bad", 3
+
+        made._calls.council_list_raw = made._calls.council_indices_raw = call
+        made._calls.council_explain = explain
         status, rule = 0, 0
         # no more room than there can be coalitions
         for most, room in (9, 6), (6, 6), (5, 5):
-            self.assertEqual(list(made.list_masks([2], [[1] * 4], most)), [0])
-            self.assertEqual(rooms.pop(), [1, 4, 4, room])
-        summary, numbers = made.count([2, 3], [[1] * 4, [2] * 4], True)
-        self.assertEqual((summary.coalitions, len(numbers), rooms.pop()), (1, 4, [2, 8, True, 0, 4]))
+            self.assertEqual(list(made.list_masks([2], [[1] * 4], [[1, 2], [4]], most)), [0])
+            self.assertEqual(rooms.pop(), ([1, 4, 16, 4, room], 0, [3, 8, 0, 0, 0, 0]))
+        summary, numbers = made.count([2, 3], [[1] * 4, [2] * 4], None, swings=1)
+        self.assertEqual((summary[library.COALITIONS], numbers, rooms.pop()), (1, [[0] * 36] * 4, ([2, 8, 16, 4], 1, [0] * 6)))
         for status, rule, wanted in (3, 2, 2), (4, 0, None), (5, 0, None):
-            for ask in lambda: made.count([2], [[1]], False), lambda: made.list_masks([2], [[1]], 1):
+            for ask in lambda: made.count([2], [[1]], None), lambda: made.list_masks([2], [[1]], None, 1):
                 with self.assertRaises(library.NoAnswer) as caught:
                     ask()
-                self.assertEqual(caught.exception.rule, wanted)
+                self.assertEqual((caught.exception.status, caught.exception.fault, caught.exception.rule), (status, "bad", wanted))
+
+    def test_a_call_that_takes_long(self):
+        """The flag that it watches ends it, and it begins again in a thread; in another thread than the main one it
+        never does."""
+        made, seen = make_library(0, b"")[0], []
+
+        def call(stop):
+            watched = made._calls.council_watch.call_args[0][0]._obj
+            seen.append(threading.current_thread() is threading.main_thread())
+            while len(seen) == 1 and not watched.value:
+                time.sleep(0.001)
+            return 5 if watched.value else 7
+
+        self.assertEqual((made._run(call, 0), seen), (7, [True, False]))
+        with mock.patch.object(made, "_run_aside", mock.Mock(side_effect=AssertionError)):
+            self.assertEqual((made._run(call, 0), made._run(lambda: 5)), (7, 5))
+            aside = threading.Thread(target=lambda: seen.append(made._run(lambda: 9)))
+            aside.start()
+            aside.join()
+        self.assertEqual(seen, [True, False, True, 9])
 
     def test_what_the_library_answers(self):
         real, folder = find_program(), tempfile.TemporaryDirectory()
@@ -100,17 +124,18 @@ class Engines(unittest.TestCase):
         os.chmod(broken, 0o755)
         for status, data, kind, line in [
             (3, b"bad bracket text", council.Refused, 1), (4, b"too many minimal winning coalitions", council.TooMany, None), (1, b"no file", council.Refused, None),
-            (6, b"too many states for the swings", council.TooMany, 0), (5, b"out of memory", MemoryError, 0), (5, b"no thread", RuntimeError, 0), (2, b"a word", RuntimeError, 0),
+            (6, b"too many states for the swings", council.TooMany, None), (5, b"out of memory", MemoryError, 0), (5, b"no thread", RuntimeError, 0), (2, b"a word", RuntimeError, 0),
         ]:
-            # the program says where and why, if there is one, and it runs
+            # the program says where and why a file has a fault, if there is one, and it runs
             for program in (real, "", broken):
                 with mock.patch.dict(os.environ, COUNCIL_PROGRAM=program), self.assertRaises(kind) as caught:
-                    self.compute(make_library(status, data)[0], b"[1; 1, 1,, 1]" if status == 3 else b"[2; 1, 1, 1, 1]", listed=True, most=5)
+                    self.compute(make_library(status, data)[0], b"[1; 1, 1,, 1]", listed=True, most=5)
                 it, text = caught.exception, data.decode()
                 self.assertEqual((type(it), str(it).split("\n")[0]), (kind, text))
                 if line != 0:
-                    explained = program == real and status != 1
-                    self.assertEqual((it.fault, it.status, bool(it.explanation), it.line), (text, status, explained, line if explained else None))
+                    explained = program == real and status == 3
+                    self.assertEqual((it.fault, it.status, it.explanation == "", it.line), (text, status, not explained and status in (1, 3), line if explained else None))
+                    self.assertNotIn("--", it.explanation)
         self.assertEqual([council.Refused(3, "bad", it).line for it in ("line 3, column 15: x", "line 12: x", "the line 1: x", "line 1 of a game", "")], [3, 12, None, None, None])
         self.assertEqual((str(council.Refused(3, "bad")), str(council.Refused(3, "bad", "a\nb"))), ("bad", "bad\na\nb"))
 
@@ -132,7 +157,7 @@ class Engines(unittest.TestCase):
             self.assertEqual(compute('echo "$@"', only=True), "game\n--explain --only-swings\n")
             for script, kind, text in [
                 ("exit 7", RuntimeError, f"{path} ended with status 7"), ("kill -9 $$", RuntimeError, f"{path} ended with status -9"), ("echo council: no thread >&2; exit 5", RuntimeError, "no thread"),
-                ("echo council: out of memory >&2; exit 5", MemoryError, "out of memory"), ("echo a fault >&2; exit 1", council.Refused, "a fault"), ("exit 4", council.TooMany, f"{path} ended with status 4"),
+                ("echo council: out of memory >&2; exit 5", MemoryError, "out of memory"), ("echo a fault >&2; exit 1", council.Refused, "a fault"), ("exit 4", council.TooMany, f"{path} ended with status 4\ncoalitions=True lists at most 4000000: without it they are counted, any number of them"),
                 ("printf 'council: bad\\n  line 3: \\377\\n  why\\n' >&2; exit 3", council.Refused, "bad\nline 3: \ufffd\nwhy"),
             ]:
                 with self.assertRaises(kind, msg=script) as caught:
@@ -194,10 +219,10 @@ class Engines(unittest.TestCase):
                 # (it is no library, which is as if it were for another system)
                 if "COUNCIL_LIBRARY" not in more:
                     self.assertIsNone(find_library())
-                with mock.patch.object(finding, "load_library", lambda path: path):
+                with mock.patch.object(finding, "Library", lambda path: path), mock.patch.object(finding, "load_library", finding.load_library.__wrapped__):
                     self.assertEqual(find_library(), wanted and f"{top}/{wanted}")
         # as council.h has it
-        self.assertEqual([ctypes.sizeof(it) for it in (library.Options, library.Ratio, library.Numbers, library.Summary)], [8, 32, 176, 416])
+        self.assertEqual(ctypes.sizeof(library.Options), 128)
         if Path(finding.__file__).resolve().parent == TOP / "python/src/council" and (TOP / "tools/built.sh").is_file():
             self.assertEqual((finding.HOME, finding.CLONE), (str(TOP / "python/src/council"), str(TOP)))
         with tempfile.TemporaryDirectory() as folder, mock.patch.object(finding, "__file__", f"{folder}/a.pyz/council/finding.py"):

@@ -1,5 +1,7 @@
 #!/usr/bin/env python3
 """council-tools compare: reports side by side, differences, and names that look like one."""
+import csv
+import io
 import os
 import subprocess
 import unicodedata
@@ -10,6 +12,7 @@ from council.decimals import cut_off
 from council.game import write_game
 from council.reports import Report
 from council.tools.compare import is_near
+from council.tools.formats import escape_latex
 
 
 def game(name, *names):
@@ -26,11 +29,11 @@ def measure_width(text):
 
 class Compare(Tests):
     def test_each_cell(self):
-        """Weights and indices are those of the reports, and each difference is that of the decimals."""
+        """Weights and indices are those of the reports, and each difference is that of the fractions."""
         for words in FORMS:
             paths = [put(f"{it}.tsv", report(open(f"{TOP}/examples/{it}.toml", encoding="utf-8").read(), *words)) for it in ("eec-1958", "ec-1973", "de-bundesrat")]
-            lines = self.check_cells(paths, [], 5 if words == ["--swings"] else 2 if not words else 3)
-            counts = ["minimal winning coalitions: 4"] * ("--only-swings" not in words) + ["winning coalitions: 14"] * bool(words)
+            lines = self.check_cells(paths, [], 7 if words == ["--swings"] else 2 if not words else 5)
+            counts = ["minimal winning coalitions: 4"] * ("--only-swings" not in words) + ["winning coalitions: 14", "power to act: 0.218750"] * bool(words)
             self.assertEqual(lines[0], f"1  Council of the European Economic Community, 1958: 12 of 17, {', '.join(counts)}")
         # of reports of two forms, what both have
         self.check_cells([paths[0], *(put(f"{at}.tsv", report("[5; 4, 3, 2]", "--swings")) for at in range(2))], ["--index", "penrose"], 1)
@@ -42,16 +45,24 @@ class Compare(Tests):
         made = [Report.read(open(it, encoding="utf-8")) for it in paths]
         indices = [it for it in made[0].indices if not words or it.word() in words]
         self.assertEqual(len(indices), number)
-        names = list(dict.fromkeys(it.name for one in made for it in one.members))
+        names, rows = list(dict.fromkeys(it.name for one in made for it in one.members)), []
         for name, line in zip(names, lines[7:]):
             cells, members = [], [next((it for it in one.members if it.name == name), None) for one in made]
             for at, it in enumerate(members):
                 cells += ["/".join(f"{weight:,}" for weight in it.weights), *(cut_off(index.find(it)) for index in indices)] if it else ["-"] * (number + 1)
                 if at:
-                    pairs = [(cut_off(index.find(it)), cut_off(index.find(members[0]))) for index in indices] if it and members[0] else []
-                    cells += [f"{float(Fraction(one) - Fraction(other)):+.6f}".replace("+0.000000", "0.000000") for one, other in pairs] or ["-"] * number
+                    differences = [index.find(it) - index.find(members[0]) for index in indices] if it and members[0] else []
+                    cells += [("+" if it > 0 else "-") * (abs(it) >= Fraction(1, 10**6)) + cut_off(abs(it)) for it in differences] or ["-"] * number
             self.assertEqual(line.split(), [*name.split(), *cells])
+            rows.append([name, *cells])
         self.assertEqual((len(lines), len({measure_width(it) for it in lines[5:]})), (7 + len(names), 1))
+        # the same as CSV and LaTeX
+        found = list(csv.reader(io.StringIO(Run("compare", *paths, *words, "--format", "csv").out)))
+        self.assertEqual(found[1:], [["" if it == "-" else it.replace(",", "") for it in row] for row in rows])
+        briefs = [f"{it.name} {at}" for at in ("1", "2", "2-1") for it in indices]
+        self.assertEqual(found[0][: 3 + 3 * number], ["name", "weight 1", *briefs[:number], "weight 2", *briefs[number:]])
+        text = Run("compare", *paths, *words, "--format", "latex").out
+        self.assertEqual([line[:-3].split(" & ") for line in text[text.index("\\midrule") : text.index("\\bottomrule")].split("\n")[1:-1]], [[escape_latex(it) for it in row] for row in rows])
         return lines
 
     def test_units(self):

@@ -42,12 +42,15 @@ class Package(Tests):
         """It then runs the program on the PATH, and has council-tools."""
         shutil.copytree(f"{TOP}/python", f"{TEMP}/python", ignore=shutil.ignore_patterns("__pycache__"))
         run(sys.executable, "-m", "venv", f"{TEMP}/venv")
-        ran = run(f"{TEMP}/venv/bin/pip", "install", "--no-index", "-q", f"{TEMP}/python", env=CLEAN)
-        self.assertEqual(ran.returncode, 0, ran.stderr)
+        sources = run(sys.executable, f"{TOP}/python/backend.py", "sdist", TEMP).stdout.strip()
         os.mkdir(f"{TEMP}/bin")
         os.symlink(PROGRAM, f"{TEMP}/bin/council")
-        code = "import council; print(council.report(51, [50, 49, 1]).members[0].public_good_exact)"
-        self.assertEqual(run(f"{TEMP}/venv/bin/python", "-c", code, cwd=TEMP, env={**CLEAN, "PATH": f"{TEMP}/bin:{CLEAN['PATH']}"}).stdout, "1/2\n")
+        code = "import council, importlib.metadata as its; print(council.report(51, [50, 49, 1])[0].public_good_exact, len(its.metadata('council').get_all('Classifier')) > 5, *its.metadata('council').get_all('Project-URL'))"
+        for package in f"{TEMP}/python", f"{TEMP}/{sources}":
+            ran = run(f"{TEMP}/venv/bin/pip", "install", "--no-index", "--force-reinstall", "-q", package, env=CLEAN)
+            self.assertEqual(ran.returncode, 0, ran.stderr)
+            said = run(f"{TEMP}/venv/bin/python", "-c", code, cwd=TEMP, env={**CLEAN, "PATH": f"{TEMP}/bin:{CLEAN['PATH']}"}).stdout
+            self.assertEqual(said, "1/2 True Homepage, https://council.example.org/\n")
         self.assertTrue(run(f"{TEMP}/venv/bin/council-tools", "export", "csv", f"{TOP}/examples/board.tsv", env=CLEAN).stdout.startswith("name,weight,"))
 
     def test_a_clone_that_was_never_built(self):

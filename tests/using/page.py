@@ -104,10 +104,10 @@ class Pages(Tests):
         self.assertFalse(re.search("coalitions<|About the data|Source of the data|At most half|<p></p>|<ul></ul>", run.out))
         run_of_low = make(input=report("[5; 4, 4, 2]"))
         self.assertTrue("At most half of the total wins" in run_of_low.out and f"the quota 5 is {LOW}, 10, so two" in run_of_low.err)
-        readme = " ".join(open(f"{TOP}/README.md", encoding="utf-8").read().split())
+        readme = " ".join(it for path in ("README.md", "docs/DEFINITIONS.md") for it in open(f"{TOP}/{path}", encoding="utf-8").read().split())
         sources = re.findall("<li>(.*?)</li>", run.out[run.out.index("<footer>"):])
         sources += re.findall("<li>(.*?)</li>", make(input=report("[5; 4, 4, 2]", "--only-swings")).out.split("<footer>")[1])
-        self.assertEqual((len(sources), [it for it in sources if re.sub("</?i>", "*", it) not in readme]), (6, []))
+        self.assertEqual((len(sources), [it for it in sources if re.sub("</?i>", "*", it) not in readme]), (7, []))
         script = re.search(r"<script>(.*)</script>", run.out, re.S)[1]
         hashed = base64.b64encode(hashlib.sha256(script.encode()).digest()).decode()
         self.assertIn(f"content=\"default-src 'none'; style-src 'unsafe-inline'; script-src 'sha256-{hashed}'\">", run.out)

@@ -39,11 +39,16 @@ close(out)
 
 def check(locale):
     """Runs the package's own check, which also installs it; returns its last words."""
-    words = {"LC_ALL": locale, "COUNCIL_PROGRAM": PROGRAM, "_R_CHECK_FORCE_SUGGESTS_": "false"}
+    # (neither needs a network)
+    words = {"LC_ALL": locale, "COUNCIL_PROGRAM": PROGRAM, "_R_CHECK_CRAN_INCOMING_REMOTE_": "false", "_R_CHECK_SYSTEM_CLOCK_": "false"}
     env = {**os.environ, **words, "PATH": os.path.dirname(PROGRAM) + ":" + os.environ["PATH"]}
-    subprocess.run(["R", "CMD", "build", f"{TOP}/r/council"], cwd=TEMP, env=env, capture_output=True)
+    static = f"{TOP}/crates/council_c/out/libcouncil.a"
+    if os.path.exists(static) and not subprocess.run([f"{TOP}/tools/shared.sh", static, f"{TEMP}/libcouncil.so"], capture_output=True).returncode:
+        env["COUNCIL_LIBRARY"] = f"{TEMP}/libcouncil.so"
+    has_latex = all(map(shutil.which, ("pdflatex", "qpdf", "gs")))
+    subprocess.run(["R", "CMD", "build", *([] if has_latex else ["--no-build-vignettes"]), f"{TOP}/r/council"], cwd=TEMP, env=env, capture_output=True)
     made = [it for it in os.listdir(TEMP) if it.endswith(".tar.gz")]
-    ran = subprocess.run(["R", "CMD", "check", "--no-manual", *made], cwd=TEMP, env=env, capture_output=True)
+    ran = subprocess.run(["R", "CMD", "check", "--as-cran", "--no-manual", *([] if has_latex else ["--ignore-vignettes"]), *made], cwd=TEMP, env=env, capture_output=True)
     return ran.stdout.decode("utf-8", "replace")
 
 
@@ -71,7 +76,7 @@ def is_close(text, exact):
 class Package(Tests):
     def test_R_CMD_check(self):
         told = check("C.UTF-8")
-        self.assertRegex((re.findall(r"^Status: (.*)$", told, re.M) or ["none"])[0], r"\A(OK|\d+ NOTEs?)\Z", told[-300:])
+        self.assertEqual((re.findall(r"^Status: (.*)$", told, re.M) or ["none"])[0], "OK", re.findall(r"^\* .* \.\.\. (?!OK).*(?:\n(?!\*).*)*", told, re.M))
 
     def test_games(self):
         """In any locale it reads names and numbers as they are."""

@@ -1,5 +1,6 @@
 #!/usr/bin/env python3
 """council-tools sweep: a rule's quota from one number to another, its table and its picture."""
+import csv
 import io
 import itertools
 import os
@@ -19,6 +20,7 @@ from council.game import write_game
 from council.reports import Report
 from council.tools.command import find_index
 from council.tools.drawing import measure
+from council.tools.formats import escape_latex
 from council.tools.sweep import Progress, spread
 
 COUNCIL = f"{TOP}/examples/eec-1958.toml"
@@ -52,6 +54,17 @@ class Sweeps(Tests):
                 wanted.append([str(quota), member.name, *map(cut_off, its), *map(write_fraction, its)])
                 lines.setdefault(at, []).append(find_index(kind).find(member))
         self.assertEqual(rows(run), wanted)
+        # the same as CSV, and as LaTeX without fractions
+        data = write_game(names, [quota for quota, _ in rules], list(zip(*(it for _, it in rules))), "T", ways=ways)
+        found = list(csv.reader(io.StringIO(sweep("-", *words, "--format", "csv", input=data).out)))
+        self.assertEqual([[it.lstrip("'") for it in row] for row in found], [["quota", "name", *group.columns()[1:]], *([it.lstrip("'") for it in row] for row in wanted)])
+        text = sweep("-", *words, "--format", "latex", input=data).out
+        text = text[text.index("\\midrule") : text.index("\\bottomrule")].split("\n")[1:-1]
+        self.assertEqual([line[:-3].split(" & ") for line in text], [[quota, escape_latex(name), *its[: len(group.indices)]] for quota, name, *its in wanted])
+        # all indices at once
+        found = [it.split("\t") for it in sweep("-", *words, "--all", input=data).out.split("\n")]
+        at = found[0].index(group.columns()[1])
+        self.assertEqual((found[0], [[*row[:2], *row[at : at + len(wanted[0]) - 2]] for row in found[1:-1]]), (["quota", "name", *(it for of in (MINIMAL, SWINGS) for it in of.columns()[1:])], wanted))
         root = ElementTree.parse(f"{TEMP}/a.svg").getroot()
         drawn = [[tuple(map(float, point.split(","))) for point in it.get("points").split()] for it in root.findall("{*}polyline")]
         different = list(dict.fromkeys(map(tuple, lines.values())))
@@ -71,7 +84,7 @@ class Sweeps(Tests):
             rules = [[rng.randint(1, 9) for _ in names] for _ in range(rng.randint(1, 3))]
             rules = [(rng.randint(1, sum(it)), it) for it in rules]
             rule = rng.randrange(len(rules))
-            first, step = rng.randint(1, sum(rules[rule][1])), rng.randint(1, 4)
+            first, step = rng.randint(1, sum(rules[rule][1])), min(rng.randint(1, 4), sum(rules[rule][1]))
             last = first + step * ((sum(rules[rule][1]) - first) // step)
             ways = rng.choice([[], [[at] for at in range(len(rules), 0, -1)]])
             self.check_sweep(names, rules, rule, range(first, last + 1, step), rng.choice([it.word() for it in INDICES]), ways)

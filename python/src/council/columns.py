@@ -18,9 +18,6 @@ class Index(NamedTuple):
     brief: str
     light: str
     dark: str
-    # whether those of all members add up to 1; Penrose's measure is no share of anything
-    adds_up: bool = True
-
     def find(self, member: Member) -> Fraction:
         """Returns the exact index of a member."""
         value: Fraction = getattr(member, self.name + "_exact")
@@ -53,8 +50,10 @@ MINIMAL = Group("minimal", "minimal winning coalitions", "coalitions", "Coalitio
 ))
 SWINGS = Group("winning", "winning coalitions", "swings", "Swings", (
     Index("banzhaf", "Banzhaf", "Banzhaf index", "Bz", "#a8264d", "#f0577f"),
-    Index("penrose", "Penrose", "Penrose's measure (not a share)", "Pm", "#3b3bc0", "#7a7aff", adds_up=False),
+    Index("penrose", "Penrose", "Penrose's measure (not a share)", "Pm", "#3b3bc0", "#7a7aff"),
     Index("shapley_shubik", "Shapley-Shubik", "Shapley-Shubik index", "SS", "#1a7f94", "#45c4d8"),
+    Index("power_to_prevent", "Coleman, to prevent", "Coleman's power to prevent (not a share)", "CP", "#6b7a1f", "#a9b83e"),
+    Index("power_to_initiate", "Coleman, to initiate", "Coleman's power to initiate (not a share)", "CI", "#7a4a2a", "#c08a60"),
 ))
 GROUPS = [MINIMAL, SWINGS]
 INDICES = [index for it in GROUPS for index in it.indices]

@@ -10,11 +10,15 @@ import subprocess
 from contextlib import suppress
 from typing import Optional, Sequence
 
-from .columns import GROUPS
+from .columns import GROUPS, MINIMAL
 from .finding import NotFound, find_library, find_program
-from .library import Library, NoAnswer, Options
-from .members import list_coalitions, make_member
+from .library import ACT, COALITIONS, GAME, STATES, TOO_LONG, TOO_MANY, WINNING, Library, NoAnswer, read_fractions
+from .members import Coalitions, make_member, name_columns
 from .reports import MOST, Report
+from .ways import Ways
+
+# the most visits of a walk that only counts what is to be listed: a second or two
+VISITS = 10_000_000
 
 
 class Refused(ValueError):
@@ -22,8 +26,8 @@ class Refused(ValueError):
 
     `fault` is what is wrong, for example "bad weight of member 2"; `member` is that member, and
     `rule` the rule of the fault, both from 1, or None; `line` is the line of the game file, or
-    None; `explanation` says what stands there and what is allowed, and is empty if no program was
-    found; `status` is the exit status of the program; `game` is the text of the game file.
+    None; `explanation` says what you gave and what is allowed, and of a file is empty if no program
+    was found; `status` is the exit status of the program; `game` is the text of the game file.
     """
 
     def __init__(self, status: int, fault: str, explanation: str = "", game: str = "", rule: Optional[int] = None):
@@ -42,54 +46,93 @@ class TooMany(Refused):
     there is room for when its swings are counted."""
 
 
-def compute(game: bytes, *, listed: bool = False, most: int = MOST, program: Optional[str] = None, only: Optional[bool] = None) -> Report:
+def compute(game: bytes, *, listed: bool = False, most: int = MOST, program: Optional[str] = None, only: Optional[bool] = None, explained: bool = True) -> Report:
     """Returns the report of a game from the bytes of its file.
 
     It counts the coalitions, any number of them; if `listed`, it lists them, at most `most`. If
     `only` is not None, it has the swings, and nothing else if `only` is true. A program that is
-    named is used instead of the library.
+    named is used instead of the library. If `explained`, the program says where the file has a fault.
     """
+    library = None if program else find_library()
+    if library:
+        return ask_library(library, game, listed, most, only, explained)
     words = ["--only-swings"] if only else (["--list", "--most", str(most)] if listed else ["--tally"]) + ["--swings"] * (only is not None)
-    library, told = None if program else find_library(), ""
-    if library is None:
-        status, text, told = run_program(find_program(program), game, words)
-    else:
-        status, text = library.report(game, Options(most=most if listed else 0, tally=not listed and not only), only)
-        if status in (3, 4):
-            with suppress(NotFound, OSError):
-                told = run_program(find_program(), game, words)[2]
-    if status not in (0, 1, 3, 4, 6):
-        raise MemoryError(text) if text == "out of memory" else RuntimeError(text)
-    if status:
-        raise (TooMany if status in (4, 6) else Refused)(status, text, told, game.decode("utf-8", "replace"))
-    made = Report.from_text(text)
-    if library and listed and len(made.ways) > 1:
-        # (arrays hold no ways)
-        status, text = library.report(game, Options(most=most, list=True), only)
-        if status:
-            raise MemoryError(text)
+    status, text, told = run_program(find_program(program), game, words)
+    if not status:
         return Report.from_text(text)
-    if library and listed:
-        try:
-            masks = library.list_masks(made.quotas, list(zip(*(it.weights for it in made.members))), made.minimal or 0)
-        except NoAnswer:
-            raise MemoryError("out of memory") from None
-        made.coalitions = list_coalitions(made.members, masks)
-    return made
+    number = next((int(it) for it in told.split() if it.isdigit()), None) if status == TOO_MANY else None
+    raise refuse(status, text, told, game, most, number)
 
 
-def compute_numbers(library: Library, title: str, names: Sequence[str], quotas: Sequence[int], columns: Sequence[Sequence[int]], swings: bool, most: int) -> Report:
-    """Returns the report of a game without a text, or raises NoAnswer. It has the coalitions if
-    `most` is not 0."""
-    masks = library.list_masks(quotas, columns, most) if most else None
-    summary, numbers = library.count(quotas, columns, swings)
-    counts = {it: number for it, number in zip(GROUPS, (summary.coalitions, summary.winning)) if number}
-    members = []
-    for name, weights, it in zip(names, zip(*columns), numbers):
-        values = {group: (getattr(it, group.column), [getattr(it, index.name).exact() for index in group.indices]) for group in counts}
-        members.append(make_member(name, weights, values))
-    made = Report(title, quotas, counts, members)
-    made.coalitions = None if masks is None else list_coalitions(members, masks)
+def check(game: bytes) -> None:
+    """Raises the fault of a game file, if it has one, and computes nothing."""
+    library = find_library()
+    status, fault = library.report(game, most=1, list=1, visits=1) if library else run_program(find_program(), game, ["--list", "--most", "1"])[:2]
+    if status not in (0, TOO_MANY, TOO_LONG):
+        raise refuse(status, fault, "", game)
+
+
+def ask_library(library: Library, game: bytes, listed: bool, most: int, only: Optional[bool], explained: bool) -> Report:
+    """Returns the report of a game file by the library. Coalitions that are listed are found once:
+    a count by states says who the members are, or else the report lists them."""
+    swings = {"swings": int(only is False), "only_swings": int(only is True)}
+    status, text = library.report(game, tally=int(not only), visits=VISITS if listed else 0, **swings)
+    if status == TOO_LONG:
+        status, text = library.report(game, most=most, list=1, **swings)
+        listed = False
+    told, number = "", None
+    if not status:
+        made = Report.from_text(text)
+        if not listed:
+            return made
+        number = made.minimal or 0
+        if number <= most:
+            try:
+                made.coalitions = Coalitions(made.members, library.list_masks(made.quotas, list(zip(*(it.weights for it in made.members))), made.ways, number))
+                return made
+            except NoAnswer as it:
+                status, text = it.status, it.fault
+        else:
+            status, text = TOO_MANY, "too many minimal winning coalitions"
+    elif status == GAME and explained:
+        with suppress(NotFound, OSError):
+            told = run_program(find_program(), game, ["--tally"])[2]
+    raise refuse(status, text, told, game, most, number)
+
+
+def refuse(status: int, fault: str, told: str, game: bytes = b"", most: int = MOST, number: Optional[int] = None, rule: Optional[int] = None) -> Exception:
+    """Returns the exception of a status. What can be done about too many coalitions or states is
+    said in the words of this package."""
+    if status not in (1, GAME, TOO_MANY, STATES):
+        return MemoryError(fault) if fault == "out of memory" else RuntimeError(fault)
+    if status == TOO_MANY:
+        there = f"there are {number}, and " if number else ""
+        told = f"{there}coalitions=True lists at most {most}: without it they are counted, any number of them"
+    elif status == STATES:
+        told = "there is no room for the states that the swings take: its minimal winning coalitions can be counted without them"
+    return (TooMany if status in (TOO_MANY, STATES) else Refused)(status, fault, told, game.decode("utf-8", "replace"), rule)
+
+
+def compute_numbers(library: Library, title: str, names: Sequence[str], quotas: Sequence[int], columns: Sequence[Sequence[int]], ways: Optional[Ways], swings: bool, most: int) -> Report:
+    """Returns the report of a game without a text. It has the coalitions if `most` is not 0."""
+    try:
+        masks = library.list_masks(quotas, columns, ways, most) if most else None
+        summary, numbers = library.count(quotas, columns, ways, swings=int(swings))
+    except NoAnswer as it:
+        number = None
+        if it.status == TOO_MANY:
+            with suppress(NoAnswer):
+                number = library.count(quotas, columns, ways, visits=VISITS)[0][COALITIONS]
+        raise refuse(it.status, it.fault, "", b"", most, number, it.rule) from None
+    groups, few = (GROUPS if swings else [MINIMAL]), len(MINIMAL.indices)
+    called, members, end = name_columns(groups, len(quotas)), [], 2 + 4 * sum(len(it.indices) for it in groups)
+    for name, weights, its in zip(names, zip(*columns), numbers):
+        exact = read_fractions(its[2:end])
+        members.append(make_member(called, name, weights, zip(its, (exact[:few], exact[few:])[: len(groups)])))
+    counts = dict(zip(groups, (summary[COALITIONS], summary[WINNING])))
+    act = read_fractions(summary[ACT : ACT + 4])[0] if swings else None
+    made = Report(title, quotas, counts, members, ways=ways if ways and len(ways) > 1 else (), act=act)
+    made.coalitions = None if masks is None else Coalitions(members, masks)
     return made
 
 

@@ -62,17 +62,19 @@ def find_program(named: Optional[str] = None) -> str:
     raise NotFound(f"{named}: no program of that name was found" if named else "the program council was not found on the PATH")
 
 
-load_library = functools.lru_cache(maxsize=None)(Library)
-
-
 def find_library() -> Optional[Library]:
     """Returns the library of this package or archive, or None."""
-    said = os.environ.get("COUNCIL_LIBRARY")
-    if said is not None:
-        return load_library(os.path.realpath(said)) if said else None
-    path = next((it for it in (f"{HOME}/libcouncil.so", f"{HOME}/../lib/libcouncil.so") if os.path.isfile(it)), None)
+    return load_library(HOME, os.environ.get("COUNCIL_LIBRARY"))
+
+
+@functools.lru_cache(maxsize=None)
+def load_library(home: str, named: Optional[str]) -> Optional[Library]:
+    """Loads the library that is named, or the one of a folder, once."""
+    if named is not None:
+        return Library(os.path.realpath(named)) if named else None
+    path = next((it for it in (f"{home}/libcouncil.so", f"{home}/../lib/libcouncil.so") if os.path.isfile(it)), None)
     try:
-        return load_library(os.path.realpath(path)) if path else None
+        return Library(os.path.realpath(path)) if path else None
     except OSError:
         # it is for another system: the program answers
         return None

@@ -14,7 +14,7 @@ MEMBERS, RULES, WEIGHT, NAME, TITLE, GAME_FILE = 40, 4, 10**12, 64, 200, 65536
 
 def is_text(text: str, most: int) -> bool:
     """Returns whether a name or a title of at most `most` bytes may be this text."""
-    return len(text.encode("utf-8", "surrogatepass")) <= most and all(it >= " " and it != "\x7f" and not "\ud800" <= it <= "\udfff" for it in text)
+    return len(text.encode("utf-8", "surrogatepass")) <= most and (text.isprintable() or all(it >= " " and it != "\x7f" and not "\ud800" <= it <= "\udfff" for it in text))
 
 
 def quote(text: str) -> str:

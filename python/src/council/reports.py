@@ -3,18 +3,20 @@ numbers, or read from the text that the program prints."""
 from __future__ import annotations
 
 import functools
+import importlib
 import io
 from contextlib import suppress
 from fractions import Fraction
-from typing import Any, Callable, Iterable, Optional, Sequence, TypeVar
+from typing import Any, Callable, Iterable, Iterator, Optional, Sequence, TypeVar, Union
 
 from .columns import GROUPS, MINIMAL, SWINGS, Group
-from .decimals import read_numbers
+from .decimals import read_index, read_numbers, write_fraction
 from .members import Coalition, Coalitions, Member, read_coalition, read_member
 from .ways import Ways, read_ways
 
-# the most coalitions that a report lists, and the characters that one of its lines may have
-MOST, LINE = 4_000_000, 1 << 16
+# the most coalitions that a report lists, the characters that one of its lines may have, and those
+# of a title in a `repr`
+MOST, LINE, TITLE = 4_000_000, 1 << 16, 60
 
 R = TypeVar("R", bound="Report")
 
@@ -33,13 +35,18 @@ class Report:
     `title` is a text, `quotas` and `totals` have a number for each rule, `ways` has the rules of each
     way to win, counted from 1, `minimal` is the number of minimal winning coalitions, `winning` that
     of all winning coalitions, and `members` are in the order of the game. `coalitions` has the
-    minimal ones. What was not asked for is None. With swings there is `power_to_act`, Coleman's power
-    of the body: the share of all coalitions that win.
+    minimal ones. What was not asked for is None. With swings there are `power_to_act` and
+    `power_to_act_exact`, Coleman's power of the body: the share of all coalitions that win.
+
+    The report has the members in it: `report["A"]` or `report[0]` is one, `len(report)` their number,
+    and `for` goes over them. Two reports are equal if they are of the same game and have the same
+    numbers, whether or not they list coalitions.
     """
 
-    power_to_act: Fraction
+    power_to_act: float
+    power_to_act_exact: Fraction
 
-    def __init__(self, title: str, quotas: Sequence[int], counts: dict[Group, int], members: Sequence[Member], listed: int = 0, ways: Ways = ()):
+    def __init__(self, title: str, quotas: Sequence[int], counts: dict[Group, int], members: Sequence[Member], listed: int = 0, ways: Ways = (), act: Optional[Fraction] = None):
         self.title, self.quotas, self.members = title, tuple(quotas), list(members)
         self.totals: tuple[int, ...] = tuple(map(sum, zip(*(it.weights for it in members))))
         self.ways = [list(it) for it in ways or [range(1, len(self.quotas) + 1)]]
@@ -47,14 +54,11 @@ class Report:
         self.groups = list(counts)
         self.indices = [index for it in counts for index in it.indices]
         self.minimal, self.winning = counts.get(MINIMAL), counts.get(SWINGS)
-        self.coalitions: Optional[Sequence[Coalition]] = None
+        if act is not None:
+            self.power_to_act, self.power_to_act_exact = float(act), act
+        self.coalitions: Optional[Coalitions] = None
         # how many coalitions a text lists
         self.listed = listed
-        if self.winning is not None:
-            every = 2 ** len(members)
-            self.power_to_act = Fraction(self.winning, every)
-            for it in members:
-                it.power_to_prevent, it.power_to_initiate = Fraction(it.swings, self.winning), Fraction(it.swings, every - self.winning)
 
     @classmethod
     def read(cls: type[R], lines: Iterable[str], take: Optional[Callable[[Coalition], object]] = None) -> R:
@@ -62,6 +66,7 @@ class Report:
         nothing else. What is no report is a Fault. A report can list millions of coalitions: `take`
         is called with one after the other, and the report keeps none."""
         one: dict[str, str] = {}
+        act: Optional[Fraction] = None
         members: list[Member] = []
         listed = 0
         # (of a line without end, as much as shows that it is none)
@@ -76,6 +81,8 @@ class Report:
                         take(it)
                 elif kind == "member" and len(members) < 40:
                     members.append(read_member([it for it in GROUPS if it.line in one], *fields))
+                elif kind == "act":
+                    act = read_index(*fields)
                 elif kind in ("title", "members", "quota", "total", "ways", *(it.line for it in GROUPS)):
                     (one[kind],) = fields
                 elif kind not in ("notation", "size"):
@@ -86,8 +93,9 @@ class Report:
             counts = {it: int(one[it.line]) for it in GROUPS if it.line in one}
             quotas = read_numbers(one["quota"])
             ways: Ways = read_ways(one["ways"], len(quotas)) if "ways" in one else ()
-            made = cls(one.get("title", ""), quotas, counts, members, listed, ways)
+            made = cls(one.get("title", ""), quotas, counts, members, listed, ways, act)
             is_whole = int(one["members"]) == len(members) and read_numbers(one["total"]) == made.totals and listed <= counts.get(MINIMAL, 0)
+            is_whole = is_whole and (act is None) == (SWINGS not in counts)
             if counts and is_whole and all(len(it.weights) == len(made.quotas) and hasattr(it, group.column) for it in members for group in counts):
                 return made
         raise Fault("the report is not whole, or its numbers are not those of council" if one or members else "there is no report: nothing was read (was the game refused?)")
@@ -98,12 +106,49 @@ class Report:
         first, last = text.find("\ncoalition\t") + 1, text.find("\n", text.rfind("\ncoalition\t") + 1)
         made = cls.read(io.StringIO(text[:first] + text[last + 1 :] if first else text))
         if first:
-            made.coalitions = Coalitions(text[first:last].split("\n"), read_coalition)
+            made.coalitions = Coalitions(made.members, text[first:last].split("\n"))
         return made
 
     def rows(self) -> list[dict[str, Any]]:
-        """Returns a row for each member, with the columns of `council-tools export`."""
-        return [it._asdict() for it in self.members]
+        """Returns a row for each member, with the columns of `council-tools export` as JSON can have
+        them: a fraction is a text, as "5/24"."""
+        return [{name: write_fraction(cell) if isinstance(cell, Fraction) else cell for name, cell in it._asdict().items()} for it in self.members]
+
+    def to_frame(self) -> Any:
+        """Returns the members as a DataFrame of pandas, which must be installed."""
+        return importlib.import_module("pandas").DataFrame(self.members)
+
+    def __len__(self) -> int:
+        return len(self.members)
+
+    def __iter__(self) -> Iterator[Member]:
+        return iter(self.members)
+
+    def __getitem__(self, which: Union[str, int]) -> Member:
+        if not isinstance(which, str):
+            return self.members[which]
+        found = next((it for it in self.members if it.name == which), None)
+        if found is None:
+            raise KeyError(which)
+        return found
+
+    def __contains__(self, which: object) -> bool:
+        return any(which in (it, it.name) for it in self.members)
+
+    def _key(self) -> tuple[Any, ...]:
+        return self.title, self.quotas, self.sort_ways(), self.minimal, self.winning, self.members
+
+    def __eq__(self, other: object) -> bool:
+        return isinstance(other, Report) and self._key() == other._key()
+
+    def __hash__(self) -> int:
+        return hash((self.title, self.quotas, *self.members))
+
+    def _repr_html_(self) -> str:
+        """Returns the table of `council-tools page`, for a notebook."""
+        from .tools.page import write_plain_table
+
+        return "".join(write_plain_table(self))
 
     def count_coalitions(self) -> list[tuple[str, int]]:
         """Returns of which coalitions the report has the number, and these numbers."""
@@ -123,4 +168,5 @@ class Report:
 
     def __repr__(self) -> str:
         numbers = ", ".join(f"{number:,} {what}" for what, number in self.count_coalitions())
-        return f"<council.Report {self.heading()!r}: {len(self.members)} members, {numbers}>"
+        title = self.heading() if len(self.heading()) <= TITLE else self.heading()[: TITLE - 2] + ".."
+        return f"<council.Report {title!r}: {len(self.members)} members, {numbers}>"

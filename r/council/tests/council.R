@@ -27,16 +27,34 @@ stopifnot(
 )
 
 # swings, with the minimal winning coalitions and without
+swung <- c("banzhaf", "penrose", "shapley_shubik", "power_to_prevent", "power_to_initiate")
 six <- council(12, c(4, 4, 4, 2, 2, 1), swings = TRUE)
 only <- council(12, c(4, 4, 4, 2, 2, 1), only_swings = TRUE)
 stopifnot(
-  identical(names(only), c("name", "weight", "swings", "banzhaf", "penrose", "shapley_shubik", "banzhaf_exact", "penrose_exact", "shapley_shubik_exact")),
-  identical(names(six), c(names(board), names(only)[-(1:2)])), identical(as.list(six)[8:14], as.list(only)[3:9]),
+  identical(names(only), c("name", "weight", "swings", swung, paste0(swung, "_exact"))),
+  identical(names(six), c(names(board), names(only)[-(1:2)])), identical(as.list(six)[8:18], as.list(only)[3:13]),
   identical(as.list(six)[3:7], as.list(council(12, c(4, 4, 4, 2, 2, 1)))[3:7]),
   identical(only$swings, c(10, 10, 10, 6, 6, 0)), identical(only$banzhaf_exact, c(rep("5/21", 3), "1/7", "1/7", "0/1")),
   identical(only$penrose, c(rep(5 / 16, 3), 3 / 16, 3 / 16, 0)), identical(only$shapley_shubik_exact, c(rep("7/30", 3), "3/20", "3/20", "0/1")),
-  identical(attr(six, "minimal"), 4), identical(attr(six, "winning"), 14), is.null(attr(only, "minimal")), identical(attr(only, "winning"), 14)
+  identical(attr(six, "minimal"), 4), identical(attr(six, "winning"), 14), is.null(attr(only, "minimal")), identical(attr(only, "winning"), 14),
+  identical(only$power_to_prevent_exact, c(rep("5/7", 3), "3/7", "3/7", "0/1")), identical(only$power_to_initiate, c(rep(1 / 5, 3), 3 / 25, 3 / 25, 0)),
+  identical(attributes(six)[c("power_to_act", "power_to_act_exact")], list(power_to_act = 7 / 32, power_to_act_exact = "7/32")), is.null(attr(board, "power_to_act"))
 )
+
+# a table prints without the exact values, and is merged with them
+shown <- capture.output(print(six))
+wide <- merge(board, council(52, c(50, 49, 1), names = c("C", "B", "D")), all = TRUE)
+stopifnot(
+  inherits(six, c("council", "data.frame"), which = TRUE) == 1:2, identical(shown[1], "quota 12 of 17; 4 minimal winning coalitions, 14 winning coalitions"), any(grepl("0.238095", shown)), !any(grepl("5/21|_exact", shown)),
+  any(grepl("5/21", capture.output(print(six, exact = TRUE)))), identical(format(six, digits = 2)$penrose[1], "0.31"), startsWith(capture.output(print(council(2, c(1, 1), title = "T")))[1], "T: quota 2 of 2"),
+  identical(capture.output(print(six[1:2, 1:2])), c(" name weight", "    1      4", "    2      4")),
+  identical(class(as.data.frame(six)), "data.frame"), setequal(names(attributes(as.data.frame(six))), c("names", "row.names", "class")), identical(as.data.frame(six)$banzhaf_exact, six$banzhaf_exact),
+  identical(class(wide), "data.frame"), identical(wide$name, c("A", "B", "C", "D")), identical(wide$deegan_packel_exact.x, c("1/2", "1/4", "1/4", NA)), identical(wide$public_good_exact.y, c(NA, "1/2", "1/2", "0/1"))
+)
+
+# the library is asked at the end only
+library_path <- Sys.getenv("COUNCIL_LIBRARY")
+Sys.setenv(COUNCIL_LIBRARY = "")
 
 # what an error says
 said <- function(expr) tryCatch({ expr; "nothing" }, council_refused = function(it) "refused", error = conditionMessage)
@@ -49,6 +67,8 @@ stopifnot(
   identical(council(51, data.frame(votes = c(50, 49, 1), row.names = c("x", "y", "z")))$name, c("x", "y", "z")),
   identical(council(51, data.frame(votes = c(1, 50, 49, 1))[2:4, , drop = FALSE])$name, c("1", "2", "3")),
   identical(council(c(2, 1), list(votes = c(1, 1), heads = c(1, 1)))$name, c("1", "2")),
+  identical(council(51, data.frame(x = 50, y = 49, z = 1))$name, c("x", "y", "z")), identical(council(51, list(x = 50, y = 49, z = 1))$name, c("x", "y", "z")),
+  identical(council(51, list(c(x = 50, y = 49, z = 1)))$name, c("x", "y", "z")), identical(council(c(5, 3), list(x = c(3, 1), y = c(2, 1), z = 2:1))$name, c("x", "y", "z")),
   identical(council(51, c(50, 49, 1), names = factor(c("z", "y", "x")))$name, c("z", "y", "x")),
   identical(council(51L, c(50L, 49L, 1L), names = c(7, 8, 9))$name, c("7", "8", "9"))
 )
@@ -217,6 +237,20 @@ stopifnot(
     paste0("the program of ", here, "/clone was never built: run ", here, "/clone/council once, which takes 6 to 15 minutes"),
   dir.create(dirname(built), recursive = TRUE), file.symlink(real, built), council(1, 1, program = file.path(here, "link"))$weight == 1
 )
+
+# by the library, if there is one, all is the same, without a program
+games <- list(
+  list(51, c(A = 50, B = 49, C = 1), title = "T\u00e9"), list(12, c(4, 4, 4, 2, 2, 1), coalitions = TRUE), list(c(5, 3), votes, coalitions = TRUE, ways = list(1, 2)), list(c(5, 3), votes, ways = list(2:1)),
+  list(20, rep(1, 40)), list(1e12, c(1e12, 3)), list(51, list(x = 50, y = 49, z = 1)), list(37, 2^(0:5), coalitions = TRUE), list(1234567, 100000 + (1:30)^3)
+)
+ask_all <- function() lapply(games, function(it) lapply(c(FALSE, TRUE), function(swings) suppressWarnings(do.call(council, c(it, list(swings = swings))))))
+by_program <- ask_all()
+if (nzchar(library_path)) {
+  Sys.setenv(COUNCIL_LIBRARY = library_path, COUNCIL_PROGRAM = "no-such-program")
+  stopifnot(identical(ask_all(), by_program), said(council(51, c(50, 16.5))) == absent, said(council(51, c(50, 1), program = "no-such-program")) == absent, grepl("at most half", warned(council(50, c(50, 49, 1)))))
+  do.call(Sys.setenv, as.list(kept))
+  stopifnot(identical(refused(200, c(50, 49))$fault, "quota out of range"), identical(refused(20, rep(1, 40), coalitions = TRUE)$status, 4L), identical(refused(1, c(1, 1), names = c("A", "A"))$fault, "member 2 repeats a name"), identical(refused(c(5, 3), votes, ways = list())$fault, "bad ways"), identical(refused(c(5, 3), votes, ways = list(1))$fault, "bad ways"))
+}
 
 # nothing is left of the runs
 stopifnot(length(list.files(tempdir(), "^(game|out|err)")) == 0)

@@ -2,10 +2,11 @@
 
     council-tools compare [OPTIONS] REPORT REPORT..
 
-Each game has its weights and its indices, cut off after six decimals, and each but the first also
-the differences of these to the first. DP and PG are the Deegan-Packel and the public good index, Bz
-Banzhaf's, Pm Penrose's measure, and SS that of Shapley and Shubik. A dash means that a game does
-not have the member. Members are matched by their exact names. You are warned of two names that look
+Each game has its weights and its indices, and each but the first also the differences of the exact
+indices to the first; all are cut off after six decimals. DP and PG are the Deegan-Packel and the
+public good index, Bz Banzhaf's, Pm Penrose's measure, SS that of Shapley and Shubik, and CP and CI
+are Coleman's powers to prevent and to initiate an act. A dash means that a game does not have the
+member; in CSV the cell is empty. Members are matched by their exact names. You are warned of two names that look
 alike if only one game has each of them: --same makes them one. With --game FILE, once for each
 report, weights are in the unit of their game file. If rules are joined by "or", each game has its ways
 to win, and you are warned if these differ.
@@ -16,7 +17,7 @@ import difflib
 import functools
 import unicodedata
 from fractions import Fraction
-from typing import Dict, Iterable, Iterator, List, Sequence
+from typing import Callable, Dict, Iterable, Iterator, List, Sequence
 
 from ..columns import Index
 from ..decimals import cut_off
@@ -25,13 +26,14 @@ from ..members import Member
 from ..reports import Fault, Report
 from ..ways import describe_ways
 from .command import MANY, Words, add_index, choose_indices, fold, make_printable, note, read_comments, read_report
+from .formats import NAME, escape_latex, quote_cell, write_tabular
 
 # the members of each game, by name
 Games = List[Dict[str, Member]]
 
 
 def write_signed(value: Fraction) -> str:
-    """Writes a difference of decimals with its sign."""
+    """Writes a difference with its sign."""
     digits = cut_off(abs(value), 6)
     sign = "" if float(digits) == 0 else "-" if value < 0 else "+"
     return sign + digits
@@ -90,20 +92,45 @@ def find_members(report: Report, same: Sequence[Sequence[str]]) -> dict[str, Mem
     return members
 
 
-def write_weights(weights: Iterable[int], units: Sequence[Unit]) -> str:
+def write_weights(weights: Iterable[int], units: Sequence[Unit], write: Callable[[Unit, int], str] = Unit.write) -> str:
     """Writes a number for each rule in its unit, with / between them."""
-    return "/".join(unit.write(it) for it, unit in zip(weights, units))
+    return "/".join(write(unit, it) for it, unit in zip(weights, units))
 
 
-def make_cells(games: Games, units: Sequence[Sequence[Unit]], indices: Sequence[Index], name: str) -> Iterator[list[str]]:
+def make_cells(games: Games, units: Sequence[Sequence[Unit]], indices: Sequence[Index], name: str, write: Callable[[Unit, int], str] = Unit.write) -> Iterator[list[str]]:
     """Yields the cells of a row: a group for each game, and for each difference to the first."""
-    shown = [[cut_off(index.find(it)) for index in indices] if it else [] for it in (members.get(name) for members in games)]
-    for at, members in enumerate(games):
-        yield [write_weights(members[name].weights, units[at]), *shown[at]] if shown[at] else ["-"] * (len(indices) + 1)
-        if at and shown[at] and shown[0]:
-            yield [write_signed(Fraction(it) - Fraction(first)) for it, first in zip(shown[at], shown[0])]
-        elif at:
-            yield ["-"] * len(indices)
+    first = games[0].get(name)
+    for at, it in enumerate(members.get(name) for members in games):
+        yield [write_weights(it.weights, units[at], write), *(cut_off(index.find(it)) for index in indices)] if it else ["-"] * (len(indices) + 1)
+        if at:
+            yield [write_signed(index.find(it) - index.find(first)) for index in indices] if it and first else ["-"] * len(indices)
+
+
+def write_headings(number: int, titles: Sequence[str], weight: str) -> list[str]:
+    """Returns the heading of each column for this number of games, except that of the names."""
+    its = [f"{weight} 1", *(f"{it} 1" for it in titles)]
+    for at in range(2, number + 1):
+        its += [f"{weight} {at}", *(f"{it} {at}" for it in titles), *(f"{it} {at}-1" for it in titles)]
+    return its
+
+
+def write_csv(games: Games, units: Sequence[Sequence[Unit]], indices: Sequence[Index]) -> Iterator[str]:
+    """Yields the lines of CSV: "5/3" is a weight under two rules."""
+    yield ",".join(["name", *write_headings(len(games), [it.name for it in indices], "weight")])
+    for name in find_names(games):
+        cells = [it for group in make_cells(games, units, indices, name, Unit.write_plain) for it in group]
+        yield ",".join([quote_cell(name), *("" if it == "-" else f'"{it}"' if "/" in it else it for it in cells)])
+
+
+def write_latex(games: Games, units: Sequence[Sequence[Unit]], indices: Sequence[Index]) -> Iterator[str]:
+    rows = ([name, *(it for group in make_cells(games, units, indices, name) for it in group)] for name in find_names(games))
+    titles = [NAME, *write_headings(len(games), [it.brief for it in indices], "Weight")]
+    yield from write_tabular(find_names(games), titles, (map(escape_latex, it) for it in rows))
+
+
+def find_names(games: Games) -> list[str]:
+    """Returns the names of all members, each once."""
+    return list(dict.fromkeys(name for members in games for name in members))
 
 
 def measure(text: str) -> int:
@@ -112,7 +139,7 @@ def measure(text: str) -> int:
 
 def write_table(games: Games, units: Sequence[Sequence[Unit]], indices: Sequence[Index]) -> Iterator[str]:
     """Yields the lines of the table, with a heading over each group."""
-    names = dict.fromkeys(name for members in games for name in members)
+    names = find_names(games)
     over = ["1"]
     for at in range(2, len(games) + 1):
         over += [str(at), f"{at} - 1"]
@@ -140,6 +167,7 @@ def main(args: list[str]) -> None:
     reader.add_argument("--same", metavar=("NAME", "OTHER"), nargs=2, action="append", default=[], help="two names that are one member")
     reader.add_argument("--game", metavar="FILE", action="append", help="the game file of a report, once for each in their order")
     add_index(reader, **{**MANY, "help": "an index to show, and more if it is given again; else all that the reports have"})
+    reader.add_argument("--format", choices=["text", "csv", "latex"], default="text", help="the form of the table; else text")
     words = reader.parse_words(args)
     if len(words.reports) < 2 or words.reports.count("-") > 1:
         raise Fault("name two reports or more", 2)
@@ -152,12 +180,16 @@ def main(args: list[str]) -> None:
     for first, other in words.same:
         if not any(it.name in (first, other) for report in reports for it in report.members):
             raise Fault(f"--same {quote_for_shell(first)} {quote_for_shell(other)}: no report has one of them", 2)
-    for at, it in enumerate(reports, 1):
-        quotas = f"{write_weights(it.quotas, units[at - 1])} of {write_weights(it.totals, units[at - 1])}"
-        ways = f" ({describe_ways(it.ways)})" if len(it.ways) > 1 else ""
-        print(f"{at}  {make_printable(it.heading())}: {quotas}{ways}, {', '.join(f'{what}: {number:,}' for what, number in it.count_coalitions())}")
-    print("indices and differences: six decimals, cut off\n")
-    for line in write_table(games, units, indices):
+    if words.format != "csv":
+        sign = "% " if words.format == "latex" else ""
+        for at, it in enumerate(reports, 1):
+            quotas = f"{write_weights(it.quotas, units[at - 1])} of {write_weights(it.totals, units[at - 1])}"
+            ways = f" ({describe_ways(it.ways)})" if len(it.ways) > 1 else ""
+            numbers = [f"{what}: {number:,}" for what, number in it.count_coalitions()]
+            numbers += [f"power to act: {cut_off(it.power_to_act_exact)}"] if it.winning else []
+            print(f"{sign}{at}  {make_printable(it.heading())}: {quotas}{ways}, {', '.join(numbers)}")
+        print(f"{sign}indices, and differences of exact ones: six decimals, cut off" + "\n" * (not sign))
+    for line in {"text": write_table, "csv": write_csv, "latex": write_latex}[words.format](games, units, indices):
         print(line)
     for at, it in enumerate(reports[1:], 2):
         if max(len(it.ways), len(reports[0].ways)) > 1 and it.sort_ways() != reports[0].sort_ways():

@@ -11,8 +11,8 @@
 
 The columns of a table are name, weight, share (of the votes), coalitions, deegan_packel and
 public_good (decimals), deegan_packel_exact and public_good_exact (fractions), and of a report with
-swings also swings, banzhaf, penrose, shapley_shubik, and these three with _exact. With several rules
-there is a weight and a share for each. For a spreadsheet with a decimal comma, write CSV with
+swings also swings, banzhaf, penrose, shapley_shubik, power_to_prevent, power_to_initiate, and these
+five with _exact. With several rules there is a weight and a share for each. For a spreadsheet with a decimal comma, write CSV with
 --decimal , (in which semicolons separate the columns). With the game file, --game FILE, weights of a
 table are in their unit, and have its name.
 """
@@ -25,8 +25,6 @@ import re
 import shutil
 import sys
 import tempfile
-import textwrap
-import unicodedata
 from fractions import Fraction
 from typing import Iterable, Iterator, Optional, Sequence
 
@@ -36,12 +34,13 @@ from ..game import Unit, quote
 from ..members import Coalition, Member
 from ..reports import Fault, Report
 from .command import MANY, Words, add_index, add_report, choose_indices, make_printable, read_comments, read_lines, read_report, warn_of_low_quotas
+from .formats import NAME, escape_latex, quote_cell, write_tabular
 
 FORMATS = ["csv", "json", "latex", "markdown"]
 COUNTS = {it.column: it.title for it in (MINIMAL, SWINGS)}
 DECIMALS = {"share": "Share", **{it.name: it.title for it in INDICES}}
 EXACT = {f"{it.name}_exact": f"{it.title}, exact" for it in INDICES}
-HEADINGS = {"name": "Member", "weight": "Weight", **COUNTS, **DECIMALS, **EXACT}
+HEADINGS = {"name": NAME, "weight": "Weight", **COUNTS, **DECIMALS, **EXACT}
 
 
 class Column:
@@ -110,36 +109,8 @@ def write_csv(report: Report, columns: Sequence[Column], places: Optional[int], 
         cells = []
         for it in columns:
             text = it.write(report, member, places)
-            # (a spreadsheet may skip blanks and characters without a width)
-            if next((character for character in text if character.isprintable() and character != " "), "") in tuple("=+-@＝＋－＠"):
-                text = "'" + text
-            if it.kind in ("weight", *DECIMALS):
-                text = text.replace(".", decimal)
-            cells.append('"' + text.replace('"', '""') + '"' if it.kind == "name" or it.kind in EXACT else text)
+            cells.append(quote_cell(text) if it.kind == "name" or it.kind in EXACT else text if it.kind in COUNTS else text.replace(".", decimal))
         yield between.join(cells)
-
-
-def escape_latex(text: str) -> str:
-    """Writes a text so that LaTeX prints it character by character."""
-    names = {"\\": "textbackslash", "~": "textasciitilde", "^": "textasciicircum", "<": "textless", ">": "textgreater", "|": "textbar"}
-    text = unicodedata.normalize("NFC", text)
-    characters = []
-    for at, it in enumerate(text):
-        if it in names:
-            characters.append(f"\\{names[it]}{{}}")
-        elif it in "&%$#_{}":
-            characters.append("\\" + it)
-        elif it == '"':
-            characters.append("{\\char34}")
-        elif it in "[]*":
-            characters.append("{" + it + "}")
-        elif it == " " and (at == 0 or at + 1 == len(text) or text[at - 1] == " "):
-            characters.append("\\ ")
-        elif it in "-'`,?!" and text[at + 1 : at + 2] in tuple("-'`,?!"):
-            characters.append(it + "{}")
-        else:
-            characters.append(it)
-    return "".join(characters)
 
 
 def write_caption(columns: Sequence[Column], places: int) -> list[str]:
@@ -149,28 +120,12 @@ def write_caption(columns: Sequence[Column], places: int) -> list[str]:
 
 def write_latex(report: Report, columns: Sequence[Column], places: int) -> Iterator[str]:
     yield from (f"% {it}" for it in [report.title, *write_caption(columns, places)] if it)
-    yield "% \\usepackage{booktabs}, and \\usepackage[T1]{fontenc} for letters with accents"
-    for character in sorted(set("".join(unicodedata.normalize("NFC", it.name) for it in report.members))):
-        if character > "\u017f" or "\x7f" < character < "\xa0":
-            # where this TeX has no such character, its number
-            name = f"u8:\\detokenize{{{character}}}\\endcsname"
-            yield f"\\ifcsname {name}\\else\\expandafter\\def\\csname {name}{{[U+{ord(character):04X}]}}\\fi"
-    # many columns fit a page in a smaller font, with headings of several lines
-    is_wide = len(columns) > 4
-    size = "\\scriptsize\\tabcolsep=2pt" if len(columns) < 8 else "\\tiny\\tabcolsep=1pt"
-    yield (f"{{{size}" if is_wide else "") + "\\begin{tabular}{" + "".join("l" if it.kind == "name" else "r" for it in columns) + "}"
-    yield "\\toprule"
-    titles = [textwrap.wrap(it.title(), 9 if is_wide else 1000, break_long_words=False) for it in columns]
-    yield " & ".join("\\shortstack[r]{" * (len(its) > 1) + "\\\\".join(map(escape_latex, its)) + "}" * (len(its) > 1) for its in titles) + " \\\\"
-    yield "\\midrule"
-    for member in report.members:
-        cells = []
-        for it in columns:
-            text = it.write_for_people(report, member, places)
-            cells.append(escape_latex(text) if it.kind in ("name", "weight") else f"${text}$" if it.kind in EXACT else text)
-        yield " & ".join(cells) + " \\\\"
-    yield "\\bottomrule"
-    yield "\\end{tabular}" + ("}" if is_wide else "")
+
+    def write_cell(it: Column, member: Member) -> str:
+        text = it.write_for_people(report, member, places)
+        return escape_latex(text) if it.kind in ("name", "weight") else f"${text}$" if it.kind in EXACT else text
+
+    yield from write_tabular([it.name for it in report], [it.title() for it in columns], ([write_cell(it, member) for it in columns] for member in report))
 
 
 def write_markdown(report: Report, columns: Sequence[Column], places: int) -> Iterator[str]:
@@ -205,6 +160,9 @@ def describe(report: Report, indices: Sequence[Index], places: Optional[int]) ->
     kinds = ["name", "weights", *(kind for it in report.groups for kind in it.columns(indices))]
     members = [{kind: find_value(it, kind) for kind in kinds} for it in report.members]
     numbers = {it.line: getattr(report, it.line) for it in report.groups}
+    if report.winning is not None:
+        exact = report.power_to_act_exact
+        numbers.update(power_to_act=float(cut_off(exact) if places is None else round_half_up(exact, places)), power_to_act_exact=make_pair(exact))
     return {"title": report.title or None, "quotas": report.quotas, "totals": report.totals, "ways": report.ways, **numbers, "members": members}
 
 

@@ -16,8 +16,9 @@ import hashlib
 import re
 import subprocess
 from fractions import Fraction
-from typing import Any, Iterable, Iterator, Optional, Sequence
+from typing import Any, Callable, Iterable, Iterator, Optional, Sequence
 
+from .. import decimals
 from ..columns import INDICES, Group, Index
 from ..decimals import cut_off, round_half_up
 from ..finding import NotFound, find_program
@@ -97,6 +98,7 @@ for (const table of document.querySelectorAll("table.members")) {
   });
 }
 """
+COLEMAN = "J. S. Coleman (1971): Control of Collectivities and the Power of a Collectivity to Act. In B. Lieberman (ed.), <i>Social Choice</i>. New York: Gordon and Breach."
 # what each index is, and its sources
 ABOUT = {
     "deegan_packel": ("The <b>Deegan-Packel index</b> of a member is the share that it gets if each minimal winning coalition is as likely as another and "
@@ -113,6 +115,9 @@ ABOUT = {
     "shapley_shubik": ("The <b>Shapley-Shubik index</b> is the probability that the member is the one who makes a coalition win, if members join it one after "
                        "the other and each order is as likely as another (Shapley and Shubik 1954).", [
         "L. S. Shapley and M. Shubik (1954): A Method for Evaluating the Distribution of Power in a Committee System. <i>American Political Science Review</i> 48(3)."]),
+    "power_to_prevent": ("<b>Coleman, to prevent</b> is the member's power to prevent an act: the share of the winning coalitions that lose without it (Coleman 1971). "
+                         "It is no share of a whole: those of all members need not add up to 1.", [COLEMAN]),
+    "power_to_initiate": ("<b>Coleman, to initiate</b> is its power to initiate one: the share of the losing coalitions that win with it.", [COLEMAN]),
 }
 KINDS = {"coalitions": "A minimal winning coalition wins, and loses without any one of its members.",
          "swings": "A swing of a member is a winning coalition that loses without it."}
@@ -128,8 +133,10 @@ class Section(Report):
     units: list[Unit]
     chosen: list[Index]
 
-    def shown_groups(self) -> list[Group]:
-        return [it for it in self.groups if it.columns(self.chosen)]
+
+def choose_groups(report: Report, chosen: Sequence[Index]) -> list[Group]:
+    """Returns the groups of these indices that a report has."""
+    return [it for it in report.groups if it.columns(chosen)]
 
 
 def write_name(text: str) -> str:
@@ -147,11 +154,11 @@ def rank(values: Iterable[Any]) -> list[int]:
     return [places[it] for it in values]
 
 
-def make_columns(report: Section, units: Sequence[Unit]) -> Iterator[tuple[str, list[Any], list[str]]]:
+def make_columns(report: Report, units: Sequence[Unit], chosen: Sequence[Index], write_exact: Callable[[Fraction], str]) -> Iterator[tuple[str, list[Any], list[str]]]:
     """Yields the columns of the table: the heading, the values to sort by, and the cells.
     Fractions, which may be long, come last."""
     members, several = report.members, len(report.quotas) > 1
-    its = [(it.title, list(map(it.find, members))) for it in report.chosen]
+    its = [(it.title, list(map(it.find, members))) for it in chosen]
     yield "Member", [it.name.casefold() for it in members], [write_name(it.name) for it in members]
     for title, values in its:
         yield title, values, list(map(cut_off, values))
@@ -161,15 +168,25 @@ def make_columns(report: Section, units: Sequence[Unit]) -> Iterator[tuple[str, 
         yield (write_name(unit.name) if unit.name else f"Weight{of}"), weights, [unit.write(it) for it in weights]
         if not unit.is_share_of(report.totals[rule]):
             yield (f"{write_name(unit.name)}, of all" if unit.name else f"Share{of}"), weights, [round_half_up(report.share(it, rule), 4) for it in members]
-    for group in report.shown_groups():
+    for group in choose_groups(report, chosen):
         counts = [getattr(it, group.column) for it in members]
         yield group.title, counts, [f"{it:,}" for it in counts]
     for title, values in its:
-        yield f"{title}, exactly", values, list(map(write_fraction, values))
+        yield f"{title}, exactly", values, list(map(write_exact, values))
+
+
+def write_plain_table(report: Report) -> Iterator[str]:
+    """Yields the table without what needs the style and the script of the page."""
+    its = list(make_columns(report, [Unit()] * len(report.quotas), report.indices, decimals.write_fraction))
+    yield f"<table><caption>{escape_xml(report.heading())}</caption><thead><tr>"
+    yield "".join(f"<th>{title}</th>" for title, _, _ in its) + "</tr></thead><tbody>"
+    for cells in zip(*(texts for _, _, texts in its)):
+        yield "<tr>" + "".join(f"<td>{it}</td>" for it in cells) + "</tr>"
+    yield "</tbody></table>"
 
 
 def write_table(report: Section, units: Sequence[Unit]) -> Iterator[str]:
-    its = list(make_columns(report, units))
+    its = list(make_columns(report, units, report.chosen, write_fraction))
     yield '<div class="wide" tabindex="0" role="region" aria-label="Members"><table class="members"><thead><tr>'
     yield "".join(f'<th scope="col"><button type="button">{title}</button></th>' for title, _, _ in its)
     yield "</tr></thead><tbody>"
@@ -198,6 +215,8 @@ def write_bars(report: Section, units: Sequence[Unit]) -> Iterator[str]:
 def write_quotas(report: Report, units: Sequence[Unit]) -> Iterator[str]:
     """Says when a coalition wins, in the units of the rules and in percent of the total."""
     numbers = " ".join(f"{what.capitalize()}: {number:,}." for what, number in report.count_coalitions())
+    if report.winning:
+        numbers += f" The body's power to act (Coleman): {cut_off(report.power_to_act_exact)}."
     its = []
     for rule, unit in enumerate(units):
         of = f" under rule {rule + 1}" if len(units) > 1 else ""
@@ -295,12 +314,12 @@ def write_page(reports: Sequence[Section], version: Optional[str]) -> Iterator[s
     for at, it in enumerate(reports, 1):
         yield from write_section(it, at, 1 if len(reports) == 1 else 2)
     shown = [it for it in INDICES if any(it in report.chosen for report in reports)]
-    kinds = dict.fromkeys(group.column for report in reports for group in report.shown_groups())
+    kinds = dict.fromkeys(group.column for report in reports for group in choose_groups(report, report.chosen))
     yield f"<footer><h2>What the indices are</h2><p>{' '.join([*(KINDS[it] for it in kinds), *(ABOUT[it.name][0] for it in shown)])}</p>"
     at_hand = f"The program at hand when this page was made: {escape_xml(version)}." if version else "Which version of it made the report this page cannot tell."
     yield f"<h2>How they were computed</h2><p>By the program <code>council</code>, which counts the coalitions and gives the indices as exact fractions. {at_hand}</p>"
     yield "<h2>Sources</h2><ul>"
-    yield "".join(f"<li>{source}</li>" for it in shown for source in ABOUT[it.name][1])
+    yield "".join(f"<li>{it}</li>" for it in dict.fromkeys(source for it in shown for source in ABOUT[it.name][1]))
     yield f"</ul></footer></main><script>{SCRIPT}</script></body></html>"
 
 

@@ -5,8 +5,9 @@
 GAME is a game file; without one, or as -, it is standard input. The table has a line for each
 quota and member, with the columns quota, name, deegan_packel and public_good (decimals, cut off
 after six), deegan_packel_exact and public_good_exact (fractions), separated by TABs. If --index
-names one that rests on swings, the table has the columns of these indices instead. Without --from
-and --to it goes from 1 to the total of the rule. A QUOTA is in the unit of the game file, as 50.5,
+names one that rests on swings, the table has the columns of these indices instead, and with --all
+those of all indices. As LaTeX it has no fractions. Without --from and --to it goes from 1 to the
+total of the rule. A QUOTA is in the unit of the game file, as 50.5,
 or a share of the total, as 50% or 2/3; so is --step. Lines are written as they are computed.
 --picture draws a line for each member; members whose lines are the same share one.
 """
@@ -15,12 +16,13 @@ from __future__ import annotations
 import argparse
 import itertools
 import math
+import os
 import sys
 import time
 from fractions import Fraction
 from typing import Any, Callable, Iterable, Iterator, Optional, Sequence
 
-from ..columns import MINIMAL, SWINGS, Group, Index
+from ..columns import GROUPS, MINIMAL, SWINGS, Group, Index
 from ..decimals import cut_off, round_half_up, write_fraction
 from ..engine import Refused, compute
 from ..finding import find_program
@@ -29,6 +31,7 @@ from ..reports import Fault, Report
 from ..ways import find_low
 from .command import Words, add_index, find_index, make_printable, note
 from .drawing import COLORS, DASHES, find_round_step, find_ticks, measure, wrap, write_picture, write_text
+from .formats import NAME, escape_latex, quote_cell, write_tabular
 from .quotas import Quota, count_decimals
 
 MOST = 20000
@@ -76,22 +79,41 @@ class Progress:
             print("\r\x1b[K", end="", file=sys.stderr, flush=True)
 
 
-def write_rows(reports: Iterable[tuple[int, Report]], group: Group, unit: Unit, progress: Progress, take: Callable[[Any], None]) -> None:
-    """Writes the table row by row, as the reports come, with quotas in their unit. `take` gets each
-    report."""
-    print("quota", "name", *group.columns()[1:], sep="\t")
-    # a file gets each name unchanged, and a terminal none that moves it
-    is_terminal = sys.stdout.isatty()
+def list_rows(reports: Iterable[tuple[int, Report]], groups: Sequence[Group], unit: Unit, progress: Progress, take: Callable[[Any], None]) -> Iterator[tuple[str, str, list[str]]]:
+    """Yields the rows of the table, as the reports come: a quota in its unit, a name, and for each
+    group decimals and fractions. `take` gets each report."""
     try:
         for quota, report in reports:
-            for it in report.members:
-                its = [index.find(it) for index in group.indices]
-                print(unit.write_plain(quota), make_printable(it.name) if is_terminal else it.name, *map(cut_off, its), *map(write_fraction, its), sep="\t")
+            for it in report:
+                cells: list[str] = []
+                for group in groups:
+                    its = [index.find(it) for index in group.indices]
+                    cells += [*map(cut_off, its), *map(write_fraction, its)]
+                yield unit.write_plain(quota), it.name, cells
             sys.stdout.flush()
             take((quota, report))
             progress.step()
     finally:
         progress.end()
+
+
+def write_table(rows: Iterable[tuple[str, str, list[str]]], groups: Sequence[Group], form: str, names: Iterable[str]) -> Iterator[str]:
+    """Yields the lines of the table in a form."""
+    columns = [it for group in groups for it in group.columns()[1:]]
+    if form == "latex":
+        titles = {it.name: it.title for group in groups for it in group.indices}
+        shown = ([quota, escape_latex(name), *(text for it, text in zip(columns, its) if it in titles)] for quota, name, its in rows)
+        yield from write_tabular(names, ["Quota", NAME, *titles.values()], shown)
+    elif form == "csv":
+        yield ",".join(["quota", "name", *columns])
+        for quota, name, its in rows:
+            yield ",".join([quota, quote_cell(name), *(f'"{it}"' if "/" in it else it for it in its)])
+    else:
+        # a file gets each name unchanged, and a terminal none that moves it
+        is_terminal = sys.stdout.isatty()
+        yield "\t".join(["quota", "name", *columns])
+        for quota, name, its in rows:
+            yield "\t".join([quota, make_printable(name) if is_terminal else name, *its])
 
 
 def find_quotas(words: argparse.Namespace, total: int, unit: Unit) -> range:
@@ -206,6 +228,8 @@ def main(args: list[str]) -> None:
     reader.add_argument("--step", metavar="QUOTA", help="from one quota to the next; else the least step")
     reader.add_argument("--picture", metavar="FILE", help="also draw the sweep, as an SVG file")
     add_index(reader, default="public-good", help="the index that is drawn; else the public good index")
+    reader.add_argument("--all", action="store_true", help="all indices, also those of swings")
+    reader.add_argument("--format", choices=["tsv", "csv", "latex"], default="tsv", help="the form of the table; else tsv, with TABs")
     reader.add_argument("--program", help="the program council; else the one of this clone or archive, or the one on the PATH")
     words = reader.parse_words(args)
     if words.game == "-":
@@ -215,7 +239,7 @@ def main(args: list[str]) -> None:
             game = it.read(GAME_FILE + 1)
     program = find_program(words.program) if words.program else None
     index = find_index(words.index)
-    group, only = (SWINGS, True) if index in SWINGS.indices else (MINIMAL, None)
+    groups, only = (GROUPS, False) if words.all else ([SWINGS], True) if index in SWINGS.indices else ([MINIMAL], None)
     start = compute(game, program=program, only=only)
     for remark in find_slips(game.decode()):
         note(remark)
@@ -228,11 +252,10 @@ def main(args: list[str]) -> None:
     # the first report shows that no quota is out of range
     first = next(reports)
     warn_of_half(start, rule, quotas, unit)
-    rows, progress = itertools.chain([first], reports), Progress(len(quotas))
-    if not words.picture:
-        write_rows(rows, group, unit, progress, lambda _: None)
-        return
-    with open(words.picture, "w", encoding="utf-8", newline="\n") as it:
-        kept: list[tuple[int, Report]] = []
-        write_rows(rows, group, unit, progress, kept.append)
-        it.writelines(line + "\n" for line in draw(start, rule, kept, index, unit))
+    kept: list[tuple[int, Report]] = []
+    rows = list_rows(itertools.chain([first], reports), groups, unit, Progress(len(quotas)), kept.append if words.picture else lambda _: None)
+    with open(words.picture or os.devnull, "w", encoding="utf-8", newline="\n") as it:
+        for line in write_table(rows, groups, words.format, [member.name for member in start]):
+            print(line)
+        if words.picture:
+            it.writelines(line + "\n" for line in draw(start, rule, kept, index, unit))
