@@ -64,9 +64,9 @@ class Engines(unittest.TestCase):
         with self.assertRaisesRegex(council.TooMany, "there are 2, and coalitions=True lists at most 1"):
             self.compute(made, b"[1; 1]", listed=True, most=1)
         long = "notation\t[1; 1]\n" * 5000 + BY_WAYS
-        made, asked = make_library([library.TOO_LONG, 0, 0], long.encode())
+        made, asked = make_library([library.TOO_LONG, 0], long.encode())
         self.assertEqual(self.compute(made, b"[1; 1]", listed=True, most=7, only=False).coalitions, Report.from_text(BY_WAYS).coalitions)
-        self.assertEqual([it[1:] for it in asked], [({"tally": 1, "visits": engine.VISITS, "swings": 1}, 65536), ({"most": 7, "list": 1, "swings": 1}, 65536), ({"most": 7, "list": 1, "swings": 1}, len(long))])
+        self.assertEqual([it[1:] for it in asked], [({"tally": 1, "visits": engine.VISITS, "swings": 1}, 65536), ({"most": 7, "list": 1, "swings": 1}, 1 << 26)])
 
     def test_numbers_and_masks_of_the_library(self):
         made, rooms = make_library(0, b"")[0], []

@@ -476,6 +476,7 @@ class Reports(unittest.TestCase):
         self.assertEqual(council.report([5, 3], frame.to_numpy(), names=frame.index).members, two.members)
         self.assertEqual(council.report([5, 3], frame.to_numpy().T, names=frame.index).members, two.members)
         self.assertEqual(council.report([3, 2], frame[:2]).members[0].weights, (3, 1))
+        self.assertEqual(council.report([5, 3], frame.T, by="rule").members, two.members)
         self.assertEqual([it.name for it in council.report(5, frame["votes"]).members], list("ABCD"))
         self.assertEqual(council.report(5, frame[["votes"]]).members, council.report(5, frame["votes"]).members)
         self.assertEqual([it.name for it in council.report(5, frame["votes"].reset_index(drop=True)).members], list("1234"))

@@ -50,13 +50,13 @@ def report(
 
     - a quota and the weights: `report(51, {"A": 50, "B": 49, "C": 1})`, or a list of weights and
       names: `report(51, [50, 49, 1], names="ABC")`. For several rules, up to four, give a list of
-      quotas, and for each a list of weights: `report([5, 3], [[3, 2, 2, 1], [1, 1, 1, 1]])`. A list
-      for each member, or an array, is taken too if it can be told apart; of a square table
-      `by="rule"` or `by="member"` says which it is. A DataFrame has a row for each member, a dict a
-      list for each. Without names, members have those of its index or of a Series, if these are
-      texts; else 1, 2, .. A coalition wins if it meets all rules; `ways` joins rules by "or", up to
-      six lists of rules counted from 1: by `ways=[[1, 2], [3]]` it wins if it meets rules 1 and 2, or
-      rule 3.
+      quotas, and for each a list of weights: `report([5, 3], [[3, 2, 2, 1], [1, 1, 1, 1]])`. A
+      list for each member, or an array, is taken too if it can be told apart; of a square table
+      `by="rule"` or `by="member"` says which it is. A DataFrame has a row for each member, a dict
+      a list for each, or by `by="rule"` one for each rule. Without names, members have those of
+      its index or of a Series, if these are texts; else 1, 2, .. A coalition wins if it meets all
+      rules; `ways` joins rules by "or", up to six lists of rules counted from 1: by `ways=[[1,
+      2], [3]]` it wins if it meets rules 1 and 2, or rule 3.
     - the path of a game file: `report("eu.toml")` or `report(file="eu.toml")`.
     - `game`: the text of a game file, or a text such as "[51; 50, 49, 1]".
 

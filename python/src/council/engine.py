@@ -67,7 +67,7 @@ def compute(game: bytes, *, listed: bool = False, most: int = MOST, program: Opt
 def check(game: bytes) -> None:
     """Raises the fault of a game file, if it has one, and computes nothing."""
     library = find_library()
-    status, fault = library.report(game, most=1, list=1, visits=1) if library else run_program(find_program(), game, ["--list", "--most", "1"])[:2]
+    status, fault = library.report(game, most=1, visits=1) if library else run_program(find_program(), game, ["--list", "--most", "1"])[:2]
     if status not in (0, TOO_MANY, TOO_LONG):
         raise refuse(status, fault, "", game)
 

@@ -18,8 +18,8 @@ from typing import Any, Optional, Sequence
 from .ways import WAYS, Ways
 
 U32, U64, Size = ctypes.c_uint32, ctypes.c_uint64, ctypes.c_size_t
-# room for a report without a list, in bytes
-ROOM = 1 << 16
+# room for a report without a list and with one, in bytes; a longer one is made again
+ROOM, LIST_ROOM = 1 << 16, 1 << 26
 # the words of `struct council_member`, whose fractions begin at the third, and of `struct
 # council_summary`: some of them, and where Coleman's power to act begins
 MEMBER, SUMMARY = 36, 68
@@ -61,11 +61,12 @@ class Alarm:
         with self._lock:
             self.flag.value, self.due, self.is_busy = 0, time.monotonic() + LONG, True
             if not self._has_thread:
-                self._has_thread = True
                 threading.Thread(target=self._run, name="council", daemon=True).start()
+                self._has_thread = True
 
     def _run(self) -> None:
-        while self._has_thread:
+        late = 0.0
+        while late < 1:
             time.sleep(LONG / 2)
             with self._lock:
                 late = time.monotonic() - self.due
@@ -89,7 +90,7 @@ class Library:
 
     def report(self, game: bytes, **options: int) -> tuple[int, str]:
         """Returns the status, and the report of a game file or its fault."""
-        room, length, words = 0, U64(ROOM), Options(size=sizeof(Options), **options)
+        room, length, words = 0, U64(LIST_ROOM if "list" in options else ROOM), Options(size=sizeof(Options), **options)
         while length.value > room:
             room = length.value
             text = ctypes.create_string_buffer(room)

@@ -100,7 +100,8 @@ def read_parts(quota: Any, weights: Any, names: Optional[Iterable[object]] = Non
     elif isinstance(weights, collections.abc.Mapping):
         weights = list(weights.values())
     elif hasattr(weights, "columns") and hasattr(weights, "to_numpy"):
-        names, by, weights = find_names(weights.index, names), "member", weights.to_numpy(dtype=object)
+        names, by = find_names(weights.columns if by == "rule" else weights.index, names), by or "member"
+        weights = weights.to_numpy(dtype=object)
         quota = [quota] if is_number(quota) else quota
     else:
         # (of a Series; the index of a list is a function)
