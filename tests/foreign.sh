@@ -322,6 +322,11 @@ example() {
         rustc --edition 2024 -D warnings -o "$temp/example_rs" "$1" -L "$temp" -l council &&
             LD_LIBRARY_PATH=$temp "$temp/example_rs"
         ;;
+    *.js)
+        python3 "$top/tools/web.py" "$top/docs/council.html" "$temp"
+        cp "$1" "$temp/example.mjs"
+        node "$temp/example.mjs"
+        ;;
     *.r)
         # (the package is not installed here)
         sed '/^library(council)$/d' "$1" | cat "$top/r/council/R/council.R" - >"$temp/example.R"
@@ -338,7 +343,7 @@ for at, (kind, code) in enumerate(re.findall(r"```(\w+)\n(.*?)```", page, re.S))
 ' "$top/docs/LANGUAGES.md" "$temp"
     for file in "$temp"/[0-9].*; do
         name="the example of LANGUAGES ${file##*/}"
-        case $file in *.rust) tool=rustc ;; *.r) tool=Rscript ;; *) tool=python3 ;; esac
+        case $file in *.rust) tool=rustc ;; *.r) tool=Rscript ;; *.js) tool=node ;; *) tool=python3 ;; esac
         if needs "$tool" "$name"; then
             example "$file" >"$temp/its" 2>"$temp/its.err"
             if [ "$(tr '\n' ' ' <"$temp/its")" = "2 0.500000 1 0.250000 1 0.250000 " ]; then ok "$name"; else failed "$name" "$(head -n 1 "$temp/its.err")"; fi
