@@ -1,9 +1,10 @@
 #!/usr/bin/env python3
 """Makes the Python packages: the wheel, also for pip, and the zipapp council-tools.
 
-    backend.py wheel FOLDER PROGRAM LIBRARY     a wheel with the program and libcouncil.so
+    backend.py wheel FOLDER PLATFORM FILE..     a wheel with the program, the library or both
     backend.py sdist FOLDER                     the sources, whose wheel runs the program on the PATH
     backend.py zipapp FILE                      council-tools as one file
+    backend.py zip FILE FOLDER                  a zip of a folder
 
 `pip install ./python` calls `build_wheel` and loads nothing from the network: its wheel has neither
 of the two, and looks for the program on the PATH. SOURCE_DATE_EPOCH sets the time of all files, so
@@ -21,7 +22,6 @@ import time
 import zipfile
 
 HERE = os.path.dirname(os.path.realpath(__file__))
-PLATFORM = "py3-none-manylinux_2_34_x86_64"
 # what runs first in a zipapp
 MAIN = """import sys
 
@@ -149,12 +149,16 @@ def make_zipapp(path):
 
 
 def main(words):
-    if len(words) == 4 and words[0] == "wheel":
-        print(make_wheel(words[1], PLATFORM, [("council", read(words[2])), ("libcouncil.so", read(words[3]))]))
+    if len(words) >= 4 and words[0] == "wheel":
+        print(make_wheel(words[1], f"py3-none-{words[2]}", [(os.path.basename(it), read(it)) for it in words[3:]]))
     elif len(words) == 2 and words[0] == "sdist":
         print(build_sdist(words[1]))
     elif len(words) == 2 and words[0] == "zipapp":
         make_zipapp(words[1])
+    elif len(words) == 3 and words[0] == "zip":
+        top = os.path.dirname(os.path.abspath(words[2]))
+        paths = [os.path.join(folder, it) for folder, _, files in os.walk(os.path.abspath(words[2])) for it in files]
+        write_zip(words[1], [(os.path.relpath(it, top), read(it), 0o644) for it in paths])
     else:
         sys.exit(__doc__)
 

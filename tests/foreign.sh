@@ -286,6 +286,18 @@ END
     fi
 fi
 
+# ---- an object that was compiled with an older header, and has names of another library of Rattle
+name="an older caller"
+if command -v cc >/dev/null; then
+    echo '[51; 50, 49, 1]' >"$temp/older.txt"
+    run --list "$temp/older.txt"
+    cp "$temp/out" "$temp/wanted"
+    cc -std=c99 -Wall -Wextra -Werror -pedantic -c -o "$temp/older.o" "$here/older.c" 2>"$temp/err" &&
+        cc -o "$temp/older" "$temp/older.o" "$library" 2>>"$temp/err" && "$temp/older" >"$temp/out" 2>>"$temp/err"
+    status=$?
+    printed "$name" "$temp/wanted"
+fi
+
 # ---- the example of LIBRARY, with the game that it has, and with a fault
 name="the example of LIBRARY in C"
 if command -v cc >/dev/null; then
@@ -310,6 +322,11 @@ example() {
         rustc --edition 2024 -D warnings -o "$temp/example_rs" "$1" -L "$temp" -l council &&
             LD_LIBRARY_PATH=$temp "$temp/example_rs"
         ;;
+    *.js)
+        python3 "$top/tools/web.py" "$top/docs/council.html" "$temp"
+        cp "$1" "$temp/example.mjs"
+        node "$temp/example.mjs"
+        ;;
     *.r)
         # (the package is not installed here)
         sed '/^library(council)$/d' "$1" | cat "$top/r/council/R/council.R" - >"$temp/example.R"
@@ -326,7 +343,7 @@ for at, (kind, code) in enumerate(re.findall(r"```(\w+)\n(.*?)```", page, re.S))
 ' "$top/docs/LANGUAGES.md" "$temp"
     for file in "$temp"/[0-9].*; do
         name="the example of LANGUAGES ${file##*/}"
-        case $file in *.rust) tool=rustc ;; *.r) tool=Rscript ;; *) tool=python3 ;; esac
+        case $file in *.rust) tool=rustc ;; *.r) tool=Rscript ;; *.js) tool=node ;; *) tool=python3 ;; esac
         if needs "$tool" "$name"; then
             example "$file" >"$temp/its" 2>"$temp/its.err"
             if [ "$(tr '\n' ' ' <"$temp/its")" = "2 0.500000 1 0.250000 1 0.250000 " ]; then ok "$name"; else failed "$name" "$(head -n 1 "$temp/its.err")"; fi

@@ -67,7 +67,7 @@ else
     # Each of these works on one processor, and as many run at once as there are: the longest first,
     # those that want the library last. Then come those that want all processors for themselves: the
     # cases use them all, and each run of the fuzzer must end within a second.
-    names=" mutants refused model random_games waiting preview call_allocations tally program_allocations sizes workers small_machine every_size output using packages launcher explained examples documents tour mutants_fit refused_fit reading style visibility memory_source gate_source foreign archive wheel cases fuzz statutes "
+    names=" mutants refused model random_games waiting preview call_allocations tally program_allocations sizes workers small_machine every_size output using packages launcher explained examples documents tour mutants_fit refused_fit reading style visibility memory_source gate_source foreign archive wheel web platforms cases fuzz statutes "
     if ! command -v python3 >/dev/null; then
         for name in refused random_games every_size explained refused_fit reading style visibility memory_source gate_source cases fuzz statutes; do
             names=${names/ $name / }

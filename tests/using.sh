@@ -1,15 +1,11 @@
 #!/usr/bin/env bash
-# council-tools on the stored reports, and the picture and the commands of README.md and
-# docs/GUIDE.md.
+# council-tools on the stored reports, and the commands of README.md and docs/GUIDE.md.
 . "$(dirname "$0")/common.sh"
 cd "$top" || exit 1
 export PYTHONDONTWRITEBYTECODE=1
 
 tools=$top/tools/council-tools
-if needs python3 "the picture in README.md" "council-tools table on each example"; then
-    "$tools" bars <examples/eec-1958.tsv >"$temp/out" 2>"$temp/err"
-    status=$?
-    printed "the picture in README.md" docs/eec-1958.svg
+if needs python3 "council-tools table on each example"; then
     why=
     for report in examples/*.tsv; do
         "$tools" table "$report" >/dev/null 2>"$temp/err" || why="$report: $(tail -n 1 "$temp/err")"

@@ -12,7 +12,7 @@ if ! git -C "$top" rev-parse HEAD >/dev/null 2>&1; then
     exit 0
 fi
 "$top/tools/release.sh" --draft --to "$temp/one" "$program" >"$temp/out" 2>"$temp/err"
-wheel=$(sed -n 2p "$temp/out")
+wheel=$(grep '\.whl$' "$temp/out")
 if [ ! -s "$temp/err" ] && [ -z "$wheel" ]; then
     skipped "$name" "there was no library for other languages of these sources: tools/build.py --library makes it"
     exit 0

@@ -1,18 +1,21 @@
 #!/bin/sh
 # Makes dist/council-VERSION-x86_64-linux.tar.gz, which needs no toolchain, the wheel for Python,
-# and dist/SHA256SUMS beside them:
+# the page for browsers, the module for Node, the library and wheels for Windows and for Linux on
+# ARM, and dist/SHA256SUMS beside them:
 #
-#     tools/release.sh [--draft] [--to FOLDER] [PROGRAM]
+#     tools/release.sh [--draft] [--to FOLDER] [--platforms FOLDER] [PROGRAM]
 #
 # from the program that ./council or .ci/run has proved and built of the sources at hand. All must
 # be committed, and .ci/run must have passed on that commit, which also makes the library for other
 # languages; --draft makes an archive without, and the file PROVED in it says so. Without the
-# library there is no wheel. Two releases of one commit and one program are the same bytes: names
+# library there is no wheel, and a draft has the other platforms only if --platforms names what
+# tools/platforms.sh has made. Two releases of one commit and one program are the same bytes: names
 # are sorted, owners fixed, times those of the commit.
 set -eu
 top=$(CDPATH='' cd -P -- "$(dirname -- "$0")/.." >/dev/null && pwd -P)
 out=$top/crates/council/out
 draft=
+platforms=
 to=$top/dist
 program=$out/council
 while [ $# -gt 0 ]; do
@@ -22,8 +25,12 @@ while [ $# -gt 0 ]; do
         to=${2:?"--to wants a folder"}
         shift
         ;;
+    --platforms)
+        platforms=${2:?"--platforms wants a folder"}
+        shift
+        ;;
     -*)
-        echo "usage: tools/release.sh [--draft] [--to FOLDER] [PROGRAM]" >&2
+        echo "usage: tools/release.sh [--draft] [--to FOLDER] [--platforms FOLDER] [PROGRAM]" >&2
         exit 2
         ;;
     *) program=$1 ;;
@@ -68,6 +75,9 @@ library=$top/crates/council_c/out/libcouncil.a
 [ -n "$draft$library" ] || stop "there is no library for other languages of these sources: tools/build.py --library makes it"
 
 [ -z "$library" ] || command -v cc >/dev/null || stop "the command cc was not found"
+page=$top/docs/council.html
+[ -n "$draft" ] || grep -q "LLVM module $(sha256sum <"${library%/*}/council.bc" | cut -c 1-16)" "$page" ||
+    stop "docs/council.html is of another library: run tools/web.sh --docs"
 
 name=council-$version-x86_64-linux
 temp=$(mktemp -d)
@@ -78,7 +88,9 @@ trap 'exit 129' HUP
 folder=$temp/$name
 mkdir -p "$folder/docs" "$folder/bin" "$to"
 cp "$program" "$folder/council"
-cp "$top/tools/archive/README.md" "$top/tools/archive/install.sh" "$folder/"
+cp "$top/tools/archive/README.md" "$top/tools/archive/install.sh" "$page" "$folder/"
+python3 "$top/tools/web.py" "$page" "$folder/node"
+rm "$folder/node/council.html"
 # (no name of the repository has a blank)
 for file in $(git -C "$top" ls-files LICENSE CITATION.cff CHANGELOG.md docs/GUIDE.md docs/FORMATS.md docs/LIBRARY.md docs/LANGUAGES.md docs/council.1 docs/council-tools.1 docs/statutes examples completions r); do
     mkdir -p "$folder/$(dirname "$file")"
@@ -95,7 +107,7 @@ if [ -n "$library" ]; then
     "$top/tools/shared.sh" "$library" "$folder/lib/libcouncil.so"
     ln -s libcouncil.so "$folder/lib/libcouncil.so.1"
     sed "s/@VERSION@/$version/" "$top/tools/archive/council.pc" >"$folder/lib/pkgconfig/council.pc"
-    wheel=$(python3 "$top/python/backend.py" wheel "$temp" "$program" "$folder/lib/libcouncil.so")
+    wheel=$(python3 "$top/python/backend.py" wheel "$temp" manylinux_2_34_x86_64 "$folder/council" "$folder/lib/libcouncil.so")
     case $wheel in
     "council-$version-"*) ;;
     *) stop "python/pyproject.toml has another version than the program: the wheel is $wheel" ;;
@@ -109,15 +121,51 @@ python3 "$top/tools/reference.py" "$folder/reference"
     echo "the gate's last line: ${gate:-the gate was not run on this commit}"
     echo "sum of the program: $(sha256sum <"$program" | cut -d ' ' -f 1)"
     [ -z "$library" ] || echo "sum of the library: $(sha256sum <"$library" | cut -d ' ' -f 1)"
+    [ -z "$library" ] || echo "sum of its LLVM module: $(sha256sum <"${library%/*}/council.bc" | cut -d ' ' -f 1)"
 } >"$folder/PROVED"
-find "$folder" -type d -exec chmod 755 {} +
-find "$folder" -type f -exec chmod 644 {} +
-chmod 755 "$folder/council" "$folder/install.sh" "$folder/bin/council-tools"
-tar -C "$temp" --format=ustar --sort=name --owner=0 --group=0 --numeric-owner --mtime="@$time" -cf "$temp/it.tar" "$name"
-gzip -n -9 "$temp/it.tar"
-mv "$temp/it.tar.gz" "$to/$name.tar.gz"
+
+# pack NAME: makes the archive NAME.tar.gz of a folder.
+pack() {
+    find "$temp/$1" -type d -exec chmod 755 {} +
+    find "$temp/$1" -type f -exec chmod 644 {} +
+    for file in council install.sh bin/council-tools; do [ ! -f "$temp/$1/$file" ] || chmod 755 "$temp/$1/$file"; done
+    tar -C "$temp" --format=ustar --sort=name --owner=0 --group=0 --numeric-owner --mtime="@$time" -cf "$temp/it.tar" "$1"
+    gzip -n -9 <"$temp/it.tar" >"$to/$1.tar.gz"
+}
+
+# other NAME PLATFORM LIBRARY FILE..: makes the folder and the wheel of another platform.
+other() {
+    its=$temp/$1
+    mkdir -p "$its/lib" "$its/include" "$its/docs"
+    cp "$top/include/council.h" "$its/include/"
+    cp "$page" "$folder/PROVED" "$folder/LICENSE" "$its/"
+    cp "$folder/docs/GUIDE.md" "$folder/docs/LIBRARY.md" "$folder/docs/LANGUAGES.md" "$its/docs/"
+    its_wheel=$(python3 "$top/python/backend.py" wheel "$its" "$2" "$3")
+    cp "$its/$its_wheel" "$to/"
+    shift 2
+    cp "$@" "$its/lib/"
+}
+
+pack "$name"
 [ -z "$wheel" ] || mv "$temp/$wheel" "$to/$wheel"
+cp "$page" "$folder/node/council.mjs" "$folder/node/council.d.ts" "$to/"
 # (no name of a wheel has a blank)
-(CDPATH='' cd -- "$to" && sha256sum "$name.tar.gz" $wheel >SHA256SUMS)
-echo "$to/$name.tar.gz"
-[ -z "$wheel" ] || echo "$to/$wheel"
+files="$name.tar.gz $wheel council.html council.mjs council.d.ts"
+if [ -z "$draft$platforms" ]; then
+    platforms=$temp/platforms
+    "$top/tools/platforms.sh" "$platforms"
+fi
+if [ -n "$platforms" ]; then
+    windows=council-$version-x86_64-windows
+    other "$windows" win_amd64 "$platforms/windows/council.dll" "$platforms/windows/libcouncil.dll.a"
+    python3 "$top/python/backend.py" zip "$to/$windows.zip" "$temp/$windows"
+    files="$files $windows.zip $its_wheel"
+    arm=council-$version-aarch64-linux
+    # the oldest C library that has all of its symbols
+    glibc=$(aarch64-linux-gnu-objdump -T "$platforms/arm/libcouncil.so" | sed -n 's/.*GLIBC_\([0-9]*\)\.\([0-9]*\).*/\1_\2/p' | sort -t _ -k 1,1n -k 2,2n | tail -n 1)
+    other "$arm" "manylinux_${glibc}_aarch64" "$platforms/arm/libcouncil.so" "$platforms/arm/libcouncil.a"
+    pack "$arm"
+    files="$files $arm.tar.gz $its_wheel"
+fi
+(CDPATH='' cd -- "$to" && sha256sum $files >SHA256SUMS)
+for file in $files; do echo "$to/$file"; done

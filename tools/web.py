@@ -1,17 +1,16 @@
 #!/usr/bin/env python3
-"""Puts the sources of web/ and a module together, for tools/web.sh:
+"""Puts the sources of web/ and a module together:
 
-    tools/web.py MODULE MADE FOLDER
+    tools/web.py MODULE MADE FOLDER     for tools/web.sh; MADE says with what the module was made
+    tools/web.py PAGE FOLDER            of the module in a page
 
-makes council.html, one page that holds all and loads nothing, and council.mjs with its types and package.json. MADE
-says with what the module was made.
+makes council.html, one page that holds all and loads nothing, and council.mjs with its types and package.json.
 """
 import base64
 import hashlib
 import json
 import os
 import re
-import shutil
 import sys
 
 TOP = os.path.dirname(os.path.dirname(os.path.realpath(__file__)))
@@ -50,19 +49,26 @@ def make_page(module, made):
     return page
 
 
-def main(module, made, folder):
-    with open(module, "rb") as it:
-        text = base64.b64encode(it.read()).decode()
+def main(folder, module, made):
+    """Writes all files, of the module in base64."""
     version = re.search(r'^version = "(.*)"$', read("python/pyproject.toml"), re.M)[1]
     package = {"name": "council", "version": version, "description": "Power indices of weighted votes, by a proved library",
                "type": "module", "exports": {".": {"types": "./council.d.ts", "default": "./council.mjs"}},
                "files": ["council.mjs", "council.d.ts"], "engines": {"node": ">=18"}, "license": "MIT OR Apache-2.0"}
-    files = {"council.html": make_page(text, made), "package.json": json.dumps(package, indent=2) + "\n",
-             "council.mjs": f'// {made}\nconst MODULE = "{text}";\n' + read("web/library.js") + read("web/council.mjs")}
+    files = {"council.html": make_page(module, made), "package.json": json.dumps(package, indent=2) + "\n",
+             "council.mjs": f'// {made}\nconst MODULE = "{module}";\n' + read("web/library.js") + read("web/council.mjs"),
+             "council.d.ts": read("web/council.d.ts")}
+    os.makedirs(folder, exist_ok=True)
     for name, text in files.items():
         with open(f"{folder}/{name}", "w", encoding="utf-8") as it:
             it.write(text)
-    shutil.copy(f"{TOP}/web/council.d.ts", folder)
 
 
-main(*sys.argv[1:])
+if len(sys.argv) == 3:
+    with open(sys.argv[1], encoding="utf-8") as page:
+        parts = re.search(r'name="generator" content="([^"]*)".*id="module">([^<]*)<', page.read(), re.S)
+    assert parts, f"{sys.argv[1]} is no page of council"
+    main(sys.argv[2], parts[2], parts[1])
+else:
+    with open(sys.argv[1], "rb") as it:
+        main(sys.argv[3], base64.b64encode(it.read()).decode(), sys.argv[2])

@@ -39,15 +39,15 @@ trap 'rm -rf "$temp"' EXIT
 compile() {
     "$clang" --target=wasm64-unknown-unknown -O3 -mbulk-memory -Wno-override-module "$@"
 }
-compile -fno-builtin -c "$top/web/heap.c" -o "$temp/heap.o"
+compile -fno-builtin -c "$top/web/malloc.c" -o "$temp/malloc.o"
+compile -c "$top/tools/heap.c" -o "$temp/heap.o"
 # (it says that it knows no x86-64, for which the module names a processor)
 compile -x ir -c "$module" -o "$temp/council.o" 2>"$temp/said" || stop "$(cat "$temp/said")"
-calls='council_version council_report council_swings_report council_report_raw'
+calls='council_version council_report_raw malloc free requests_left'
 wide_calls='__multi3 __udivti3 __umodti3 __ashlti3 __lshrti3'
 "${clang%/*}/ld.lld" -flavor wasm -mwasm64 --no-entry -z stack-size=1048576 \
-    $(printf -- '--export-if-defined=%s ' $calls $wide_calls) \
-    --export=room --export=rattle_dealloc --export=requests_left \
-    -o "$temp/council64.wasm" "$temp/heap.o" "$temp/council.o" "$wide"
+    $(printf -- '--export=%s ' $calls) $(printf -- '--export-if-defined=%s ' $wide_calls) \
+    -o "$temp/council64.wasm" "$temp/malloc.o" "$temp/heap.o" "$temp/council.o" "$wide"
 # addresses of 64 bits become those of 32, which every browser has
 wasm-opt --enable-memory64 --enable-bulk-memory --memory64-lowering -O2 --strip-target-features --strip-producers "$temp/council64.wasm" -o "$temp/council.wasm"
 if [ -n "$only" ] && [ "$only" != council.html ]; then

@@ -23,8 +23,7 @@ export async function report({quotas, weights, names, title, ways, ...options}) 
     // the fault of a game file does not say which rule it is of
     const number = it => it === "nan" ? Infinity : Number(it), total = rule => columns[rule].reduce((sum, it) => sum + number(it), 0);
     if (/^bad weight/.test(error.fault)) error.rule = first(columns, it => number(it[error.member - 1]) > Number(LIMITS.weight));
-    if (/^bad quota/.test(error.fault)) error.rule = first(rules, it => it === "nan");
-    if (/^quota out/.test(error.fault)) error.rule = first(rules, (it, rule) => number(it) < 1 || number(it) > total(rule));
+    if (/quota/.test(error.fault)) error.rule = first(rules, (it, rule) => number(it) < 1 || number(it) > total(rule));
     throw error;
   }
 }

@@ -4,6 +4,7 @@
 const FIRST_GAME = {title: "Three shareholders", ways: "", rules: [{name: "Shares", quota: ">50%"}],
   members: [{name: "Anna", weights: ["50"]}, {name: "Bruno", weights: ["49"]}, {name: "Chris", weights: ["1"]}]};
 
+const ROWS = 1000, TOO_MANY = `A game has at most ${LIMITS.members} members. For a parliament, take parties instead of persons.`;
 const countBytes = text => new TextEncoder().encode(text).length;
 const isText = (text, most) => text !== "" && countBytes(text) <= most && text.isWellFormed?.() !== false && !/[\0-\x1f\x7f]/.test(text);
 const isHeads = rule => /^\s*heads\b/i.test(rule.quota);
@@ -85,7 +86,7 @@ function resolve(game) {
   const {ways, problem} = readWays(game.ways, rules.length);
   if (problem) report("ways", problem);
   if (game.title && !isText(game.title, LIMITS.title)) report("title", `A title has at most ${LIMITS.title} bytes`);
-  if (members.length > LIMITS.members) report("members", `A game has at most ${LIMITS.members} members, and this one has ${members.length}. For a parliament, take parties instead of persons.`);
+  if (members.length > LIMITS.members) report("members", `This game has ${members.length} members. ${TOO_MANY}`);
   const comments = rules.map((rule, at) => `Rule ${at + 1}: ${JSON.stringify(rule.name || `Rule ${at + 1}`)}${places[at] ? `, ${places[at]} decimals` : ""}; the quota ${JSON.stringify(rule.quota)}`);
   return {problems, places, weights, totals, ways: ways ?? [], title: game.title, names: members.map(it => it.name), quotas: parsed.map(it => it.value ?? 0n), comments};
 }
@@ -132,29 +133,24 @@ function readTable(rows, old) {
   return {game, notes, numbersOnly: named === undefined && !heading};
 }
 
-/** Returns the game of a report, with the names of rules, decimals and quotas that comments of its game file tell. */
-function readGame(report, text = "") {
-  const units = report.quotas.map((_, rule) => {
-    const [, name = "", places = "0"] = new RegExp(`^# Rule ${rule + 1}: (?:("(?:[^"\\\\]|\\\\.)*")(?:, |;|$))?(?:percent(?:, |;|$))?(?:(\\d{1,2}) decimal)?`, "m").exec(text) ?? [];
-    const quota = new RegExp(`^# Rule ${rule + 1}: .*the quota "([^"\\\\]*)"`, "m").exec(text)?.[1];
-    return {name: name ? readQuoted(name) : "", places: Math.min(Number(places), 12), quota};
-  });
-  const write = (number, rule) => writeUnits(number, units[rule].places).replaceAll(",", "");
-  const rules = report.quotas.map((quota, rule) => {
-    const total = BigInt(report.totals[rule]), told = units[rule].quota;
-    const isTold = told !== undefined && !/heads/i.test(told) && readQuota(told, total, units[rule].places).value === BigInt(quota);
-    return {name: units[rule].name === `Rule ${rule + 1}` ? "" : units[rule].name, quota: isTold ? told : write(quota, rule)};
-  });
-  return {title: report.title, rules, ways: report.ways.length > 1 ? report.ways.map(it => it.join(",")).join(" ") : "",
-    members: report.members.map(it => ({name: it.name, weights: it.weights.map(write)}))};
+/** Returns the report in a text, if it is whole. */
+function readWhole(text) {
+  const report = readReport(text), its = [report.quotas, report.totals, ...report.members.map(it => it.weights)], rules = report.quotas.length;
+  if (report.members.length && rules && its.every(it => it.length === rules && it.every(Number.isSafeInteger))) return report;
+  throw new Error("the report is not whole");
 }
 
-function readQuoted(text) {
-  try {
-    return JSON.parse(text);
-  } catch {
-    return text.slice(1, -1);
-  }
+/** Returns the game of a report, with the names of rules, decimals and quotas that comments of its game file have. */
+function readGame(report, text = "") {
+  const write = (number, places) => writeUnits(number, places).replaceAll(",", "");
+  const rules = report.quotas.map((number, rule) => {
+    const [, quoted = "", rest = ""] = new RegExp(`^# Rule ${rule + 1}: ("(?:[^"\\\\]|\\\\.)*")?(.*)$`, "m").exec(text) ?? [];
+    const name = quoted.slice(1, -1).replace(/\\(["\\])/g, "$1"), places = Math.min(12, Number(/^,.*?(\d+) decimal/.exec(rest)?.[1] ?? 0));
+    const quota = /the quota "([^"\\]*)"/.exec(rest)?.[1] ?? "heads", isIts = !/heads/i.test(quota) && readQuota(quota, BigInt(report.totals[rule]), places).value === BigInt(number);
+    return {name: name === `Rule ${rule + 1}` ? "" : name, quota: isIts ? quota : write(number, places), places};
+  });
+  return {title: report.title, rules: rules.map(({name, quota}) => ({name, quota})), ways: report.ways.length > 1 ? report.ways.map(it => it.join(",")).join(" ") : "",
+    members: report.members.map(it => ({name: it.name, weights: it.weights.map((weight, rule) => write(weight, rules[rule].places))}))};
 }
 
 /** Writes a game as the part of a link after #, and reads it; what is no game is null. */
@@ -167,7 +163,7 @@ function readLink(hash) {
   try {
     const bytes = atob(/^#game=([\w-]+)$/.exec(hash)[1].replaceAll("-", "+").replaceAll("_", "/"));
     const [title, ways, rules, members] = JSON.parse(new TextDecoder().decode(Uint8Array.from(bytes, it => it.charCodeAt(0))));
-    const isGame = rules.length >= 1 && rules.length <= LIMITS.rules && members.length >= 1 && members.length <= 1000
+    const isGame = rules.length >= 1 && rules.length <= LIMITS.rules && members.length >= 1 && members.length <= ROWS
       && [title, ways, ...rules.flat(), ...members.flat()].every(it => typeof it === "string")
       && rules.every(it => it.length === 2) && members.every(it => it.length === rules.length + 1);
     return isGame ? {title, ways, rules: rules.map(([name, quota]) => ({name, quota})), members: members.map(([name, ...weights]) => ({name, weights}))} : null;

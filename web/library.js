@@ -24,15 +24,13 @@ const EXPLANATIONS = [
   [/longer than/, "A game file has at most 65,536 bytes."],
   [/not TOML/, "A game file is TOML, or one line such as [51; 50, 49, 1]. Weights have no thousands separators."],
   [/unknown key/, "The keys are title, quota, quotas, ways and member, and for a member name, weight and weights."],
-  [/bad title/, "A title has at most 200 bytes, and no line breaks."],
   [/bad rules/, "Give one quota and a weight for each member, or quotas and weights of 1 to 4 rules."],
-  [/bad quota/, "A quota is a whole number."],
   [/bad ways/, "Give 1 to 6 ways. Each names rules, once each; each rule is in some way, and no way has all rules of another."],
   [/bad member list/, "A game has 1 to 40 members. For a parliament, take parties instead of persons."],
-  [/bad name/, "A name has 1 to 64 bytes, and no line breaks."],
+  [/bad (title|name)/, "A name has 1 to 64 bytes, a title at most 200, and neither has line breaks."],
   [/repeats a name/, "Each member has a name of its own."],
   [/bad weight/, "A weight is a whole number from 0 to 1,000,000,000,000."],
-  [/quota out of range/, "A quota is at least 1, and at most the total of the weights."],
+  [/bad quota|quota out of range/, "A quota is a whole number, at least 1, and at most the total of the weights."],
   [/bad bracket text/, "Write the quota, a semicolon, and the weights with commas between them: [51; 50, 49, 1]."],
   [/too many states/, "Members with many different weights under several rules make too many states. Ask for fewer indices, or merge members that vote alike."],
   [/too many minimal/, "There are more minimal winning coalitions than may be listed, or too many states to count them."],
@@ -55,43 +53,28 @@ class Instance {
     this.calls = new WebAssembly.Instance(module).exports;
   }
 
-  get size() {
-    return this.calls.memory.buffer.byteLength;
-  }
-
   get version() {
-    const number = this.calls.council_version();
-    return number ? [number / 10000, number / 100 % 100, number % 100].map(Math.floor).join(".") : "";
-  }
-
-  /** Calls a function with room for each of some numbers of bytes, and frees it. */
-  withRoom(sizes, call) {
-    const places = [];
-    try {
-      for (const size of sizes) {
-        places.push(this.calls.room(BigInt(size)));
-        if (!places.at(-1)) return {status: 5, text: "out of memory", length: 0};
-      }
-      return call(...places);
-    } finally {
-      places.filter(Boolean).forEach(it => this.calls.rattle_dealloc(it));
-    }
+    return [10000, 100, 1].map(it => Math.floor(this.calls.council_version() / it) % 100).join(".");
   }
 
   /** Returns the status and the text of a report, of which it keeps as much as fits. */
   call(game, options, room) {
-    const write = (place, bytes) => new Uint8Array(this.calls.memory.buffer).set(bytes, Number(place));
-    return this.withRoom([game.length, 8, room, 8], (its, words, text, length) => {
-      write(its, game);
-      write(words, new Uint8Array(Uint32Array.of(options.most ?? 0).buffer));
-      write(words + 4n, ["tally", "list", "sizes", "notation"].map(it => options[it] ? 1 : 0));
-      const rest = [text, BigInt(room), length], swings = options.swings || options.only_swings;
-      const status = swings ? this.calls.council_swings_report(its, BigInt(game.length), words, options.only_swings ? 1 : 0, ...rest)
-        : this.calls.council_report(its, BigInt(game.length), words, ...rest);
-      const whole = Number(new DataView(this.calls.memory.buffer).getBigUint64(Number(length), true));
-      const bytes = new Uint8Array(this.calls.memory.buffer, Number(text), Math.min(whole, room));
-      return {status, length: whole, text: new TextDecoder("utf-8", {ignoreBOM: true}).decode(bytes)};
-    });
+    // the words of struct council_options of council.h from size to only_swings, the length of the text, the text, and the game
+    const flags = ["tally", "list", "sizes", "notation", "swings", "only_swings"].map(it => options[it] ? 1n : 0n);
+    const words = BigUint64Array.of(80n, BigInt(options.most ?? 0), 0n, 0n, ...flags, 0n), text = words.byteLength;
+    const place = this.calls.malloc(BigInt(text + room + game.length)), at = number => place + BigInt(number);
+    if (!place) return {status: 5, text: "out of memory", length: 0};
+    try {
+      const write = (where, bytes) => new Uint8Array(this.calls.memory.buffer).set(bytes, Number(at(where)));
+      write(0, new Uint8Array(words.buffer));
+      write(text + room, game);
+      const status = this.calls.council_report_raw(at(text + room), BigInt(game.length), place, 10n, at(text), BigInt(room), at(80));
+      const length = Number(new DataView(this.calls.memory.buffer).getBigUint64(Number(at(80)), true));
+      const bytes = new Uint8Array(this.calls.memory.buffer, Number(at(text)), Math.min(length, room));
+      return {status, length, text: new TextDecoder("utf-8", {ignoreBOM: true}).decode(bytes)};
+    } finally {
+      this.calls.free(place);
+    }
   }
 
   /** Returns the status and the text of a report of the bytes or the text of a game file; of at most `room` bytes, if that is given. */
@@ -108,14 +91,7 @@ class Fraction {
     Object.assign(this, {top: BigInt(top), bottom: BigInt(bottom)});
   }
 
-  /** Returns the fraction of a text `top/bottom`. */
-  static read(text) {
-    return new Fraction(...text.split("/"));
-  }
-
-  toString() {
-    return `${this.top}/${this.bottom}`;
-  }
+  toString() { return `${this.top}/${this.bottom}`; }
 
   /** Returns the nearest double. */
   valueOf() {
@@ -131,10 +107,8 @@ class Fraction {
   }
 }
 
-/** Returns the members of a coalition's line, in words of the report. */
-function readCoalition([size, weight, ...names]) {
-  return {size: Number(size), weights: weight.split("/").map(Number), members: names};
-}
+/** Returns the coalition of the fields of a line. */
+const readCoalition = ([size, weight, ...names]) => ({size: Number(size), weights: weight.split("/").map(Number), members: names});
 
 /** Returns the report in a text: an object with the columns that the Python package has too. */
 function readReport(text) {
@@ -146,7 +120,7 @@ function readReport(text) {
     else if (kind === "quota" || kind === "total") report[`${kind}s`] = fields[0].split("/").map(Number);
     else if (kind === "ways") report.ways = fields[0].split(" ").map(it => it.split(",").map(Number));
     else if (kind === "minimal" || kind === "winning") report[kind] = Number(fields[0]);
-    else if (kind === "act") Object.assign(report, {power_to_act_exact: Fraction.read(fields[0]), power_to_act: Number(Fraction.read(fields[0]))});
+    else if (kind === "act") report.power_to_act = Number(report.power_to_act_exact = new Fraction(...fields[0].split("/")));
     else if (kind === "coalition") (report.coalitions ??= []).push(readCoalition(fields));
     else if (kind === "size") (report.sizes ??= []).push(fields.map(Number));
     else if (kind === "member") report.members.push(readMember(fields, lines));
@@ -160,9 +134,7 @@ function readMember([name, weight, ...fields], lines) {
   for (const group of GROUPS.filter(it => lines.has(it.line))) {
     member[group.column] = Number(fields.shift());
     for (const {name: index} of group.indices) {
-      if (fields.length < 2) break;
-      member[`${index}_exact`] = Fraction.read(fields.shift());
-      member[index] = Number(member[`${index}_exact`]);
+      member[index] = Number(member[`${index}_exact`] = new Fraction(...fields.shift().split("/")));
       fields.shift();
     }
   }
@@ -190,71 +162,65 @@ function answer(post) {
     if (message.module) return void (module = message.module);
     try {
       instance ??= new Instance(module);
-      const {status, text, length} = instance.report(message.game, message.options, message.room);
-      post({id: message.id, status, text, length, size: instance.size, version: instance.version});
+      post({...instance.report(message.game, message.options, message.room), version: instance.version});
       // (memory of a module is never given back but with the module)
-      if (instance.size > 1 << 28) instance = null;
+      if (instance.calls.memory.buffer.byteLength > 1 << 28) instance = null;
     } catch (error) {
       instance = null;
-      post({id: message.id, status: 5, text: error instanceof RangeError ? "out of memory" : `the module stopped: ${error.message}`, length: 0, size: 0});
+      post({status: 5, text: error instanceof RangeError ? "out of memory" : `the module stopped: ${error.message}`, length: 0});
     }
   };
 }
 
-/** Starts a worker for a module, of this script's own text, which calls `hear` with each reply. */
+/** Starts a worker for a module, of this script's own text, which calls `hear` with each reply; in Node by its threads. */
 function startWorker(module, hear, threads) {
-  const source = `"use strict"; ${Instance} ${answer}`;
-  if (threads) {
-    const worker = new threads.Worker(`${source} const it = require("node:worker_threads").parentPort; it.on("message", answer(reply => it.postMessage(reply)));`, {eval: true});
-    worker.on("message", hear).postMessage({module});
-    return {post: it => worker.postMessage(it), end: () => worker.terminate(), rest: calls => calls ? worker.ref() : worker.unref()};
-  }
-  const url = URL.createObjectURL(new Blob([`${source} const hear = answer(reply => postMessage(reply)); onmessage = it => hear(it.data);`], {type: "text/javascript"}));
-  const worker = new Worker(url);
-  worker.onmessage = it => hear(it.data);
+  const source = `"use strict"; ${Instance} ${answer} const port = ${threads ? 'require("node:worker_threads").parentPort' : "self"};
+    const hear = answer(reply => port.postMessage(reply)); port.${threads ? 'on("message", hear)' : "onmessage = it => hear(it.data)"};`;
+  const url = threads ? "" : URL.createObjectURL(new Blob([source], {type: "text/javascript"}));
+  const worker = threads ? new threads.Worker(source, {eval: true}) : new Worker(url);
+  if (threads) worker.on("message", hear);
+  else worker.onmessage = it => hear(it.data);
   worker.postMessage({module});
-  return {post: it => worker.postMessage(it), end: () => (worker.terminate(), URL.revokeObjectURL(url))};
+  return {worker, end: () => (worker.terminate(), url && URL.revokeObjectURL(url))};
 }
 
-/** Calls in a worker, which a stop ends. `start` makes a worker that calls a function with each reply. */
+/** Calls in a worker, one after the other. `start` makes a worker that calls a function with each reply. */
 class Calls {
   constructor(start) {
-    Object.assign(this, {start, worker: null, number: 0, waiting: new Map()});
+    Object.assign(this, {start, worker: null, waiting: []});
   }
 
   /** Returns a promise of the reply to a request, until a signal stops it. */
   async ask(request, signal) {
     signal?.throwIfAborted();
-    const id = this.number++, stop = () => this.stop(id, signal.reason);
+    const call = {request}, stop = () => this.stop(call, signal.reason);
+    const reply = new Promise((resolve, reject) => Object.assign(call, {resolve, reject}));
     signal?.addEventListener("abort", stop);
-    try {
-      return await new Promise((resolve, reject) => {
-        this.waiting.set(id, {request, resolve, reject});
-        this.send(id, request);
-      });
-    } finally {
-      signal?.removeEventListener("abort", stop);
-    }
+    if (this.waiting.push(call) === 1) this.next();
+    return reply.finally(() => signal?.removeEventListener("abort", stop));
   }
 
-  send(id, request) {
-    this.worker ??= this.start(reply => {
-      const it = this.waiting.get(reply.id);
-      this.waiting.delete(reply.id);
-      it?.resolve(reply);
-      this.worker?.rest?.(this.waiting.size);
+  /** Sends the first request, if there is one. */
+  next() {
+    const its = this.worker ??= this.start(reply => {
+      if (its !== this.worker) return;
+      this.waiting.shift().resolve(reply);
+      this.next();
     });
-    this.worker.rest?.(1);
-    this.worker.post({id, ...request});
+    // (a worker that rests keeps no process of Node)
+    its.worker[this.waiting.length ? "ref" : "unref"]?.();
+    if (this.waiting.length) its.worker.postMessage(this.waiting[0].request);
   }
 
-  stop(id, reason) {
-    const it = this.waiting.get(id);
-    if (!it) return;
-    this.waiting.delete(id);
+  /** Stops a call that waits; the worker ends if it is the first one. */
+  stop(call, reason) {
+    const at = this.waiting.indexOf(call);
+    if (at < 0) return;
+    this.waiting.splice(at, 1);
+    call.reject(reason);
+    if (at) return;
     this.worker.end();
     this.worker = null;
-    it.reject(reason);
-    for (const [other, {request}] of this.waiting) this.send(other, request);
+    this.next();
   }
 }

@@ -3,38 +3,22 @@
 const $ = id => document.getElementById(id);
 const SVG = "http://www.w3.org/2000/svg";
 const SHARES = [["#858585", "#92979e"], ["#3f8f5b", "#62b37e"], ["#8a66b5", "#b094dc"], ["#9a8219", "#d0b84a"]];
-const ABOUT = [
-  ["Minimal winning coalition", "It wins, and loses without any one of its members."],
-  ["Swing", "A winning coalition that loses without the member."],
-  ["Vetoer, dictator, dummy", "In every winning coalition; winning without any other; in no minimal winning coalition."],
-  ["Deegan-Packel index", "A member's share if each minimal winning coalition is as likely as another and divides one unit equally."],
-  ["Public good index", "The member's share of all memberships in minimal winning coalitions (Holler)."],
-  ["Banzhaf index", "The member's share of all swings."],
-  ["Penrose's measure", "How likely the member decides, if each other one votes yes or no with equal chances. No share: it need not add up to 1."],
-  ["Shapley-Shubik index", "How likely the member is the one who makes a coalition win, if members join in any order."],
-  ["Coleman's powers", "To prevent: the share of winning coalitions that lose without the member. To initiate: the share of losing ones that win with it."],
-];
-const FAST = 15, SLOW = 1000, POINTS = 200, LISTED = 1000;
+const FAST = 15, SLOW = 1000, POINTS = 1000, LISTED = 1000;
+const state = {game: FIRST_GAME, resolved: null, report: null, reported: null, kept: null, past: [], sort: null, lines: null,
+  chosen: new Set(["deegan_packel", "public_good", "banzhaf", "shapley_shubik"]), running: null, sweeping: null, module: null, calls: {}};
 
-const state = {game: FIRST_GAME, resolved: null, report: null, kept: null, past: [], sort: {column: 0, down: false}, lines: null,
-  chosen: new Set(INDICES.map(it => it.name)), running: null, sweeping: null, calls: null, others: null};
-
-/** Makes an element with attributes, listeners (`onclick`) and children. */
+/** Makes an element with attributes and children. */
 function make(tag, attributes = {}, ...children) {
   const it = tag.startsWith("svg:") ? document.createElementNS(SVG, tag.slice(4)) : document.createElement(tag);
-  for (const [name, value] of Object.entries(attributes)) {
-    if (name.startsWith("on")) it.addEventListener(name.slice(2), value);
-    else if (value !== undefined && value !== false) it.setAttribute(name, value === true ? "" : value);
-  }
+  for (const [name, value] of Object.entries(attributes)) if (value !== undefined && value !== false) it.setAttribute(name, value === true ? "" : value);
   it.append(...children);
   return it;
 }
 
+const notify = text => $("notice").textContent = text;
 const percent = (part, whole) => `${new Fraction(100n * BigInt(part), BigInt(whole)).toFixed(2).replace(/\.?0+$/, "")}%`;
 const nameRule = rule => state.game.rules[rule]?.name || (state.game.rules.length > 1 ? `Rule ${rule + 1}` : "Votes");
 const isDark = () => matchMedia("(prefers-color-scheme: dark)").matches;
-
-// ---- the editor
 
 function renderEditor() {
   const {rules, members, title, ways} = state.game;
@@ -58,105 +42,81 @@ function renderEditor() {
   $("undo").hidden = !state.past.length;
 }
 
-const findCell = cell => ["title", "ways"].includes(cell) ? $(cell) : document.querySelector(`[data-cell="${cell}"]`);
+const findCell = cell => document.querySelector(`[data-cell="${cell}"]`);
 
 /** Shows what is wrong at each cell, and what each quota means. */
 function showProblems() {
   const {problems, quotas, totals, places, ways} = state.resolved;
-  document.querySelectorAll("#editor small.bad").forEach(it => it.remove());
-  document.querySelectorAll("[aria-invalid]").forEach(it => (it.removeAttribute("aria-invalid"), it.dataset.cell && it.removeAttribute("aria-describedby")));
-  for (const id of ["title", "members"]) $(`${id}-note`).textContent = "";
+  document.querySelectorAll("small.bad").forEach(it => it.remove());
+  document.querySelectorAll("[aria-invalid]").forEach(it => ["aria-invalid", "aria-describedby"].forEach(name => it.removeAttribute(name)));
   $("ways-note").textContent = ways.length > 1 ? `A motion passes by ${describeWays(ways)}.` : "";
   state.game.rules.forEach((rule, at) => {
-    const of = isHeads(rule) ? "members" : "", slide = findCell(`slide ${at}`), meaning = $(`meaning ${at}`);
-    meaning.textContent = problems.has(`quota ${at}`) || !totals[at] ? "" : `at least ${writeUnits(quotas[at], places[at])} of ${writeUnits(totals[at], places[at])} ${of} (${percent(quotas[at], totals[at])})`;
+    const of = isHeads(rule) ? "members" : "", slide = findCell(`slide ${at}`), meaning = $(`meaning ${at}`), write = units => writeUnits(units, places[at]);
+    meaning.textContent = problems.has(`quota ${at}`) || !totals[at] ? "" : `at least ${write(quotas[at])} of ${write(totals[at])} ${of} (${percent(quotas[at], totals[at])})`;
     Object.assign(slide, {max: String(totals[at]), value: String(quotas[at])});
     slide.setAttribute("aria-valuetext", meaning.textContent);
   });
   for (const [cell, text] of problems) {
-    const it = findCell(cell), note = $(`${cell}-note`);
-    if (note) Object.assign(note, {textContent: text, className: "note bad"});
+    const it = findCell(cell), id = `problem-${cell.replaceAll(" ", "-")}`;
     it?.setAttribute("aria-invalid", "true");
-    if (!it || note) continue;
-    it.setAttribute("aria-describedby", `problem ${cell}`.replaceAll(" ", "-"));
-    it.after(make("small", {class: "bad", id: `problem ${cell}`.replaceAll(" ", "-")}, text));
+    it?.setAttribute("aria-describedby", id);
+    it?.after(make("small", {class: "bad", id}, text));
   }
-  if (!problems.has("ways")) $("ways-note").className = "note";
 }
 
 /** Takes a game instead of the present one, which can be brought back. */
-function setGame(game, notice = "") {
-  state.past.push(state.game);
-  state.game = game;
-  $("notice").textContent = notice;
-  renderEditor();
-  changed();
-}
-
-function undo() {
-  state.game = state.past.pop() ?? state.game;
-  $("notice").textContent = "";
+function setGame(game, notice = "", past = [...state.past, state.game]) {
+  Object.assign(state, {game, past});
+  notify(notice);
   renderEditor();
   changed();
 }
 
 function typed({target}) {
-  const [kind, ...at] = (target.dataset.cell ?? target.id).split(" "), {game} = state;
+  const [kind, ...at] = (target.dataset.cell ?? "").split(" "), {game} = state, rule = game.rules[at[0]], had = rule && isHeads(rule);
   if (kind === "title" || kind === "ways") game[kind] = target.value;
   else if (kind === "name") game.members[at[0]].name = target.value;
   else if (kind === "weight") game.members[at[0]].weights[at[1]] = target.value;
-  else if (kind === "rule") game.rules[at[0]].name = target.value;
-  else if (kind === "slide") slideQuota(at[0], target.value);
-  else if (kind === "quota") {
-    const was = isHeads(game.rules[at[0]]);
-    game.rules[at[0]].quota = target.value;
-    if (was !== isHeads(game.rules[at[0]])) {
-      renderEditor();
-      const it = findCell(`quota ${at[0]}`);
-      it.focus();
-      it.setSelectionRange(it.value.length, it.value.length);
-    }
+  else if (kind === "rule") rule.name = target.value;
+  else if (kind === "quota") rule.quota = target.value;
+  else if (kind === "slide") {
+    rule.quota = `${had ? "heads:" : ""}${writeUnits(target.value, state.resolved.places[at[0]]).replaceAll(",", "")}`;
+    findCell(`quota ${at[0]}`).value = rule.quota;
   } else return;
+  if (kind === "quota" && had !== isHeads(rule)) {
+    renderEditor();
+    findCell(target.dataset.cell).focus();
+    findCell(target.dataset.cell).setSelectionRange(rule.quota.length, rule.quota.length);
+  }
   changed();
 }
 
-function slideQuota(rule, value) {
-  const it = state.game.rules[rule];
-  it.quota = `${isHeads(it) ? "heads:" : ""}${writeUnits(value, state.resolved.places[rule]).replaceAll(",", "")}`;
-  findCell(`quota ${rule}`).value = it.quota;
+/** Changes a copy of the game, and goes to a cell of it. */
+function edit(change, notice) {
+  const game = structuredClone(state.game), cell = change(game, game.members.length);
+  setGame(game, notice);
+  findCell(cell).focus();
+  findCell(cell).select();
 }
 
-function copyGame() {
-  return structuredClone(state.game);
-}
+const addMember = () => edit(({members, rules}, last) => {
+  let number = last + 1;
+  while (members.some(it => it.name === `Member ${number}`)) number++;
+  members.push({name: `Member ${number}`, weights: rules.map(() => "1")});
+  return `name ${last}`;
+});
+const addRule = () => edit(({members, rules}) => {
+  members.forEach(it => it.weights.push("1"));
+  return `quota ${rules.push({name: "", quota: "heads:>50%"}) - 1}`;
+});
 
-function addMember() {
-  const game = copyGame(), names = new Set(game.members.map(it => it.name));
-  let number = game.members.length + 1;
-  while (names.has(`Member ${number}`)) number++;
-  game.members.push({name: `Member ${number}`, weights: game.rules.map(() => "1")});
-  setGame(game);
-  findCell(`name ${game.members.length - 1}`).select();
-}
-
-function addRule() {
-  const game = copyGame();
-  game.rules.push({name: "", quota: "heads:>50%"});
-  game.members.forEach(it => it.weights.push("1"));
-  setGame(game);
-  findCell(`quota ${game.rules.length - 1}`).select();
-}
-
-function removeFrom({target}) {
-  const {remove, removeRule} = target.dataset, game = copyGame();
-  if (remove !== undefined && game.members.length > 1) game.members.splice(remove, 1);
-  else if (removeRule !== undefined) {
-    game.rules.splice(removeRule, 1);
+function removeFrom({target: {dataset: {remove, removeRule}}}) {
+  if (remove !== undefined && state.game.members.length > 1) edit(({members}, last) => (members.splice(remove, 1), `name ${Math.min(remove, last - 2)}`), "Removed.");
+  if (removeRule !== undefined) edit(game => {
+    for (const its of [game.rules, ...game.members.map(it => it.weights)]) its.splice(removeRule, 1);
     game.ways = "";
-    game.members.forEach(it => it.weights.splice(removeRule, 1));
-  } else return;
-  setGame(game, "Removed.");
-  findCell(remove !== undefined ? `name ${Math.min(remove, game.members.length - 1)}` : "quota 0").focus();
+    return "quota 0";
+  }, "Removed.");
 }
 
 /** Moves between rows by Enter and the arrow keys; Enter in the last row adds one. */
@@ -176,7 +136,7 @@ function paste(event) {
   if (!table && kind !== "name") return;
   event.preventDefault();
   if (table && !(table.numbersOnly && kind === "weight")) return takeTable(table);
-  const game = copyGame();
+  const game = structuredClone(state.game);
   rows.forEach((cells, down) => {
     const member = game.members[Number(row) + down] ??= {name: `Member ${Number(row) + down + 1}`, weights: game.rules.map(() => "1")};
     if (kind === "name") member.name = cells[0];
@@ -186,44 +146,39 @@ function paste(event) {
 }
 
 function takeTable({game, notes}, title = "") {
-  setGame({...game, title}, [`Read a table of ${game.members.length} members`, ...notes].join("; ") + ".");
+  if (game.members.length > ROWS) notify(`The table has ${group(game.members.length)} rows. ${TOO_MANY}`);
+  else setGame({...game, title}, [`Read a table of ${game.members.length} members`, ...notes].join("; ") + ".");
 }
 
-// ---- files, examples and links
-
 async function openFile(file) {
-  if (!file) return;
-  if (file.size > 1 << 23) return void ($("notice").textContent = `${file.name} has more than 8 MB.`);
-  await openBytes(new Uint8Array(await file.arrayBuffer()), file.name);
+  if (file?.size > 1 << 23) notify(`${file.name} has more than 8 MB.`);
+  else if (file) openBytes(new Uint8Array(await file.arrayBuffer()), file.name);
 }
 
 /** Opens a game file, which the library reads, a report, or a table. */
 async function openBytes(bytes, name) {
   const text = new TextDecoder().decode(bytes), title = name.replace(/\.\w+$/, "");
-  if (/^(title\t[^\n]*\n)?members\t\d+\r?\n/.test(text)) return openReport(text.replaceAll("\r", ""), name);
-  const {status, text: answer} = await state.others.ask({game: bytes, options: askFor()});
-  if (!status) return setGame(readGame(readReport(answer), text), `Opened ${name}.`);
-  const table = /not TOML|longer/.test(answer) && /[\t;,]/.test(text) && readTable(readCells(text), null);
-  if (table) return takeTable(table, title);
-  const {fault, explanation} = new Refused(status, answer);
-  $("notice").textContent = `${name}: ${fault}. ${explanation}`;
+  try {
+    if (/^(title\t[^\n]*\n)?members\t\d+\r?\n/.test(text)) return setGame(readGame(readWhole(text.replaceAll("\r", ""))), `Opened the game of the report ${name}.`);
+    const {status, text: answer} = await compute({game: bytes, options: {tally: true}}, `Opening ${name}`);
+    if (!status) return setGame(readGame(readReport(answer), text), `Opened ${name}.`);
+    const table = /not TOML|longer/.test(answer) && /[\t;,]/.test(text) && readTable(readCells(text), null);
+    if (table) return takeTable(table, title);
+    notify(`${name}: ${new Refused(status, answer).message}`);
+  } catch (error) {
+    if (error.name === "AbortError") return;
+    notify(`${name} was not opened${error === "stop" ? "" : `: ${error.message}`}.`);
+  }
+  changed();
 }
 
-function openReport(text, name) {
-  const report = readReport(text), numbers = [...report.quotas, ...report.totals, ...report.members.flatMap(it => it.weights)];
-  const isWhole = report.members.length && report.quotas.length && report.quotas.length === report.totals.length
-    && report.members.every(it => it.weights.length === report.quotas.length) && numbers.every(Number.isSafeInteger);
-  if (isWhole) setGame(readGame(report), `Opened the game of the report ${name}.`);
-  else $("notice").textContent = `${name}: the report is not whole.`;
-}
-
+/** Takes the game of the address, if it has one. */
 function openLink() {
   const game = readLink(location.hash);
-  if (game) setGame(game, "");
-  else if (location.hash.startsWith("#game=")) $("notice").textContent = "The link holds no game: it may be cut.";
+  if (game) return setGame(game);
+  if (location.hash.startsWith("#game=")) notify("The link holds no game: it may be cut.");
+  changed();
 }
-
-// ---- computing
 
 /** What the library is asked for: the indices that are chosen. */
 function askFor() {
@@ -231,64 +186,62 @@ function askFor() {
   return wants[1] ? wants[0] ? {tally: true, swings: true} : {only_swings: true} : {tally: true};
 }
 
-/** Computes the game anew, if nothing is wrong with it; a newer change stops this. */
-async function changed() {
+/** Asks the library in a worker of its own for each purpose. */
+const ask = (purpose, ...words) => (state.calls[purpose] ??= new Calls(hear => startWorker(state.module, hear))).ask(...words);
+
+/** Asks the library what the page waits for: a newer request stops an older one, and after a second it shows that it goes on. */
+async function compute(request, doing = "Computing") {
   state.running?.abort();
-  state.resolved = resolve(state.game);
-  showProblems();
-  const {problems} = state.resolved, control = state.running = new AbortController();
-  if (problems.size) {
-    const first = [...problems][0][1];
-    return showRefusal(problems.has("members") ? problems.get("members") : `${problems.size > 1 ? `${problems.size} cells are` : "One cell is"} not right: ${first}`);
-  }
-  const slow = setTimeout(() => showBusy(control), SLOW);
+  const control = state.running = new AbortController(), since = performance.now(), busy = $("busy");
+  const tick = setInterval(() => {
+    busy.hidden = false;
+    $("report").classList.add("stale");
+    busy.querySelector("span").textContent = `${doing}, ${Math.round((performance.now() - since) / 1000)} s`;
+  }, SLOW);
   try {
     await new Promise(resolve => setTimeout(resolve, FAST));
-    const game = writeGame(state.resolved), {status, text, version} = await state.calls.ask({game, options: askFor()}, control.signal);
-    if (version) $("version").textContent = version;
-    if (status) showRefusal(status === 3 || status > 3 ? new Refused(status, text).message : text);
-    else showReport(readReport(text));
-  } catch (error) {
-    if (!control.signal.aborted) showRefusal(error.message);
-    else if (control.signal.reason === "stop") showRefusal("Stopped. Change something to compute again.");
+    return await ask("table", request, control.signal);
   } finally {
-    clearTimeout(slow);
-    if (state.running === control) $("busy").hidden = true;
+    clearInterval(tick);
+    if (state.running === control) busy.hidden = true;
   }
 }
 
-function showBusy(control) {
-  const since = performance.now() - SLOW, text = $("busy").querySelector("span");
-  const tick = () => {
-    if (state.running !== control || control.signal.aborted) return;
-    text.textContent = `Computing, ${Math.round((performance.now() - since) / 1000)} s`;
-    setTimeout(tick, 1000);
-  };
-  $("busy").hidden = false;
-  tick();
+/** Computes the game anew, if nothing is wrong with it. */
+async function changed() {
+  state.running?.abort();
+  Object.assign(state, {resolved: resolve(state.game), isFresh: false});
+  showProblems();
+  const {problems} = state.resolved, first = problems.get("members") ?? [...problems.values()][0];
+  if (first) return showRefusal(problems.size > 1 ? `${problems.size} things are not right. The first: ${first}` : first);
+  try {
+    const {status, text, version} = await compute({game: writeGame(state.resolved), options: askFor()});
+    if (version) $("version").textContent = version;
+    if (status) showRefusal(new Refused(status, text).message);
+    else showReport(readReport(text));
+  } catch (error) {
+    if (error.name !== "AbortError") showRefusal(error === "stop" ? "Stopped. Change something to compute again." : error.message);
+  }
 }
 
 /** Says why there is no result; the last one stays, marked as old. */
 function showRefusal(text) {
-  $("problem").textContent = `${text}${state.report ? " What is shown below is of the game before." : ""}`;
-  $("report").classList.toggle("stale", true);
-  $("busy").hidden = true;
+  $("problem").textContent = `${text.replace(/[^.]$/, "$&.")}${state.report ? " What is shown below is of the game before." : ""}`;
+  $("report").classList.add("stale");
 }
 
 function showReport(report) {
-  Object.assign(state, {report, reported: {...state.resolved, rules: state.game.rules.map(it => ({...it}))}});
+  Object.assign(state, {report, isFresh: true, reported: {...state.resolved, rules: structuredClone(state.game.rules)}});
   $("problem").textContent = "";
-  $("report").classList.remove("stale");
+  $("report").className = "";
+  $("report").hidden = false;
   showSummary();
-  showChoice();
   showTable();
   showBars();
   showVaryChoice();
   if ($("coalitions").open) showCoalitions();
   else $("coalitions").lastElementChild.replaceChildren();
 }
-
-// ---- the report
 
 const shownIndices = () => INDICES.filter(it => state.chosen.has(it.name) && state.report.members[0][it.name] !== undefined);
 
@@ -307,20 +260,11 @@ function showSummary() {
   $("summary").replaceChildren(wins, ` ${members.length} members; ${counts.join(", ")}.`, ...words, ...low);
 }
 
-function showChoice() {
-  const all = INDICES.filter(it => state.report.members[0][it.name] !== undefined || !/^power/.test(it.name));
-  $("choice").replaceChildren($("choice").firstElementChild, ...all.map(it => make("label", {}, make("input",
-    {type: "checkbox", value: it.name, checked: state.chosen.has(it.name)}), ` ${it.title}`)));
-}
-
-function choose({target}) {
+function choose({target: {checked, value}}) {
   const asked = JSON.stringify(askFor());
-  if (target.checked) state.chosen.add(target.value);
-  else if (state.chosen.size > 1) state.chosen.delete(target.value);
-  const isThere = state.report.members[0][target.value] !== undefined;
-  if (JSON.stringify(askFor()) !== asked || (target.checked && !isThere)) changed();
-  else showReport(state.report);
-  $("choice").querySelector(`[value=${target.value}]`)?.focus();
+  state.chosen[checked ? "add" : "delete"](value);
+  if (JSON.stringify(askFor()) !== asked) changed();
+  else if (state.isFresh) showReport(state.report);
 }
 
 /** The columns of the table: a heading, the values to sort by, and how a value is written. */
@@ -338,15 +282,15 @@ function listColumns() {
   return columns;
 }
 
-function compareValues(one, other) {
-  if (typeof one === "string") return one.localeCompare(other);
-  return one instanceof Fraction ? Number(one.top * other.bottom - other.top * one.bottom) : one - other;
+/** Returns the difference of two fractions, or of other values its sign. */
+function subtract(one, other) {
+  if (one instanceof Fraction) return new Fraction(one.top * other.bottom - other.top * one.bottom, one.bottom * other.bottom);
+  return typeof one === "string" ? one.localeCompare(other) : one - other;
 }
 
 function showTable() {
-  const {report, sort, kept} = state, columns = listColumns(), {members} = report;
-  const sorted = state.sort.touched ? columns[Math.min(sort.column, columns.length - 1)].values : null, order = members.map((_, at) => at);
-  if (sorted) order.sort((one, other) => (sort.down ? -1 : 1) * compareValues(sorted[one], sorted[other]) || one - other);
+  const {report, sort, kept} = state, columns = listColumns(), {members} = report, sorted = columns[sort?.column]?.values, order = members.map((_, at) => at);
+  if (sorted) order.sort((one, other) => (sort.down ? -1 : 1) * subtract(sorted[one], sorted[other]) || one - other);
   $("powers").tHead.replaceChildren(make("tr", {}, ...columns.map((it, at) => make("th", {scope: "col", "aria-sort": sorted && sort.column === at ? sort.down ? "descending" : "ascending" : undefined},
     make("button", {type: "button", "data-column": at}, it.title)))));
   $("powers").tBodies[0].replaceChildren(...order.map(at => {
@@ -359,31 +303,21 @@ function showTable() {
 
 function writeDifference(member, old, index) {
   if (old?.[index] === undefined) return old ? "not kept" : "new";
-  const [one, other] = [member[`${index}_exact`], old[`${index}_exact`]], top = one.top * other.bottom - other.top * one.bottom;
-  const places = Math.min(Number($("form").value) || 6, 10);
-  return top ? `${top > 0n ? "+" : "−"}${new Fraction(top > 0n ? top : -top, one.bottom * other.bottom).toFixed(places)}` : "same";
+  const {top, bottom} = subtract(member[`${index}_exact`], old[`${index}_exact`]), places = Number($("form").value) || 6;
+  return top ? `${top > 0n ? "+" : "−"}${new Fraction(top > 0n ? top : -top, bottom).toFixed(places)}` : "same";
 }
 
 function sortBy({target}) {
-  const column = Number(target.dataset.column), {sort} = state;
-  if (Number.isNaN(column)) return;
-  state.sort = {column, touched: true, down: sort.touched && sort.column === column ? !sort.down : column > 0};
+  const column = Number(target.dataset.column ?? -1);
+  if (column < 0) return;
+  state.sort = {column, down: state.sort?.column === column ? !state.sort.down : column > 0};
   showTable();
   document.querySelector(`[data-column="${column}"]`).focus();
 }
 
-// ---- pictures
-
 const pen = document.createElement("canvas").getContext("2d");
-
-function measure(text, size = 12) {
-  pen.font = `${size}px Helvetica, Arial, sans-serif`;
-  return pen.measureText(text).width;
-}
-
-function drawText(x, y, text, more = {}) {
-  return make("svg:text", {x: x.toFixed(1), y: y.toFixed(1), "font-size": 12, ...more}, text);
-}
+const measure = (text, size = 12) => (pen.font = `${size}px Helvetica, Arial, sans-serif`, pen.measureText(text).width);
+const drawText = (x, y, text, more = {}) => make("svg:text", {x: x.toFixed(1), y: y.toFixed(1), "font-size": 12, ...more}, text);
 
 function makePicture(wide, high, title, children, isFile) {
   return make("svg:svg", {xmlns: SVG, width: Math.ceil(wide), height: Math.ceil(high), viewBox: `0 0 ${Math.ceil(wide)} ${Math.ceil(high)}`, "font-family": "Helvetica, Arial, sans-serif", role: "img"},
@@ -419,13 +353,12 @@ function drawBars(room, isFile) {
 }
 
 function showBars() {
-  const place = $("bars").lastElementChild;
-  if ($("bars").open) place.replaceChildren(drawBars(place.clientWidth || 600, false));
+  if ($("bars").open) $("bars").lastElementChild.replaceChildren(drawBars($("bars").clientWidth || 600, false));
 }
 
 /** Draws lines of an index over the quotas of a rule; members of the same values share a line. */
 function drawLines(room, isFile) {
-  const {points, index, rule, quota, total, places, names, title} = state.lines, tone = isDark() && !isFile ? 1 : 0, lines = new Map();
+  const {points, index, quota, total, places, names, title} = state.lines, tone = isDark() && !isFile ? 1 : 0, lines = new Map();
   names.forEach((name, member) => {
     const key = points.map(it => it.values?.[member]).join(" ");
     lines.set(key, {names: [...lines.get(key)?.names ?? [], name], member});
@@ -453,18 +386,15 @@ function drawLines(room, isFile) {
 }
 
 function showLines() {
-  const place = $("vary").lastElementChild;
-  place.replaceChildren(...state.lines ? [drawLines(place.clientWidth || 600, false)] : []);
+  $("vary").lastElementChild.replaceChildren(...state.lines ? [drawLines($("vary").clientWidth || 600, false)] : []);
   document.querySelector("[data-take=lines]").hidden = !state.lines;
 }
-
-// ---- coalitions, other quotas, and what is taken away
 
 async function showCoalitions() {
   const {report} = state, place = $("coalitions").lastElementChild, count = report.minimal;
   if (count > LIMITS.coalitions) return place.replaceChildren(make("p", {}, `There are ${group(count)}: at most ${group(LIMITS.coalitions)} can be listed.`));
   place.replaceChildren(make("p", {class: "soft"}, "Listing ..."));
-  const {status, text} = await state.others.ask({game: writeGame(state.resolved), options: {list: true, most: LIMITS.coalitions}, room: 1 << 19});
+  const {status, text} = await ask("list", {game: writeGame(state.reported), options: {list: true, most: LIMITS.coalitions}, room: 1 << 19});
   if (state.report !== report) return;
   if (status) return place.replaceChildren(make("p", {class: "bad"}, new Refused(status, text).message));
   const all = text.split("\n").slice(0, -1).filter(it => it.startsWith("coalition\t")).map(it => readCoalition(it.split("\t").slice(1)));
@@ -474,29 +404,28 @@ async function showCoalitions() {
 }
 
 function showVaryChoice() {
-  const fill = (select, options) => {
-    const had = select.value;
-    select.replaceChildren(...options.map(([value, text]) => make("option", {value}, text)));
-    if (options.some(([value]) => String(value) === had)) select.value = had;
-  };
-  fill($("vary-index"), shownIndices().map(it => [it.name, it.title]));
-  fill($("vary-rule"), state.report.quotas.map((_, rule) => [rule, nameRule(rule)]));
+  for (const [id, options] of [["vary-index", shownIndices().map(it => [it.name, it.title])], ["vary-rule", state.report.quotas.map((_, rule) => [rule, nameRule(rule)])]]) {
+    const had = $(id).value;
+    $(id).replaceChildren(...options.map(([value, text]) => make("option", {value, selected: String(value) === had}, text)));
+  }
 }
 
 /** Computes an index at some or all quotas of a rule, one after the other, until it is stopped. */
 async function vary() {
-  const {resolved} = state, index = $("vary-index").value, rule = Number($("vary-rule").value), total = Number(resolved.totals[rule]), control = state.sweeping = new AbortController();
+  const {resolved} = state, index = $("vary-index").value, rule = Number($("vary-rule").value), [total, quota] = [resolved.totals, resolved.quotas].map(its => Number(its[rule]));
   if (resolved.problems.size) return void ($("vary-note").textContent = "First set right what is wrong in the game.");
-  const number = Math.min(POINTS, total), quotas = [...new Set([...Array.from({length: number}, (_, at) => 1 + Math.round((total - 1) * at / Math.max(1, number - 1))), Number(resolved.quotas[rule])])].sort((one, other) => one - other);
+  state.sweeping?.abort();
+  const control = state.sweeping = new AbortController(), number = Math.min(POINTS, total), step = (total - 1) / Math.max(1, number - 1);
+  const quotas = [...new Set([...Array.from({length: number}, (_, at) => 1 + Math.round(step * at)), quota])].sort((one, other) => one - other);
   const options = GROUPS[0].indices.some(it => it.name === index) ? {tally: true} : {only_swings: true}, points = [];
-  state.lines = {points, index, rule, total, quota: Number(resolved.quotas[rule]), places: resolved.places[rule], names: resolved.names, title: nameRule(rule)};
+  state.lines = {points, index, total, quota, places: resolved.places[rule], names: resolved.names, title: nameRule(rule)};
   $("vary-progress").max = quotas.length;
   for (const id of ["vary-stop", "vary-progress"]) $(id).hidden = false;
   try {
-    for (const quota of quotas) {
-      const game = writeGame({...resolved, quotas: resolved.quotas.map((it, at) => at === rule ? quota : it)});
-      const {status, text} = await state.others.ask({game, options}, control.signal);
-      points.push({quota, values: status ? null : readReport(text).members.map(it => it[index])});
+    for (const its of quotas) {
+      const game = writeGame({...resolved, quotas: resolved.quotas.map((it, at) => at === rule ? its : it)});
+      const {status, text} = await ask("lines", {game, options}, control.signal);
+      points.push({quota: its, values: status ? null : readReport(text).members.map(it => it[index])});
       $("vary-progress").value = points.length;
       $("vary-note").textContent = `${points.length} of ${quotas.length} quotas`;
       if (points.length % 20 === 0) showLines();
@@ -505,19 +434,19 @@ async function vary() {
     $("vary-note").textContent = `${points.length} quotas${total > quotas.length ? `, of ${group(total)}` : ""}${refused ? `; ${refused} take too many states and are left out` : ""}. The dotted line is half of the total.`;
   } catch {
     $("vary-note").textContent = `Stopped after ${points.length} of ${quotas.length} quotas.`;
-  } finally {
-    for (const id of ["vary-stop", "vary-progress"]) $(id).hidden = true;
-    showLines();
   }
+  if (state.sweeping !== control) return;
+  for (const id of ["vary-stop", "vary-progress"]) $(id).hidden = true;
+  showLines();
 }
 
 /** Writes the members as CSV, with the columns of `council-tools export`. */
-function writeTable({members, quotas, ...report}) {
-  const cut = it => `${it.top / it.bottom}.${String(it.top % it.bottom * 1000000n / it.bottom).padStart(6, "0")}`, quote = it => /[",\n]/.test(it) ? `"${String(it).replaceAll('"', '""')}"` : it;
-  const its = GROUPS.filter(it => report[it.line] !== undefined).map(it => ({...it, indices: it.indices.filter(index => members[0][index.name] !== undefined).map(index => index.name)}));
-  const head = ["name", ...quotas.length > 1 ? quotas.map((_, rule) => `weight_${rule + 1}`) : ["weight"], ...its.flatMap(it => [it.column, ...it.indices, ...it.indices.map(index => `${index}_exact`)])];
-  const rows = members.map(it => [it.name, ...it.weights, ...its.flatMap(group => [it[group.column], ...group.indices.map(index => cut(it[`${index}_exact`])), ...group.indices.map(index => it[`${index}_exact`])])]);
-  return [head, ...rows].map(row => `${row.map(quote).join(",")}\n`).join("");
+function writeTable({members, quotas}) {
+  const quote = text => /[",\n]/.test(text) ? `"${text.replaceAll('"', '""')}"` : text, [first] = members;
+  const cut = it => `${it.top / it.bottom}.${String(it.top % it.bottom * 1000000n / it.bottom).padStart(6, "0")}`;
+  const columns = GROUPS.filter(it => first[it.column] !== undefined).flatMap(it => [it.column, ...it.indices.map(index => index.name), ...it.indices.map(index => `${index.name}_exact`)]);
+  const rows = members.map(it => [it.name, ...it.weights, ...columns.map(column => it[`${column}_exact`] ? cut(it[`${column}_exact`]) : it[column])]);
+  return [["name", ...quotas.length > 1 ? quotas.map((_, rule) => `weight_${rule + 1}`) : ["weight"], ...columns], ...rows].map(row => `${row.map(it => quote(String(it))).join(",")}\n`).join("");
 }
 
 function save(name, type, text) {
@@ -527,60 +456,53 @@ function save(name, type, text) {
 }
 
 function take({target}) {
-  const file = picture => new XMLSerializer().serializeToString(picture) + "\n";
+  const file = picture => new XMLSerializer().serializeToString(picture) + "\n", {report, resolved, game, isFresh} = state, {take: kind} = target.dataset;
+  if (!isFresh && ["report", "csv", "bars"].includes(kind)) return notify("There is no result of this game.");
+  if (resolved.problems.size && kind === "game") return notify("First set right what is wrong in the game.");
   const ways = {
-    game: () => save(".toml", "application/toml", writeGame(state.resolved)),
-    report: () => save("-report.tsv", "text/tab-separated-values", state.report.text),
-    csv: () => save(".csv", "text/csv", writeTable(state.report)),
+    game: () => save(".toml", "application/toml", writeGame(resolved)),
+    report: () => save("-report.tsv", "text/tab-separated-values", report.text),
+    csv: () => save(".csv", "text/csv", writeTable(report)),
     bars: () => save(".svg", "image/svg+xml", file(drawBars(700, true))),
     lines: () => save("-quotas.svg", "image/svg+xml", file(drawLines(860, true))),
     print: () => print(),
     link: () => {
       $("link-line").hidden = false;
-      $("link").value = location.href.replace(/#.*/, "") + writeLink(state.game);
+      $("link").value = location.href.replace(/#.*/, "") + writeLink(game);
       $("link").select();
       navigator.clipboard?.writeText($("link").value).catch(() => {});
     },
   };
-  ways[target.dataset.take]?.();
+  ways[kind]?.();
 }
-
-// ---- the start
 
 function listen() {
-  for (const id of ["editor", "title", "ways"]) $(id).addEventListener("input", typed);
-  const clicks = {"add-member": addMember, "add-rule": addRule, "undo": undo, "open": () => $("file").click(), "powers": sortBy, "editor": removeFrom, "take": take,
-    "stop": () => state.running?.abort("stop"), "vary-start": vary, "vary-stop": () => state.sweeping?.abort("stop"),
-    "keep": () => (state.kept = state.report, showTable()), "forget": () => (state.kept = null, showTable())};
-  for (const [id, call] of Object.entries(clicks)) $(id).addEventListener("click", call);
-  $("editor").addEventListener("keydown", move);
-  $("editor").addEventListener("paste", paste);
-  $("choice").addEventListener("change", choose);
-  $("form").addEventListener("change", showTable);
-  $("bars").addEventListener("toggle", showBars);
-  $("coalitions").addEventListener("toggle", () => $("coalitions").open && showCoalitions());
-  $("file").addEventListener("change", () => (openFile($("file").files[0]), $("file").value = ""));
-  addEventListener("dragover", event => (event.preventDefault(), document.body.classList.add("dropping")));
-  addEventListener("dragleave", event => event.relatedTarget || document.body.classList.remove("dropping"));
-  addEventListener("drop", event => (event.preventDefault(), document.body.classList.remove("dropping"), openFile(event.dataTransfer.files[0])));
-  addEventListener("hashchange", openLink);
-  for (const change of [matchMedia("(prefers-color-scheme: dark)"), matchMedia("(max-width: 60rem)")]) change.addEventListener("change", () => state.report && (showBars(), showLines()));
+  const on = (id, events, call) => events.split(" ").forEach(event => (id ? $(id) : window).addEventListener(event, call));
+  on("editor", "input", typed), on("title", "input", typed), on("ways", "input", typed);
+  on("editor", "keydown", move), on("editor", "paste", paste), on("editor", "click", removeFrom);
+  on("add-member", "click", addMember), on("add-rule", "click", addRule);
+  on("undo", "click", () => setGame(state.past.at(-1), "", state.past.slice(0, -1)));
+  on("open", "click", () => $("file").click());
+  on("file", "change", () => (openFile($("file").files[0]), $("file").value = ""));
+  on("powers", "click", sortBy), on("form", "change", showTable), on("choice", "change", choose), on("take", "click", take);
+  on("stop", "click", () => state.running?.abort("stop"));
+  on("vary-start", "click", vary), on("vary-stop", "click", () => state.sweeping?.abort("stop"));
+  on("keep", "click", () => (state.kept = state.report, showTable())), on("forget", "click", () => (state.kept = null, showTable()));
+  on("bars", "toggle", showBars), on("coalitions", "toggle", () => $("coalitions").open && showCoalitions());
+  on("", "dragover dragleave drop", event => (event.preventDefault(), document.body.classList.toggle("dropping", event.type === "dragover")));
+  on("", "drop", event => openFile(event.dataTransfer.files[0])), on("", "hashchange", openLink);
+  for (const change of ["(prefers-color-scheme: dark)", "(max-width: 60rem)"]) matchMedia(change).addEventListener("change", () => state.report && (showBars(), showLines()));
   const examples = JSON.parse($("example-games").textContent);
   $("examples").append(...Object.keys(examples).map(it => make("option", {value: it}, it)));
-  $("examples").addEventListener("change", () => examples[$("examples").value] && openBytes(new TextEncoder().encode(examples[$("examples").value]), $("examples").value));
-  $("about").lastElementChild.append(...ABOUT.flatMap(([word, text]) => [make("dt", {}, word), make("dd", {}, text)]));
+  on("examples", "change", ({target}) => examples[target.value] && openBytes(new TextEncoder().encode(examples[target.value]), target.value));
+  $("choice").append(...INDICES.map(it => make("label", {}, make("input", {type: "checkbox", value: it.name, checked: state.chosen.has(it.name)}), ` ${it.title}`)));
 }
 
-async function start() {
-  const module = await WebAssembly.compile(Uint8Array.from(atob($("module").textContent), it => it.charCodeAt(0)));
-  state.calls = new Calls(hear => startWorker(module, hear));
-  state.others = new Calls(hear => startWorker(module, hear));
-  state.game = readLink(location.hash) ?? state.game;
+(async function start() {
+  state.module = await WebAssembly.compile(Uint8Array.from(atob($("module").textContent), it => it.charCodeAt(0)));
   listen();
   $("old").remove();
   document.querySelector("main").hidden = false;
   renderEditor();
-  changed();
-}
-
-start();
+  openLink();
+})();

@@ -2,11 +2,9 @@
 //
 //     node module.mjs FOLDER PROGRAM GAMES FILE..
 //
-// FOLDER has council.mjs. It prints `ok NAME` or `FAILED NAME: why` for each test: reports of the files, of
-// random games and of texts that are no games, byte for byte; objects; refusals; refused memory; stops.
+// FOLDER has council.mjs. It prints `ok NAME` or `FAILED NAME: why` for each test.
 import {spawnSync} from "node:child_process";
 import {readFileSync} from "node:fs";
-
 const [folder, program, games, ...files] = process.argv.slice(2);
 const council = await import(`${folder}/council.mjs`);
 // what the module does not export: an instance, whose memory a test can refuse
@@ -14,10 +12,7 @@ const source = readFileSync(`${folder}/council.mjs`, "utf8");
 const {MODULE, Instance} = new Function(`${source.split("\n// The module for Node")[0].replace('"use strict";', "")}; return {MODULE, Instance};`)();
 const compiled = await WebAssembly.compile(Buffer.from(MODULE, "base64"));
 
-function check(name, why) {
-  console.log(why ? `FAILED ${name}: ${String(why).slice(0, 300)}` : `ok ${name}`);
-}
-
+const check = (name, why) => console.log(why ? `FAILED the module: ${name}: ${String(why).slice(0, 300)}` : `ok the module: ${name}`);
 const throws = async promise => promise.then(() => null, error => error);
 let seed = 7;
 const below = number => (seed = (seed * 1103515245 + 12345) % 2 ** 31) % 65536 % number;
@@ -37,36 +32,23 @@ function randomGame() {
 }
 
 const OPTIONS = [{}, {swings: true}, {only_swings: true}, {tally: true}, {tally: true, swings: true, sizes: true}, {list: true}, {list: true, swings: true, notation: true, sizes: true}, {most: 5}, {only_swings: true, notation: true}];
-const instance = new Instance(compiled);
-let used = 0;
+const instance = new Instance(compiled), bytes = its => its.calls.memory.buffer.byteLength;
 
 /** What differs between a report of the module and of the program. */
-function compare(game, options, its = instance) {
+function compare(game, options) {
   const words = Object.entries(options).flatMap(([name, value]) => value === true ? [`--${name.replace("_", "-")}`] : [`--${name}`, String(value)]);
   const wanted = spawnSync(program, [...words, "-"], {input: game, encoding: "utf8", maxBuffer: 1 << 28});
-  const {status, text} = its.report(game, options);
-  used = Math.max(used, its.size);
-  const told = wanted.status ? wanted.stderr.split("\n")[0].replace("council: ", "") : wanted.stdout;
+  const {status, text} = instance.report(game, options), told = wanted.status ? wanted.stderr.split("\n")[0].replace("council: ", "") : wanted.stdout;
   return status === wanted.status && text === told ? null : `${words.join(" ")}: status ${status} for ${wanted.status}, ${text.slice(0, 60)} for ${told.slice(0, 60)}`;
 }
 
-// (a report without --list of more than a million coalitions is counted; a call asks for that)
-for (const [name, all] of [["reports of files", [{tally: true, swings: true}, {only_swings: true, notation: true}, {tally: true, sizes: true}]], ["lists of files", [{list: true, most: 5000}]]]) {
-  const slow = [], bad = files.flatMap(file => all.map(options => {
-    const start = performance.now(), its = compare(readFileSync(file), options);
-    if (process.env.TIMES) console.log(file.split("/").at(-1), JSON.stringify(options), `${(performance.now() - start).toFixed()} ms, ${instance.size >> 20} MB`);
-    return its && `${file} ${its}`;
-  })).filter(Boolean);
-  check(`${name}, ${files.length} of them`, bad[0]);
-}
-const random = Array.from({length: Number(games)}, (_, at) => {
-  const game = randomGame(), its = compare(game, OPTIONS[at % OPTIONS.length]);
-  return its && `${its} ${game}`;
-}).filter(Boolean);
-check(`${games} random games`, random[0]);
+// (a call says whether a game of many coalitions is counted)
+const FILES = [{tally: true, swings: true}, {only_swings: true, notation: true}, {tally: true, sizes: true}, {list: true, most: 5000}];
+check(`reports of ${files.length} files`, files.flatMap(file => FILES.map(it => compare(readFileSync(file), it))).find(Boolean));
+const random = Array.from({length: Number(games)}, (_, at) => [randomGame(), OPTIONS[at % OPTIONS.length]]);
+check(`${games} random games`, random.map(([game, options]) => (why => why && `${why} ${game}`)(compare(game, options))).find(Boolean));
 const TEXTS = ["", "[51; 50, 49,, 1]", "[51; 50, 49, 1]", "[4; 2, 2, 2]x", "quota = 3", "quota = 1.5\n", "x = 1", "\ufeffquota = 1\n[[member]]\nname = \"A\"\nweight = 1\n", "a\tb\n", " ".repeat(65537), `[3; ${"1, ".repeat(40)}1]`];
 check("texts that are no games", TEXTS.map(it => compare(it, {})).find(Boolean));
-
 const simple = {quotas: 51, weights: [50, 49, 1], swings: true};
 const it = await council.report({...simple, names: ["A", "B", "C"], coalitions: true, title: "T"});
 check("a report is an object", JSON.stringify([it.title, it.quotas, it.totals, it.ways, it.minimal, it.members[0].weights, it.coalitions.map(it => it.members), String(it.members[0].deegan_packel_exact), it.members[0].public_good, it.members[2].swings])
@@ -76,22 +58,15 @@ check("fractions", typeof exact.top === "bigint" && it.members[0].shapley_shubik
 check("ways", (await council.report({quotas: [2, 1], weights: [[1, 1, 1], [1, 0, 0]], ways: [[1], [2]]})).minimal === 2 ? null : "their number");
 check("a game file", (await council.reportOf(readFileSync(files[0]), {only_swings: true})).text === spawnSync(program, ["--only-swings", files[0]], {encoding: "utf8"}).stdout ? null : "it differs");
 
-const REFUSALS = [
-  [{quotas: 51, weights: [50, 49.5, 1]}, 3, "bad weight of member 2", 2, 1],
-  [{quotas: [1, 1], weights: [[1, 1], [1, 1e13]]}, 3, "bad weight of member 2", 2, 2],
-  [{quotas: [1, 9], weights: [[1, 1], [1, 1]]}, 3, "quota out of range", null, 2],
-  [{quotas: 1, weights: [1, 1], names: ["A", "A"]}, 3, "member 2 repeats a name", 2, null],
-  [{quotas: 1, weights: [1, 1], names: ["A"]}, 3, "bad member list", null, null],
-  [{quotas: [1, 1], weights: [1, 1]}, 3, "bad rules", null, null],
-  [{quotas: 21, weights: Array(41).fill(1)}, 3, "bad member list", null, null],
-  [{quotas: 12, weights: Array(24).fill(1), most: 1000}, 4, "too many minimal winning coalitions", null, null],
-];
-for (const [game, status, fault, member, rule] of REFUSALS) {
-  const error = await throws(council.report(game));
-  const isSo = error instanceof council.Refused && error.status === status && error.fault === fault && error.member === member && error.rule === rule && error.explanation;
-  check(`refused: ${fault}, rule ${rule}`, isSo ? null : JSON.stringify(error) ?? "it was not");
+const REFUSALS = [[{quotas: 51, weights: [50, 49.5, 1]}, "bad weight of member 2", 2, 1], [{quotas: [1, 1], weights: [[1, 1], [1, 1e13]]}, "bad weight of member 2", 2, 2],
+  [{quotas: [1, 9], weights: [[1, 1], [1, 1]]}, "quota out of range", null, 2], [{quotas: 1.5, weights: [1, 1]}, "bad quota", null, 1],
+  [{quotas: 1, weights: [1, 1], names: ["A", "A"]}, "member 2 repeats a name", 2], [{quotas: 1, weights: [1, 1], names: ["A"]}, "bad member list"], [{quotas: [1, 1], weights: [1, 1]}, "bad rules"],
+  [{quotas: 21, weights: Array(41).fill(1)}, "bad member list"], [{quotas: 12, weights: Array(24).fill(1), most: 1000}, "too many minimal winning coalitions"]];
+for (const [game, fault, member = null, rule = null] of REFUSALS) {
+  const it = await throws(council.report(game)), status = game.most ? 4 : 3;
+  const isSo = it instanceof council.Refused && it.status === status && it.fault === fault && it.member === member && it.rule === rule && it.explanation;
+  check(`refused: ${fault}, rule ${rule}`, isSo ? null : JSON.stringify(it) ?? "it was not");
 }
-
 // each request for memory refused in turn, and then all is as before
 const large = readFileSync(files.find(it => it.endsWith("eu-1995.toml"))), wanted = instance.report(large, {tally: true, swings: true}), its = new Instance(compiled);
 const left = its.calls.requests_left.value, view = () => new DataView(its.calls.memory.buffer);
@@ -105,11 +80,10 @@ for (let status = 5; status && !why; number++) {
 check("each request for memory refused", why ?? (number < 50 ? `${number} requests` : null));
 view().setBigUint64(Number(left), 2n ** 64n - 1n, true);
 its.report(large, {tally: true});
-const size = its.size;
+const size = bytes(its);
 for (let call = 0; call < 1000; call++) its.report("[51; 50, 49, 1]", {swings: true, list: true});
 its.report(large, {tally: true});
-check("1,000 calls do not grow the memory", its.size === size ? null : `${size} and ${its.size} bytes`);
-
+check("1,000 calls do not grow the memory", bytes(its) === size ? null : `${size} and ${bytes(its)} bytes`);
 // a game that takes hours: it is stopped, and the calls beside it are answered
 const names = Array.from({length: 40}, (_, at) => `${at}`), hard = council.writeGame({names, quotas: [10 ** 11 * 9, 10 ** 11 * 9], weights: [names.map((_, at) => (at * 7919 + 13) ** 3 % 10 ** 11), names.map((_, at) => (at * 104729 + 5) ** 3 % 10 ** 11)]});
 const control = new AbortController(), stopped = throws(council.reportOf(hard, {signal: control.signal})), beside = council.report(simple);

@@ -134,8 +134,8 @@ files=$(
         echo "lib/pkgconfig/council.pc lib/pkgconfig/council.pc 644"
         echo "include/council.h include/council.h 644"
     fi
-    for file in README.md LICENSE CITATION.cff CHANGELOG.md PROVED \
-        $(find docs examples r reference -type f ! -name '*.1' | LC_ALL=C sort); do
+    for file in README.md LICENSE CITATION.cff CHANGELOG.md PROVED council.html \
+        $(find docs examples node r reference -type f ! -name '*.1' | LC_ALL=C sort); do
         echo "$file $doc/$file 644"
     done
 )

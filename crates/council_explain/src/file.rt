@@ -1,53 +1,60 @@
-//! A game file, and the lines of it that explain a fault.
-use crate::lines::Lines;
-use crate::numbers::GUIDE;
+//! A game file, and the lines that explain a fault of it.
 use crate::place::find;
+use council_game::sanitize;
 use std::alloc::Global;
+use std::fmt::{Display, Write};
+use toml::de::Error;
 use toml::{Table, Value};
 
-/// A game file.
+/// Lines, each begun with two blanks and ended with LF.
+#[derive(Drop)]
+pub struct Lines {
+    pub text: String,
+    /// Whether a growth was refused. Then some of them are missing.
+    pub failed: bool,
+}
+
+/// A game file: its text, and the tree of it, which is empty after an error.
 #[derive(Drop)]
 pub struct File {
     pub alloc: Global,
-    /// Its text.
     pub text: String,
-    /// The tree of the text; empty if it is no TOML.
     pub table: Table,
+    pub error: Option<Error>,
 }
 
-/// Returns a text up to the first sign, or all of it.
-pub fn before_first(text: &str, sign: char) -> &str {
-    match text.split_once(sign) {
-        Some((before, _)) => before,
-        None => text,
+impl Lines {
+    /// Adds a line.
+    pub fn add(&mut self, line: impl Display + Drop) {
+        // memory: told at the end
+        if writeln!(self.text, "  {line}").is_err() {
+            self.failed = true;
+        }
+    }
+
+    /// Adds a line of words, a value that is cut off if it is long, and words.
+    pub fn add_of(&mut self, before: &str, what: impl Display + Drop, after: &str, wanted: &str) {
+        self.add(format_args!("{before}{}{after}{wanted}", sanitize(what, 100)));
+    }
+
+    /// Adds a line that shows one of the file.
+    pub fn add_row(&mut self, place: impl Display + Drop, row: &str) {
+        self.add(format_args!("line {place}: {}", sanitize(row, 100)));
     }
 }
 
-/// Returns a text from the last sign on, without it, or all of it.
-pub fn after_last(text: &str, sign: char) -> &str {
-    match text.rsplit_once(sign) {
-        Some((_, after)) => after,
-        None => text,
+/// Returns the elements of an array, and none of any other value.
+pub fn elements_of(value: Option<&Value>) -> &[Value] {
+    match value {
+        Some(Value::Array(items)) => items.as_slice(),
+        _ => &[],
     }
-}
-
-/// Returns the number of the line in which a front of a text ends.
-fn line_of(front: &str) -> usize {
-    front.matches('\n').count().saturating_add(1)
-}
-
-/// Returns whether the front of a line opens a bracket text with a share, the only one of a text.
-fn is_only_share(front: &str, text: &str) -> bool {
-    front.ends_with("[0") && front.trim_start().len() == 2 && text.matches('.').count() == 1
 }
 
 impl File {
     /// Returns the elements of the array at a key of the top.
     pub fn elements(&self, key: &str) -> &[Value] {
-        match self.table.get(key) {
-            Some(Value::Array(items)) => items.as_slice(),
-            _ => &[],
-        }
+        elements_of(self.table.get(key))
     }
 
     /// Returns the table of a member, from 1, or that of the file at 0.
@@ -66,18 +73,21 @@ impl File {
         self.table_of(member)?.get(key)
     }
 
-    /// Returns the line after which a front of the text breaks off.
-    pub fn row_after(&self, front: &str) -> &str {
-        let ends = front.matches('\n').count();
-        self.text.as_str().lines().nth(ends).unwrap_or("")
+    /// Returns the number of an offset's line, its text up to there, and its text.
+    pub fn line_at(&self, offset: usize) -> (usize, &str, &str) {
+        let before = self.text.as_str().get(..offset).unwrap_or("");
+        let ends = before.matches('\n').count();
+        let front = before.rsplit('\n').next().unwrap_or("");
+        let row = self.text.as_str().lines().nth(ends).unwrap_or("");
+        (ends.saturating_add(1), front, row)
     }
 
-    /// Says which line has a place that `find` finds, if it is there.
+    /// Says which line has what `find` finds.
     pub fn explain_line(&self, lines: &mut Lines, top: &str, element: usize, key: Option<&str>) {
         match find(self.alloc, self.text.as_str(), top, element, key) {
             Ok(Some(offset)) => {
-                let before = self.text.as_str().get(..offset).unwrap_or("");
-                lines.add_row(line_of(before), self.row_after(before).trim());
+                let (line, _, row) = self.line_at(offset);
+                lines.add_row(line, row.trim());
             }
             Ok(None) => {}
             // memory: told at the end
@@ -87,33 +97,7 @@ impl File {
 
     /// Says which line has a key of a member, or of the top.
     pub fn explain_key(&self, lines: &mut Lines, member: usize, key: &str) {
-        if member == 0 {
-            self.explain_line(lines, key, 0, None);
-        } else {
-            self.explain_line(lines, "member", member, Some(key));
-        }
-    }
-
-    /// Says where a text can't be read on, what the line has, why, and what helps.
-    ///
-    /// The column is in characters.
-    pub fn explain_place(&self, lines: &mut Lines, offset: usize, message: &str) {
-        let before = self.text.as_str().get(..offset).unwrap_or("");
-        let front = after_last(before, '\n');
-        let line = line_of(before);
-        let column = front.chars().count().saturating_add(1);
-        lines.add_row(
-            format_args!("{line}, column {column}"),
-            self.row_after(before),
-        );
-        lines.add(message);
-        match self.text.as_bytes().get(offset) {
-            Some(b'%' | b'/') => lines.add(GUIDE),
-            Some(b'.') if is_only_share(front, self.text.as_str()) => {
-                lines.add("a share of the total: write how many votes that is");
-            }
-            Some(b'.') => self.explain_factor(lines, '.'),
-            _ => {}
-        }
+        let top = if member == 0 { key } else { "member" };
+        self.explain_line(lines, top, member, Some(key));
     }
 }

@@ -1,6 +1,5 @@
 //! Numbers as people write them, and what turns those that are not whole into whole ones.
-use crate::file::{File, after_last, before_first};
-use crate::lines::Lines;
+use crate::file::{File, Lines};
 use std::fmt::Display;
 use toml::Value;
 
@@ -9,9 +8,6 @@ pub const DIGITS: &[char] = &['0', '1', '2', '3', '4', '5', '6', '7', '8', '9'];
 
 /// What is said of a percentage and of a fraction.
 pub const GUIDE: &str = "docs/GUIDE.md says how percentages and fractions become whole numbers";
-
-/// The names of the only quota, and of those of several rules.
-const NAMES: [&str; 5] = ["the quota", "quota 1", "quota 2", "quota 3", "quota 4"];
 
 /// Returns how a line tells the kind of a value, after the value.
 pub fn kind(value: &Value) -> &'static str {
@@ -30,10 +26,10 @@ pub fn kind(value: &Value) -> &'static str {
 ///
 /// The comma of an array counts for nothing, nor does what is in a comment or before a quote.
 fn most_decimals(text: &str, sign: char) -> (usize, usize) {
-    let mut decimals = 0usize;
-    let mut most = 0usize;
+    let (mut decimals, mut most) = (0usize, 0usize);
     for line in text.lines() {
-        let line = after_last(before_first(line, '#'), '"');
+        let line = line.split('#').next().unwrap_or("");
+        let line = line.rsplit('"').next().unwrap_or("");
         let is_array = sign == ',' && line.contains('[');
         let mut is_number = false;
         for part in line.split(sign) {
@@ -51,7 +47,8 @@ fn most_decimals(text: &str, sign: char) -> (usize, usize) {
 
 /// Says that a quota is not within its total; 0 is the only rule, 1 the first.
 pub fn explain_range(lines: &mut Lines, rule: usize, quota: impl Display + Drop, total: u64) {
-    let name = NAMES.get(rule).unwrap_or(&"a quota");
+    let names = ["the quota", "quota 1", "quota 2", "quota 3", "quota 4"];
+    let name = names.get(rule).unwrap_or(&"a quota");
     lines.add(format_args!(
         "{name} is {quota}, and the weights add up to {total}: a quota is from 1 to that total"
     ));
@@ -84,9 +81,7 @@ impl File {
     /// decimals may also be thousands.
     pub fn explain_factor(&self, lines: &mut Lines, sign: char) {
         let (decimals, digits) = most_decimals(self.text.as_str(), sign);
-        if 0 < decimals
-            && let Some(factor) = "1000000000000".get(..=decimals)
-        {
+        if let (1.., Some(factor)) = (decimals, "1000000000000".get(..=decimals)) {
             lines.add_of("multiply all weights and the quota by ", factor, "", "");
         }
         if digits == 3 {

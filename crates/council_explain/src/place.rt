@@ -3,17 +3,13 @@ use std::alloc::Global;
 use toml_parser::text::skip_blank;
 use toml_parser::{Key, ParseError, dotted_key, quoted, starts_string};
 
-/// What a line or a header begins with.
+/// What a dotted key is: the key of the top, that of the element, or another one below the top.
 #[derive(Clone, Copy)]
-struct Front {
-    /// Whether it is the key of the top, or below the header of an element.
-    is_top: bool,
-    /// Whether the key of the element is next.
-    is_key: bool,
-    /// Whether it has no dot.
-    is_single: bool,
-    /// Its length, up to a value.
-    len: usize,
+enum Kind {
+    Top,
+    Wanted,
+    Below,
+    Other,
 }
 
 /// Returns whether a dotted key has this part at an index.
@@ -31,25 +27,26 @@ fn rest_at(text: &str, at: usize) -> &str {
     skip_blank(text.get(at..).unwrap_or(""), true)
 }
 
-/// Reads the key of a line or a header, of which headers gave so many parts.
-fn read_front(
+/// Reads a key, of which headers gave so many parts; returns its kind, and its length.
+fn read_key(
     alloc: Global,
     text: &str,
     top: &str,
-    part: Option<&str>,
+    wanted: Option<&str>,
     given: usize,
-) -> Result<Front, ParseError> {
+) -> Result<(Kind, usize), ParseError> {
     let (key, after) = dotted_key(alloc, text.trim_start_matches(['[', ' ', '\t']))?;
     let after = after.trim_start_matches([']', '=', ' ', '\t']);
-    Ok(Front {
-        is_top: given == 1 || given == 0 && has_part(&key, 0, top),
-        is_key: match part {
-            Some(part) => has_part(&key, 1usize.saturating_sub(given), part),
-            None => false,
-        },
-        is_single: key.path.is_empty(),
-        len: text.len().saturating_sub(after.len()),
-    })
+    let kind = if given > 1 || given == 0 && !has_part(&key, 0, top) {
+        Kind::Other
+    } else if given == 0 && key.path.is_empty() {
+        Kind::Top
+    } else if has_part(&key, 1usize.saturating_sub(given), wanted.unwrap_or("")) {
+        Kind::Wanted
+    } else {
+        Kind::Below
+    };
+    Ok((kind, text.len().saturating_sub(after.len())))
 }
 
 /// Returns how long a value is, up to a comma, a bracket or the end of its line.
@@ -82,15 +79,6 @@ fn item_len(alloc: Global, text: &str) -> Result<usize, ParseError> {
     Ok(text.len().saturating_sub(skip_blank(rest, true).len()))
 }
 
-/// Returns the offset of an element, from 1, in the text of an array.
-fn element_at(alloc: Global, text: &str, element: usize) -> Result<usize, ParseError> {
-    let mut at = text.len().saturating_sub(rest_at(text, 1).len());
-    for _ in 1..element {
-        at = at.saturating_add(item_len(alloc, rest_at(text, at))?);
-    }
-    Ok(at)
-}
-
 /// Returns the offset of a key of the top, an element of it or a key of that.
 ///
 /// The text is TOML. Elements are counted from 1; 0 is the key of the top. A key that the element
@@ -106,49 +94,46 @@ pub fn find(
     element: usize,
     key: Option<&str>,
 ) -> Result<Option<usize>, ParseError> {
-    let mut at = 0usize;
-    let mut begun = 0usize;
-    let mut found = None;
-    // how many parts headers give to the lines below them; 2 if they are not of the element
-    let mut below = 0usize;
+    let (mut at, mut begun, mut found) = (0usize, 0usize, None);
+    // how many parts headers give to the keys below them; 2 if those are not of the element
+    let mut given = 0usize;
     for _ in 0..text.len() {
         let rest = rest_at(text, at);
         if rest.is_empty() || rest.starts_with('}') {
             break;
         }
-        at = text.len().saturating_sub(rest.len());
         let is_header = rest.starts_with('[');
-        let given = if is_header { 0 } else { below };
-        let front = read_front(alloc, rest, top, key, given)?;
-        let is_whole = front.is_top && front.is_single && given == 0;
-        if is_header {
-            below = if is_whole { 1 } else { 2 };
-        }
-        if is_whole && rest.starts_with("[[") {
-            begun = begun.saturating_add(1);
-            if begun == element {
-                found = Some(at);
+        given = if is_header { 0 } else { given };
+        at = text.len().saturating_sub(rest.len());
+        let (kind, len) = read_key(alloc, rest, top, key, given)?;
+        let after = rest.get(len..).unwrap_or("");
+        match kind {
+            Kind::Other => {}
+            _ if element == 0 => return Ok(Some(at)),
+            Kind::Wanted if key.is_some() && begun == element => return Ok(Some(at)),
+            Kind::Top if rest.starts_with("[[") => {
+                begun = begun.saturating_add(1);
+                found = if begun == element { Some(at) } else { found };
             }
+            _ => {}
         }
-        if front.is_top && (element == 0 || front.is_key && begun == element) {
-            return Ok(Some(at));
+        if is_header {
+            given = if matches!(kind, Kind::Top) { 1 } else { 2 };
         }
-        at = at.saturating_add(front.len);
-        let rest = text.get(at..).unwrap_or("");
-        if is_whole && rest.starts_with('[') {
-            at = at.saturating_add(element_at(alloc, rest, element)?);
-            found = Some(at);
+        at = at.saturating_add(len);
+        if matches!(kind, Kind::Top) && after.starts_with('[') {
+            at = text.len().saturating_sub(rest_at(after, 1).len());
+            for _ in 1..element {
+                at = at.saturating_add(item_len(alloc, rest_at(text, at))?);
+            }
             // the keys of the element follow, if it is a table
-            below = 1;
-            begun = element;
-            let is_table = rest_at(text, at).starts_with('{');
-            at = if is_table {
-                at.saturating_add(1)
-            } else {
-                text.len()
-            };
+            (given, begun, found) = (1, element, Some(at));
+            if !rest_at(text, at).starts_with('{') {
+                break;
+            }
+            at = at.saturating_add(1);
         } else {
-            at = at.saturating_add(item_len(alloc, rest)?);
+            at = at.saturating_add(item_len(alloc, after)?);
         }
     }
     Ok(found)

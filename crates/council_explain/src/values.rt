@@ -1,27 +1,16 @@
 //! What is wrong with the keys and values of a file in TOML.
-use crate::file::File;
-use crate::lines::Lines;
+use crate::file::{File, Lines, elements_of};
 use crate::numbers::{explain_range, kind};
 use council_game::{GameFault, limits, sanitize};
 use std::num::{nearest_u64_to_f64, saturating_f64_to_u64};
 use std::slice;
 use toml::{Table, Value};
 
-/// How each member begins.
+/// What a value is to be.
 pub const MEMBERS: &str =
     "each member begins with a line [[member]], with two brackets on each side";
 
-/// Returns the weight of a member under a rule, if it is a whole number; 0 for one below 0.
-fn weight_of(member: &Value, rule: usize) -> Option<u64> {
-    let weight = match member.get("weights") {
-        Some(weights) => weights.get(rule),
-        None => member.get("weight"),
-    };
-    match weight {
-        Some(Value::Integer(weight)) => Some(u64::try_from(*weight).unwrap_or(0)),
-        _ => None,
-    }
-}
+const WAYS: &str = "ways are 1 to 6 arrays of rules, such as ways = [[1, 2], [3]]";
 
 /// Returns whether a member may have a key, or else the top of a file.
 fn is_known(key: &str, is_member: bool) -> bool {
@@ -42,21 +31,48 @@ fn unknown_key(table: &Table, is_member: bool) -> Option<&str> {
     None
 }
 
+/// Returns the bit of a rule; 0 if it is none of so many.
+fn bit_of(rule: &Value, rules: usize) -> u8 {
+    let number = usize::try_from(rule.as_integer().unwrap_or(0)).unwrap_or(0);
+    match [0, 1, 2, 4, 8].get(number) {
+        Some(bit) if number <= rules => *bit,
+        _ => 0,
+    }
+}
+
+/// Returns the bits of the rules of a way.
+fn bits_of(way: &Value) -> u8 {
+    let mut bits = 0;
+    for rule in elements_of(Some(way)) {
+        bits |= bit_of(rule, limits::RULES);
+    }
+    bits
+}
+
+/// Returns the number of the first way, other than one, that has only rules with these bits.
+fn find_covered(ways: &[Value], place: usize, bits: u8) -> Option<usize> {
+    for (other, way) in ways.iter().enumerate() {
+        if other != place && bits_of(way) & !bits == 0 {
+            return Some(other.saturating_add(1));
+        }
+    }
+    None
+}
+
 impl File {
     /// Says which key the file, or else a member, may not have.
     pub fn explain_unknown_key(&self, lines: &mut Lines) {
-        if let Some(key) = unknown_key(&self.table, false) {
-            self.explain_key(lines, 0, key);
-            let keys = ": the keys are title, quota, quotas, ways and member";
-            return lines.add_of("at the top there is no key ", key, "", keys);
-        }
-        for member in 1..=self.elements("member").len() {
+        for member in 0..=self.elements("member").len() {
             if let Some(table) = self.table_of(member)
-                && let Some(key) = unknown_key(table, true)
+                && let Some(key) = unknown_key(table, 0 < member)
             {
                 self.explain_key(lines, member, key);
+                let keys = ": the keys are title, quota, quotas, ways and member";
+                if member == 0 {
+                    return lines.add_of("at the top there is no key ", key, keys, "");
+                }
                 let keys = ": its keys are name, weight and weights";
-                lines.add_of("a member has no key ", key, "", keys);
+                lines.add_of("a member has no key ", key, keys, "");
                 if is_known(key, false) {
                     lines.add("what belongs to the game stands before the first [[member]]");
                 }
@@ -67,18 +83,17 @@ impl File {
 
     /// Says what is wrong with the name of a member, or else with the title.
     pub fn explain_text(&self, lines: &mut Lines, member: usize) {
-        let (key, most, wanted) = if member == 0 {
-            let title = "a title is a text in quotes, of at most 200 bytes, on one line";
-            ("title", limits::TITLE_BYTES, title)
-        } else {
-            let name = "a name is a text in quotes, of 1 to 64 bytes, on one line";
-            ("name", limits::NAME_BYTES, name)
+        let name = "a name is a text in quotes, of 1 to 64 bytes, on one line";
+        let title = "a title is a text in quotes, of at most 200 bytes, on one line";
+        let control = "a TAB, the end of a line or another control character";
+        let (key, most, wanted) = match member {
+            0 => ("title", limits::TITLE_BYTES, title),
+            _ => ("name", limits::NAME_BYTES, name),
         };
         self.explain_key(lines, member, key);
         match self.value_of(member, key) {
             None => lines.add_of("the member has no ", key, ": ", wanted),
             Some(Value::String(text)) if (1..=most).contains(&text.len()) => {
-                let control = "a TAB, the end of a line or another control character";
                 lines.add_of("the text has ", control, ": ", wanted);
             }
             Some(Value::String(text)) => {
@@ -128,18 +143,14 @@ impl File {
 
     /// Says that there is no member, or too many, or that they are no tables.
     pub fn explain_members(&self, lines: &mut Lines) {
+        let count = self.elements("member").len();
         match self.table.get("member") {
             None => lines.add_of("the file has no ", "member", ": ", MEMBERS),
-            Some(Value::Array(members)) if (1..=limits::MEMBERS).contains(&members.len()) => {
+            Some(Value::Array(_)) if (1..=limits::MEMBERS).contains(&count) => {
                 lines.add("a member is a table with a name and a weight");
             }
-            Some(Value::Array(members)) => {
-                lines.add_of(
-                    "the file has ",
-                    members.len(),
-                    " members: ",
-                    "1 to 40 are allowed",
-                );
+            Some(Value::Array(_)) => {
+                lines.add_of("the file has ", count, " members: ", "1 to 40 are allowed");
             }
             Some(value) => {
                 self.explain_key(lines, 0, "member");
@@ -153,52 +164,40 @@ impl File {
         self.explain_key(lines, 0, "quotas");
         self.explain_key(lines, 0, "quota");
         let is_rules = matches!(fault, GameFault::Rules);
-        let (first, quotas) = match self.table.get("quota") {
+        let is_range = matches!(fault, GameFault::QuotaRange);
+        let wanted = match fault {
+            GameFault::Rules => "quotas are 1 to 4 whole numbers",
+            _ => "a quota is a whole number, without quotes",
+        };
+        let (first, values) = match self.table.get("quota") {
             Some(quota) if !is_rules => (0, slice::from_ref(quota)),
             _ => (1, self.elements("quotas")),
         };
-        for (rule, quota) in quotas.iter().enumerate() {
+        for (rule, value) in values.iter().enumerate() {
             let total = self.total_of(rule);
-            match quota {
-                Value::Integer(quota) if matches!(fault, GameFault::QuotaRange) => {
-                    let total = total.unwrap_or(0);
-                    if *quota < 1 || i64::try_from(total).unwrap_or(i64::MAX) < *quota {
-                        return explain_range(lines, rule.saturating_add(first), quota, total);
-                    }
+            let most = i64::try_from(total.unwrap_or(0)).unwrap_or(i64::MAX);
+            match value {
+                Value::Integer(number) if is_range && !(1..=most).contains(number) => {
+                    let rule = rule.saturating_add(first);
+                    return explain_range(lines, rule, number, total.unwrap_or(0));
                 }
                 Value::Integer(_) => {}
-                _ if is_rules => {
-                    return self.explain_share(
-                        lines,
-                        quota,
-                        total,
-                        "quotas are 1 to 4 whole numbers",
-                    );
-                }
-                _ => {
-                    let wanted = "a quota is a whole number, without quotes";
-                    return self.explain_share(lines, quota, total, wanted);
-                }
+                _ => return self.explain_share(lines, value, total, wanted),
             }
         }
-        lines.add(self.describe_rules(is_rules));
-    }
-
-    /// Returns which keys do not go together, or are not there.
-    fn describe_rules(&self, is_rules: bool) -> &'static str {
-        let has_quota = self.table.contains_key("quota");
-        let rules = self.elements("quotas").len();
-        if !is_rules && self.table.is_empty() {
-            "the file holds no game: it has neither a quota nor a member"
-        } else if !is_rules {
-            "the file has no quota: write a line such as quota = 51 before the members"
-        } else if has_quota && self.table.contains_key("quotas") {
-            "quota and quotas are both there: a game has one of them"
-        } else if has_quota || (1..=limits::RULES).contains(&rules) {
-            "weight goes with quota, and weights go with quotas"
-        } else {
-            "quotas are an array of 1 to 4 whole numbers"
-        }
+        let has_quotas = self.table.contains_key("quotas");
+        let is_one = self.table.contains_key("quota");
+        let is_pair = is_one || (1..=limits::RULES).contains(&self.elements("quotas").len());
+        let empty = "the file holds no game: it has neither a quota nor a member";
+        lines.add(match fault {
+            GameFault::Rules if is_one && has_quotas => {
+                "quota and quotas are both there: a game has one of them"
+            }
+            GameFault::Rules if is_pair => "weight goes with quota, and weights go with quotas",
+            GameFault::Rules => "quotas are an array of 1 to 4 whole numbers",
+            _ if self.table.is_empty() => empty,
+            _ => "the file has no quota: write a line such as quota = 51 before the members",
+        });
     }
 
     /// Says what is wrong with a quota, and how many votes a share of whole weights is.
@@ -219,12 +218,73 @@ impl File {
         }
     }
 
-    /// Returns the total of the weights under a rule, if they are whole numbers.
+    /// Returns the total of the weights under a rule, if they are whole numbers; 0 for those below.
     fn total_of(&self, rule: usize) -> Option<u64> {
         let mut total = 0u64;
-        for member in self.elements("member") {
-            total = total.saturating_add(weight_of(member, rule)?);
+        for member in 1..=self.elements("member").len() {
+            let weight = match self.value_of(member, "weights") {
+                Some(weights) => elements_of(Some(weights)).get(rule),
+                None => self.value_of(member, "weight"),
+            };
+            total = total.saturating_add(u64::try_from(weight?.as_integer()?).unwrap_or(0));
         }
         Some(total)
+    }
+
+    /// Says what is wrong with ways.
+    pub fn explain_ways(&self, lines: &mut Lines) {
+        let ways = self.elements("ways");
+        let rules = self.elements("quotas").len();
+        let alone = "ways go with quotas: a game of one quota has one way to win";
+        if rules == 0 || !(1..=limits::WAYS).contains(&ways.len()) {
+            self.explain_key(lines, 0, "ways");
+            return lines.add(if rules == 0 { alone } else { WAYS });
+        }
+        let mut used = 0;
+        for (place, way) in ways.iter().enumerate() {
+            if self.explain_way(lines, place.saturating_add(1), way, rules) {
+                return;
+            }
+            used |= bits_of(way);
+        }
+        for (place, way) in ways.iter().enumerate() {
+            if let Some(other) = find_covered(ways, place, bits_of(way)) {
+                let number = place.saturating_add(1);
+                self.explain_line(lines, "ways", number, None);
+                return lines.add(format_args!(
+                    "way {number} has all rules of way {other}: it lets nobody else win"
+                ));
+            }
+        }
+        self.explain_key(lines, 0, "ways");
+        let unused = (!used).trailing_zeros().saturating_add(1);
+        lines.add_of("rule ", unused, " is in no way: each rule is in one", "");
+    }
+
+    /// Says what is wrong with a way by itself, and returns whether something is.
+    fn explain_way(&self, lines: &mut Lines, number: usize, way: &Value, rules: usize) -> bool {
+        let known = ": rules are numbered as their quotas, from 1";
+        let mut bits = 0;
+        for rule in elements_of(Some(way)) {
+            let bit = bit_of(rule, rules);
+            if bit == 0 {
+                self.explain_line(lines, "ways", number, None);
+                lines.add_of("there is no rule ", rule, known, "");
+                return true;
+            }
+            if bits & bit != 0 {
+                self.explain_line(lines, "ways", number, None);
+                lines.add_of("rule ", rule, " is twice in one way", "");
+                return true;
+            }
+            bits |= bit;
+        }
+        let empty = "a way has at least one rule";
+        if bits == 0 {
+            self.explain_line(lines, "ways", number, None);
+            let is_array = matches!(way, Value::Array(_));
+            lines.add(if is_array { empty } else { WAYS });
+        }
+        bits == 0
     }
 }

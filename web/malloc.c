@@ -1,19 +1,18 @@
 /*
- * The memory of the module for browsers: what the library and JavaScript take, give back and resize.
+ * malloc, realloc and free of the module for browsers, which tools/heap.c calls.
  *
  * A block begins with a word: its size in bytes, up to the next block, and in the two lowest bits whether it and the
  * block before it are in use. A free block also has links to others of its bin, and its size once more in its last
  * word. No two neighbours are both free, and none is free before `top`, where no block has been yet.
  */
 typedef unsigned long u64;
-typedef struct { u64 ok, p; } tried;
-typedef struct block { u64 word; struct block *next, **link; } block;
+typedef struct block { u64 word; union { struct { struct block *next, **link; }; char bytes[16]; }; } block;
 #ifndef FIRST
 extern unsigned char __heap_base;
 #define FIRST ((u64)&__heap_base)
 #define LIMIT (1ul << 31) /* no memory is given past this address */
 #endif
-enum { USED = 1, BEFORE = 2, WORD = 8, LEAST = 32, BINS = 216, TRIES = 64 };
+enum { USED = 1, BEFORE = 2, WORD = 8, LEAST = 32, BINS = 216, TRIES = 64, LARGE = 1 << 22 };
 
 u64 requests_left = ~0ul; /* tests set it: how many requests are met before all are refused */
 u64 __stack_chk_guard = 0x595e9fbd94fda766ul;
@@ -87,34 +86,35 @@ static block *find(u64 size) {
 	return best;
 }
 
-static int refuses(void) { return !requests_left || (~requests_left && !requests_left--); }
-
-tried rattle_alloc(u64 n, u64 align) {
-	u64 size = round_up(n);
-	if (align > 16 || refuses()) return (tried){0, 0};
+/* Returns a block in use of this size, or 0. */
+static block *get(u64 size) {
 	block *it = find(size);
+	if (!it && !move_top(size)) return 0;
 	if (it) unlink_free(it);
-	else if (move_top(size)) it = (block *)(top - size), it->word = size | BEFORE;
-	else return (tried){0, 0};
-	return take(it, size), (tried){1, (u64)it + WORD};
+	else it = (block *)(top - size), it->word = size | BEFORE;
+	return take(it, size), it;
 }
 
-void rattle_dealloc(u64 p) { release((block *)(p - WORD)); }
-
-/* Makes a block hold n bytes, in its place if what follows is free, and keeps its first ones. */
-tried rattle_realloc(u64 p, u64 kept, u64 n, u64 align) {
-	block *it = (block *)(p - WORD), *next = after(it);
-	u64 size = round_up(n), has = size_of(it);
-	if (size > has && refuses()) return (tried){0, p};
-	if (size > has && (u64)next == top) it->word += move_top(size - has) ? size - has : 0;
-	else if (size > has && !(next->word & USED) && has + size_of(next) >= size) unlink_free(next), it->word += size_of(next);
-	if (size_of(it) >= size) return take(it, size), (tried){1, p};
-	tried made = rattle_alloc(n, align);
-	if (!made.ok) return (tried){0, p};
-	return __builtin_memcpy((void *)made.p, (void *)p, kept), rattle_dealloc(p), made;
+static int refuses(void) { return !requests_left || (requests_left -= ~requests_left ? 1 : 0, 0); }
+void free(void *p) { release((block *)((u64)p - WORD)); }
+void *malloc(u64 n) {
+	block *it = refuses() ? 0 : get(round_up(n));
+	return it ? it->bytes : 0;
 }
 
-u64 room(u64 n) { return rattle_alloc(n, 16).p; }
+/* Makes a block hold n bytes, in its place if what follows is free. Large blocks grow: one that moves leaves room. */
+void *realloc(void *p, u64 n) {
+	block *it = (block *)((u64)p - WORD), *next = after(it), *gap = 0, *made;
+	u64 size = round_up(n), has = size_of(it), more = size > has ? size - has : 0;
+	if (more && refuses()) return 0;
+	if (more && (u64)next == top) it->word += move_top(more) ? more : 0;
+	else if (more && !(next->word & USED) && size_of(next) >= more) unlink_free(next), it->word += size_of(next);
+	if (size_of(it) >= size) return take(it, size), p;
+	if (size > LARGE && (u64)next != top && size_of(next) > LARGE) gap = get(size_of(next) / 2);
+	made = get(size), gap ? release(gap) : (void)0;
+	return made ? __builtin_memcpy(made->bytes, p, has - WORD), release(it), made->bytes : 0;
+}
+
 void *memcpy(void *to, const void *from, u64 n) { return __builtin_memcpy(to, from, n); }
 void *memmove(void *to, const void *from, u64 n) { return __builtin_memmove(to, from, n); }
 void *memset(void *to, int byte, u64 n) { return __builtin_memset(to, byte, n); }

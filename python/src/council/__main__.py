@@ -1,0 +1,138 @@
+"""Prints the report of a game, as the program council does, through the library."""
+from __future__ import annotations
+
+import argparse
+import ctypes
+import os
+import sys
+from typing import NoReturn, Optional
+
+from . import __version__, platforms
+from .finding import HOME
+from .game import GAME_FILE
+
+MOST, STATES = 4_000_000, 1 << 27
+# statuses of council.h
+OPTIONS, GAME, TOO_MANY, TOO_LONG = 2, 3, 4, 7
+FLAGS = {
+    "list": "a line for each minimal winning coalition",
+    "sizes": "a line for each size of a coalition",
+    "notation": "a line [q; w1, .., wn] for each rule",
+    "tally": "count the coalitions, any number of them, and keep none",
+    "swings": "add swings and the indices that rest on them",
+    "only_swings": "show only these, and find no minimal winning coalition",
+}
+# which do not go together
+APART = [("tally", "list"), ("tally", "most"), *(("only_swings", it) for it in ("list", "sizes", "tally", "most", "swings"))]
+PROGRAM = ("--workers", "--bits", "--explain")
+
+
+class Fault(Exception):
+    """A line for standard error, and the status."""
+
+    def __init__(self, status: int, text: str):
+        super().__init__(text)
+        self.status = status
+
+
+class Words(argparse.ArgumentParser):
+    """Reads the command line. What is wrong with it is a Fault."""
+
+    def error(self, message: str) -> NoReturn:
+        raise Fault(OPTIONS, f"{message} (--help says more)")
+
+
+def read_words(words: list[str]) -> argparse.Namespace:
+    """Reads the words of the command line."""
+    for it in words:
+        if it.split("=")[0] in PROGRAM:
+            raise Fault(OPTIONS, f"{it}: only the program council takes it, and this is the library")
+    reader = Words(prog="python -m council", description=__doc__, allow_abbrev=False)
+    reader.add_argument("file", metavar="FILE", nargs="?", default="-", help="the game file; none, or -, is standard input")
+    reader.add_argument("--most", metavar="N", type=int, help=f"refuse a game with more coalitions, 1 to {MOST}")
+    reader.add_argument("--room", metavar="N", type=int, help=f"the most states that a count keeps, 1 to {STATES}")
+    for name, text in FLAGS.items():
+        reader.add_argument(f"--{name.replace('_', '-')}", action="store_true", help=text)
+    reader.add_argument("-V", "--version", action="version", version=f"council {__version__}, the library")
+    found = reader.parse_args(words)
+    for name, most in (("most", MOST), ("room", STATES)):
+        if getattr(found, name) is not None and not 1 <= getattr(found, name) <= most:
+            reader.error(f"--{name} is from 1 to {most}")
+    for one, other in APART:
+        if getattr(found, one) and getattr(found, other):
+            reader.error(f"--{one.replace('_', '-')} does not go with --{other.replace('_', '-')}")
+    return found
+
+
+def read_game(path: str) -> bytes:
+    """Reads as much of the game file as shows that it is too long."""
+    # (Windows does not open a folder)
+    unread = Fault(1, "the game file cannot be read")
+    if os.path.isdir(path):
+        raise unread
+    try:
+        source = sys.stdin.buffer if path == "-" else open(path, "rb")
+    except (OSError, ValueError):
+        raise Fault(1, "the game file cannot be opened") from None
+    try:
+        with source:
+            return source.read(GAME_FILE + 1)
+    except OSError:
+        raise unread from None
+
+
+def report(call: ctypes._NamedFuncPointer, game: bytes, words: list[int]) -> tuple[int, bytes]:
+    """Returns the status, and the report or the fault."""
+    options, length, room = (ctypes.c_uint64 * len(words))(8 * len(words), *words[1:]), ctypes.c_uint64(1 << 16), 0
+    while length.value > room:
+        room = length.value
+        text = ctypes.create_string_buffer(room)
+        its = [ctypes.c_size_t(it) for it in (len(game), len(words), room)]
+        status = int(platforms.run_aside(call, game, its[0], options, its[1], text, its[2], ctypes.byref(length)))
+    return status, ctypes.string_at(text, length.value)
+
+
+def compute(path: str, game: bytes, found: argparse.Namespace) -> bytes:
+    """Returns the report of a game by the library in a file."""
+    words = [0, found.most or 0, 0, found.room or 0, *(int(getattr(found, it)) for it in ("tally", "list", "sizes", "notation", "swings", "only_swings"))]
+    call = platforms.load(path).council_report_raw
+    status, text = report(call, game, words)
+    if status == TOO_MANY and not found.most and not found.list:
+        # as the program: more than a million are counted, if few states do
+        words[2], words[4] = 1, 1
+        again = report(call, game, words)
+        status, text = again if again[0] != TOO_LONG else (status, text)
+    if status:
+        raise Fault(status, text.decode("utf-8"))
+    return text
+
+
+def main(words: Optional[list[str]] = None) -> int:
+    """Prints the report that the words ask for, and returns the exit status."""
+    platforms.prepare_streams(sys.stdout, sys.stderr)
+    try:
+        found = read_words(sys.argv[1:] if words is None else words)
+        path = os.environ.get("COUNCIL_LIBRARY", platforms.find_file(HOME))
+        if not path:
+            raise Fault(1, "this package has no library: install a wheel of a release")
+        text = compute(path, read_game(found.file), found)
+    except Fault as it:
+        print(f"council: {it}", file=sys.stderr)
+        return it.status
+    except MemoryError:
+        print("council: out of memory", file=sys.stderr)
+        return 5
+    except KeyboardInterrupt:
+        return 130
+    try:
+        sys.stdout.buffer.write(text)
+        sys.stdout.flush()
+    except OSError:
+        print("council: output failed", file=sys.stderr)
+        os.dup2(os.open(os.devnull, os.O_WRONLY), sys.stdout.fileno())
+        return 5
+    return 0
+
+
+if __name__ == "__main__":
+    sys.exit(main())
