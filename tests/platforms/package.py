@@ -103,8 +103,7 @@ class Package(unittest.TestCase):
         self.assertEqual((out.buffer.getvalue(), err.buffer.getvalue()), ("\u0141\u00f3d\u017a\n".encode(), b"\\ud800\n"))
         platforms.prepare_streams(None, None)
 
-    def test_calls_aside_and_after_a_fork(self):
-        self.assertEqual(platforms.run_aside(lambda one, other: one + other, 1, 2), 3)
+    def test_calls_after_a_fork(self):
         register, seen = os.register_at_fork, []
         try:
             os.register_at_fork = lambda after_in_child: seen.append(after_in_child)

@@ -2,7 +2,6 @@
 from __future__ import annotations
 
 import argparse
-import ctypes
 import os
 import sys
 from typing import NoReturn, Optional
@@ -10,10 +9,11 @@ from typing import NoReturn, Optional
 from . import __version__, platforms
 from .finding import HOME
 from .game import GAME_FILE
+from .library import TOO_LONG, TOO_MANY, Library
 
 MOST, STATES = 4_000_000, 1 << 27
-# statuses of council.h
-OPTIONS, GAME, TOO_MANY, TOO_LONG = 2, 3, 4, 7
+# the status of wrong options
+OPTIONS = 2
 FLAGS = {
     "list": "a line for each minimal winning coalition",
     "sizes": "a line for each size of a coalition",
@@ -81,30 +81,18 @@ def read_game(path: str) -> bytes:
         raise unread from None
 
 
-def report(call: ctypes._NamedFuncPointer, game: bytes, words: list[int]) -> tuple[int, bytes]:
-    """Returns the status, and the report or the fault."""
-    options, length, room = (ctypes.c_uint64 * len(words))(8 * len(words), *words[1:]), ctypes.c_uint64(1 << 16), 0
-    while length.value > room:
-        room = length.value
-        text = ctypes.create_string_buffer(room)
-        its = [ctypes.c_size_t(it) for it in (len(game), len(words), room)]
-        status = int(platforms.run_aside(call, game, its[0], options, its[1], text, its[2], ctypes.byref(length)))
-    return status, ctypes.string_at(text, length.value)
-
-
 def compute(path: str, game: bytes, found: argparse.Namespace) -> bytes:
     """Returns the report of a game by the library in a file."""
-    words = [0, found.most or 0, 0, found.room or 0, *(int(getattr(found, it)) for it in ("tally", "list", "sizes", "notation", "swings", "only_swings"))]
-    call = platforms.load(path).council_report_raw
-    status, text = report(call, game, words)
+    asked = {"most": found.most or 0, "states": found.room or 0, **{it: int(getattr(found, it)) for it in FLAGS}}
+    library = Library(path)
+    status, text = library.report(game, **asked)
     if status == TOO_MANY and not found.most and not found.list:
         # as the program: more than a million are counted, if few states do
-        words[2], words[4] = 1, 1
-        again = report(call, game, words)
+        again = library.report(game, **{**asked, "visits": 1, "tally": 1})
         status, text = again if again[0] != TOO_LONG else (status, text)
     if status:
-        raise Fault(status, text.decode("utf-8"))
-    return text
+        raise Fault(status, text)
+    return text.encode("utf-8")
 
 
 def main(words: Optional[list[str]] = None) -> int:

@@ -7,7 +7,6 @@ from __future__ import annotations
 
 import ctypes
 import math
-import os
 import threading
 import time
 from array import array
@@ -15,6 +14,7 @@ from ctypes import byref, sizeof
 from fractions import Fraction
 from typing import Any, Optional, Sequence
 
+from .platforms import after_fork, load
 from .ways import WAYS, Ways
 
 U32, U64, Size = ctypes.c_uint32, ctypes.c_uint64, ctypes.c_size_t
@@ -76,9 +76,8 @@ class Alarm:
 
 
 ALARM = Alarm()
-if hasattr(os, "register_at_fork"):
-    # (a forked child has the lock, but not the thread)
-    os.register_at_fork(after_in_child=ALARM.__init__)  # type: ignore[misc]
+# (a forked child has the lock, but not the thread)
+after_fork(ALARM.__init__)  # type: ignore[misc]
 
 
 class Library:
@@ -86,11 +85,11 @@ class Library:
 
     def __init__(self, path: str):
         self.path = path
-        self._calls: Any = ctypes.CDLL(path)
+        self._calls: Any = load(path)
 
     def report(self, game: bytes, **options: int) -> tuple[int, str]:
         """Returns the status, and the report of a game file or its fault."""
-        room, length, words = 0, U64(LIST_ROOM if "list" in options else ROOM), Options(size=sizeof(Options), **options)
+        room, length, words = 0, U64(LIST_ROOM if options.get("list") else ROOM), Options(size=sizeof(Options), **options)
         while length.value > room:
             room = length.value
             text = ctypes.create_string_buffer(room)
@@ -152,7 +151,9 @@ class Library:
         worker = threading.Thread(target=work, name="council", daemon=True)
         worker.start()
         try:
-            worker.join()
+            # (on Windows, only a wait of some length hears an interrupt)
+            while worker.is_alive():
+                worker.join(0.1)
         finally:
             stop.value = 1
             worker.join()

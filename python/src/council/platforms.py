@@ -4,10 +4,7 @@ from __future__ import annotations
 import ctypes
 import os
 import sys
-import threading
-from typing import Any, Callable, Optional, TextIO, TypeVar
-
-T = TypeVar("T")
+from typing import Callable, Optional, TextIO
 
 
 def library_names(system: str = sys.platform) -> tuple[str, ...]:
@@ -33,17 +30,6 @@ def after_fork(call: Callable[[], object]) -> None:
     """Has a function called in each forked child, on systems that fork."""
     if hasattr(os, "register_at_fork"):
         os.register_at_fork(after_in_child=call)
-
-
-def run_aside(call: Callable[..., T], *words: Any) -> T:
-    """Calls in a thread of its own. An interrupt ends the wait; on Windows, only a wait of some
-    length hears one."""
-    answers: list[T] = []
-    worker = threading.Thread(target=lambda: answers.append(call(*words)), name="council", daemon=True)
-    worker.start()
-    while worker.is_alive():
-        worker.join(0.1)
-    return answers[0]
 
 
 def prepare_streams(stdout: Optional[TextIO], stderr: Optional[TextIO]) -> None:
