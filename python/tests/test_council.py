@@ -275,7 +275,7 @@ class Reports(unittest.TestCase):
             ((51, {"A": 50}), {"names": "B"}, "the keys of the weights are the names: give no others"), (("51", [50]), {}, "the quota '51' is a text: give a number, or a list of numbers"), ((51, "50"), {}, "the weights are a list of numbers, or a list of lists, and not '50'"),
             ((51, [50]), {"ways": [1]}, "ways are lists of rules, as [[1, 2], [3]], and not [1]"), ((51, [50]), {"ways": 1}, "ways are lists of rules, as [[1, 2], [3]], and not 1"), ((51, [50]), {"ways": ["1,2"]}, "ways are lists of rules, as [[1, 2], [3]], and not ['1,2']"),
             ((51, ["50"]), {}, "the weight of member 1 is '50', which is no number"), ((51, [50, None]), {}, "the weight of member 2 is None, which is no number"), ((51, [1j]), {}, "the weight of member 1 is 1j, which is no number"), (([5, "3"], [[1], [1]]), {}, "quota 2 is '3', which is no number"),
-            ((51, [50]), {"names": [1.5]}, "1.5 is no name: names are texts or whole numbers"), ((51, 50), {}, "the weights are a list of numbers, or a list of lists, and not 50"), (([5, 3], ["ab", "cd"]), {}, "the weights are a list of lists of numbers, and one of these is 'ab'"),
+            ((51, [50]), {"names": [1.5]}, "1.5 is no name: names are texts or whole numbers"), ((51, 50), {}, "the weights are a list of numbers, or a list of lists, and not 50"), (([5, 3], ["ab", [1, 2]]), {}, "the weights are a list of lists of numbers, and one of these is 'ab'"),
         ]:
             with self.assertRaises(TypeError, msg=(words, more)) as caught:
                 council.report(*words, **more)

@@ -124,17 +124,13 @@ def read_table(quota: Any, weights: Any, by: Optional[str]) -> tuple[list[str], 
     """Returns the quotas, and the weights under each rule."""
     if isinstance(quota, (str, bytes)):
         raise TypeError(f"the quota {shorten(quota)} is a text: give a number, or a list of numbers")
-    its = read_list(weights, "the weights are a list of numbers, or a list of lists, and not")
-    is_flat = all(map(is_number, its))
-    if is_number(quota):
-        if is_flat or all(isinstance(it, (str, bytes)) or not hasattr(it, "__iter__") for it in its):
-            return [write_number(quota, "the quota")], [[write_number(it, f"the weight of member {at}") for at, it in enumerate(its, 1)]]
-        quota = [quota]
-    quotas = [write_number(it, f"quota {at}") for at, it in enumerate(read_list(quota, "the quotas are a list of numbers, and not"), 1)]
-    if its and is_flat:
+    is_one, its = is_number(quota), read_list(weights, "the weights are a list of numbers, or a list of lists, and not")
+    given = [quota] if is_one else read_list(quota, "the quotas are a list of numbers, and not")
+    quotas = [write_number(it, "the quota" if is_one else f"quota {at}") for at, it in enumerate(given, 1)]
+    if (its or is_one) and not any(hasattr(it, "__iter__") and not isinstance(it, (str, bytes)) for it in its):
         if len(quotas) != 1:
             raise ValueError(f"there are {len(quotas)} quotas, and one list of weights: give a list of weights for each quota")
-        return quotas, [[write_number(it, "") for it in its]]
+        return quotas, [[write_number(it, f"the weight of member {at}") for at, it in enumerate(its, 1)]]
     table = [[write_number(it, "a weight") for it in read_list(row, "the weights are a list of lists of numbers, and one of these is")] for row in its]
     columns = turn(table, len(quotas), by)
     if len(columns) != len(quotas):
@@ -193,7 +189,7 @@ def write_number(value: Any, what: str) -> str:
         return str(Decimal(operator.index(value)))
     except TypeError:
         if not is_number(value):
-            raise TypeError(f"{what or 'a weight'} is {shorten(value)}, which is no number") from None
+            raise TypeError(f"{what} is {shorten(value)}, which is no number") from None
     try:
         whole = round(value)
     except OverflowError:
