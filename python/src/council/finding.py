@@ -1,6 +1,6 @@
 """Finds the library council and the program council.
 
-Environment variables name others: COUNCIL_LIBRARY a libcouncil.so, COUNCIL_PROGRAM a program. An
+Environment variables name others: COUNCIL_LIBRARY a library, COUNCIL_PROGRAM a program. An
 empty one means that none is used.
 """
 from __future__ import annotations
@@ -12,6 +12,7 @@ from pathlib import Path
 from typing import Optional
 
 from .library import Library
+from .platforms import find_file
 
 
 class NotFound(RuntimeError):
@@ -72,9 +73,9 @@ def load_library(home: str, named: Optional[str]) -> Optional[Library]:
     """Loads the library that is named, or the one of a folder, once."""
     if named is not None:
         return Library(os.path.realpath(named)) if named else None
-    path = next((it for it in (f"{home}/libcouncil.so", f"{home}/../lib/libcouncil.so") if os.path.isfile(it)), None)
+    path = find_file(home)
     try:
-        return Library(os.path.realpath(path)) if path else None
+        return Library(path) if path else None
     except OSError:
         # it is for another system: the program answers
         return None

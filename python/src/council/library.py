@@ -15,6 +15,7 @@ from ctypes import byref, sizeof
 from fractions import Fraction
 from typing import Any, Optional, Sequence
 
+from .platforms import wait
 from .ways import WAYS, Ways
 
 U32, U64, Size = ctypes.c_uint32, ctypes.c_uint64, ctypes.c_size_t
@@ -152,8 +153,8 @@ class Library:
         worker = threading.Thread(target=work, name="council", daemon=True)
         worker.start()
         try:
-            worker.join()
+            wait(worker)
         finally:
             stop.value = 1
-            worker.join()
+            wait(worker)
         return answers[0]
