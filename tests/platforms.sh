@@ -104,7 +104,7 @@ if [ -f "$temp/windows/council.dll" ] && [ -f "$temp/arm/libcouncil.so" ] && nee
     done)
     windows=council-$version-x86_64-windows arm=council-$version-aarch64-linux tag=manylinux_2_17_aarch64
     wanted="$windows/PROVED $windows/council-$version-py3-none-win_amd64.whl $windows/council.html $windows/include/council.h $windows/lib/council.dll $windows/lib/libcouncil.dll.a \
-$arm/PROVED $arm/council-$version-py3-none-$tag.whl $arm/council.html $arm/include/council.h $arm/lib/libcouncil.a $arm/lib/libcouncil.so \
+$arm/PROVED $arm/council-$version-py3-none-$tag.whl $arm/council.html $arm/include/council.h $arm/lib/libcouncil.a $arm/lib/libcouncil.so $arm/lib/libcouncil.so.1 \
 council-$version.dist-info/entry_points.txt council/council.dll council-$version.dist-info/entry_points.txt council/libcouncil.so "
     if [ "$found" = "$wanted" ]; then ok "$name"; else failed "$name" "$(head -n 1 "$temp/err") $found"; fi
 fi

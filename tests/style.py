@@ -25,9 +25,9 @@ WIDTH = 100
 # the pages, and the most words that each may have; beside them docs/ has only pages that a script computes
 LIMITS = {
     "README.md": 980,
-    "CONTRIBUTING.md": 1220,
+    "CONTRIBUTING.md": 1240,
     "CHANGELOG.md": 1240,
-    "docs/GUIDE.md": 3570,
+    "docs/GUIDE.md": 3560,
     "docs/FORMATS.md": 1500,
     "docs/DEFINITIONS.md": 1800,
     "docs/TOUR.md": 1200,
@@ -35,7 +35,7 @@ LIMITS = {
     "docs/ARCHITECTURE.md": 2200,
     "docs/DECISIONS.md": 1000,
     "docs/LIBRARY.md": 1400,
-    "docs/LANGUAGES.md": 570,
+    "docs/LANGUAGES.md": 520,
 }
 COMPUTED = ["docs/TRUST.md"]
 # a pattern, how often a page may have it, and what to write instead

@@ -164,6 +164,7 @@ if [ -n "$platforms" ]; then
     # the oldest C library that has all of its symbols
     glibc=$(aarch64-linux-gnu-objdump -T "$platforms/arm/libcouncil.so" | sed -n 's/.*GLIBC_\([0-9]*\)\.\([0-9]*\).*/\1_\2/p' | sort -t _ -k 1,1n -k 2,2n | tail -n 1)
     other "$arm" "manylinux_${glibc}_aarch64" "$platforms/arm/libcouncil.so" "$platforms/arm/libcouncil.a"
+    ln -s libcouncil.so "$temp/$arm/lib/libcouncil.so.1"
     pack "$arm"
     files="$files $arm.tar.gz $its_wheel"
 fi

@@ -13,11 +13,12 @@ import subprocess
 import sys
 import tempfile
 import unittest
+from unittest import mock
 
 TOP = os.path.dirname(os.path.dirname(os.path.dirname(os.path.abspath(__file__))))
 sys.path[:0] = [f"{TOP}/tests", f"{TOP}/python/src"]
 import lines  # noqa: E402
-from council import platforms  # noqa: E402
+from council import library, platforms  # noqa: E402
 
 PROGRAM, LIBRARY = sys.argv[1:]
 del sys.argv[1:]
@@ -82,7 +83,7 @@ class Package(unittest.TestCase):
         self.assertEqual((done.returncode, done.stderr), (5, b"council: output failed\n"))
 
     def test_names_of_the_library(self):
-        self.assertEqual([platforms.library_names(it) for it in ("win32", "linux")], [("council.dll",), ("libcouncil.so",)])
+        self.assertEqual([platforms.library_name(it) for it in ("win32", "linux")], ["council.dll", "libcouncil.so"])
         with tempfile.TemporaryDirectory() as folder:
             # as a Windows user has it: blanks, letters with accents, brackets
             home = os.path.join(folder, "Program Files (x86)", "Zo\u00eb \u00c5", "site-packages", "council")
@@ -93,7 +94,7 @@ class Package(unittest.TestCase):
             shutil.copy(LIBRARY, f"{home}/council.dll")
             self.assertEqual(platforms.find_file(home, "win32"), os.path.realpath(f"{home}/council.dll"))
             self.assertEqual(platforms.find_file(home, "linux"), os.path.realpath(f"{home}/libcouncil.so"))
-            self.assertEqual(platforms.load(f"{home}/council.dll").council_version(), 10200)
+            self.assertEqual(library.Library(platforms.find_file(home, "win32")).report(b"[1; 1]")[0], 0)
 
     def test_streams_of_a_console_that_is_not_utf_8(self):
         out, err = (io.TextIOWrapper(io.BytesIO(), encoding="cp437", newline="\r\n") for _ in range(2))
@@ -103,16 +104,12 @@ class Package(unittest.TestCase):
         self.assertEqual((out.buffer.getvalue(), err.buffer.getvalue()), ("\u0141\u00f3d\u017a\n".encode(), b"\\ud800\n"))
         platforms.prepare_streams(None, None)
 
-    def test_calls_after_a_fork(self):
-        register, seen = os.register_at_fork, []
-        try:
-            os.register_at_fork = lambda after_in_child: seen.append(after_in_child)
-            platforms.after_fork(print)
-            del os.register_at_fork
-            platforms.after_fork(print)
-        finally:
-            os.register_at_fork = register
-        self.assertEqual(seen, [print])
+    def test_waits_that_hear_an_interrupt(self):
+        waits = []
+        worker = mock.Mock(is_alive=lambda: len(waits) < 2, join=waits.append)
+        with mock.patch("sys.platform", "win32"):
+            platforms.wait(worker)
+        self.assertEqual(waits, [0.1, 0.1])
 
 
 sys.exit(not lines.run("python -m council: "))

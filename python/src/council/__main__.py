@@ -6,14 +6,13 @@ import os
 import sys
 from typing import NoReturn, Optional
 
-from . import __version__, platforms
-from .finding import HOME
+from . import __version__
+from .finding import find_library
 from .game import GAME_FILE
 from .library import TOO_LONG, TOO_MANY, Library
+from .platforms import prepare_streams
 
 MOST, STATES = 4_000_000, 1 << 27
-# the status of wrong options
-OPTIONS = 2
 FLAGS = {
     "list": "a line for each minimal winning coalition",
     "sizes": "a line for each size of a coalition",
@@ -39,14 +38,14 @@ class Words(argparse.ArgumentParser):
     """Reads the command line. What is wrong with it is a Fault."""
 
     def error(self, message: str) -> NoReturn:
-        raise Fault(OPTIONS, f"{message} (--help says more)")
+        raise Fault(2, f"{message} (--help says more)")
 
 
 def read_words(words: list[str]) -> argparse.Namespace:
     """Reads the words of the command line."""
     for it in words:
         if it.split("=")[0] in PROGRAM:
-            raise Fault(OPTIONS, f"{it}: only the program council takes it, and this is the library")
+            raise Fault(2, f"{it}: only the program council takes it, and this is the library")
     reader = Words(prog="python -m council", description=__doc__, allow_abbrev=False)
     reader.add_argument("file", metavar="FILE", nargs="?", default="-", help="the game file; none, or -, is standard input")
     reader.add_argument("--most", metavar="N", type=int, help=f"refuse a game with more coalitions, 1 to {MOST}")
@@ -81,29 +80,28 @@ def read_game(path: str) -> bytes:
         raise unread from None
 
 
-def compute(path: str, game: bytes, found: argparse.Namespace) -> bytes:
-    """Returns the report of a game by the library in a file."""
-    asked = {"most": found.most or 0, "states": found.room or 0, **{it: int(getattr(found, it)) for it in FLAGS}}
-    library = Library(path)
-    status, text = library.report(game, **asked)
+def compute(library: Library, game: bytes, found: argparse.Namespace) -> str:
+    """Returns the report of a game."""
+    options = {"most": found.most or 0, "states": found.room or 0, **{it: int(getattr(found, it)) for it in FLAGS}}
+    status, text = library.report(game, **options)
     if status == TOO_MANY and not found.most and not found.list:
         # as the program: more than a million are counted, if few states do
-        again = library.report(game, **{**asked, "visits": 1, "tally": 1})
+        again = library.report(game, **{**options, "tally": 1, "visits": 1})
         status, text = again if again[0] != TOO_LONG else (status, text)
     if status:
         raise Fault(status, text)
-    return text.encode("utf-8")
+    return text
 
 
 def main(words: Optional[list[str]] = None) -> int:
     """Prints the report that the words ask for, and returns the exit status."""
-    platforms.prepare_streams(sys.stdout, sys.stderr)
+    prepare_streams(sys.stdout, sys.stderr)
     try:
         found = read_words(sys.argv[1:] if words is None else words)
-        path = os.environ.get("COUNCIL_LIBRARY", platforms.find_file(HOME))
-        if not path:
+        library = find_library()
+        if not library:
             raise Fault(1, "this package has no library: install a wheel of a release")
-        text = compute(path, read_game(found.file), found)
+        text = compute(library, read_game(found.file), found)
     except Fault as it:
         print(f"council: {it}", file=sys.stderr)
         return it.status
@@ -113,7 +111,7 @@ def main(words: Optional[list[str]] = None) -> int:
     except KeyboardInterrupt:
         return 130
     try:
-        sys.stdout.buffer.write(text)
+        sys.stdout.write(text)
         sys.stdout.flush()
     except OSError:
         print("council: output failed", file=sys.stderr)

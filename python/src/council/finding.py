@@ -1,6 +1,6 @@
 """Finds the library council and the program council.
 
-Environment variables name others: COUNCIL_LIBRARY a libcouncil.so, COUNCIL_PROGRAM a program. An
+Environment variables name others: COUNCIL_LIBRARY a library, COUNCIL_PROGRAM a program. An
 empty one means that none is used.
 """
 from __future__ import annotations

@@ -7,6 +7,7 @@ from __future__ import annotations
 
 import ctypes
 import math
+import os
 import threading
 import time
 from array import array
@@ -14,7 +15,7 @@ from ctypes import byref, sizeof
 from fractions import Fraction
 from typing import Any, Optional, Sequence
 
-from .platforms import after_fork, load
+from .platforms import wait
 from .ways import WAYS, Ways
 
 U32, U64, Size = ctypes.c_uint32, ctypes.c_uint64, ctypes.c_size_t
@@ -76,8 +77,9 @@ class Alarm:
 
 
 ALARM = Alarm()
-# (a forked child has the lock, but not the thread)
-after_fork(ALARM.__init__)  # type: ignore[misc]
+if hasattr(os, "register_at_fork"):
+    # (a forked child has the lock, but not the thread)
+    os.register_at_fork(after_in_child=ALARM.__init__)  # type: ignore[misc]
 
 
 class Library:
@@ -85,7 +87,7 @@ class Library:
 
     def __init__(self, path: str):
         self.path = path
-        self._calls: Any = load(path)
+        self._calls: Any = ctypes.CDLL(path)
 
     def report(self, game: bytes, **options: int) -> tuple[int, str]:
         """Returns the status, and the report of a game file or its fault."""
@@ -151,10 +153,8 @@ class Library:
         worker = threading.Thread(target=work, name="council", daemon=True)
         worker.start()
         try:
-            # (on Windows, only a wait of some length hears an interrupt)
-            while worker.is_alive():
-                worker.join(0.1)
+            wait(worker)
         finally:
             stop.value = 1
-            worker.join()
+            wait(worker)
         return answers[0]

@@ -1,35 +1,28 @@
 """What the package does by the system that it runs on."""
 from __future__ import annotations
 
-import ctypes
 import os
 import sys
-from typing import Callable, Optional, TextIO
+import threading
+from typing import Optional, TextIO
 
 
-def library_names(system: str = sys.platform) -> tuple[str, ...]:
-    """Returns the names that the file of the library may have."""
-    if system in ("win32", "cygwin"):
-        return ("council.dll",)
-    return ("libcouncil.dylib", "libcouncil.so") if system == "darwin" else ("libcouncil.so",)
+def library_name(system: str = sys.platform) -> str:
+    """Returns the name of the file that is the library."""
+    return "council.dll" if system in ("win32", "cygwin") else "libcouncil.so"
 
 
 def find_file(home: str, system: str = sys.platform) -> Optional[str]:
-    """Returns the path of the library in the folder of the package or in its archive, or None."""
-    folders = (home, os.path.join(home, os.pardir, "lib"))
-    paths = (os.path.join(folder, name) for folder in folders for name in library_names(system))
+    """Returns the path of the library in the folder of the package, or in its archive, or None."""
+    paths = (os.path.join(it, library_name(system)) for it in (home, os.path.join(home, os.pardir, "lib")))
+    # (a whole path, so Windows looks for it nowhere else)
     return next((os.path.realpath(it) for it in paths if os.path.isfile(it)), None)
 
 
-def load(path: str) -> ctypes.CDLL:
-    """Loads the library. Its path is whole, so Windows looks for it nowhere else."""
-    return ctypes.CDLL(os.path.abspath(path))
-
-
-def after_fork(call: Callable[[], object]) -> None:
-    """Has a function called in each forked child, on systems that fork."""
-    if hasattr(os, "register_at_fork"):
-        os.register_at_fork(after_in_child=call)
+def wait(worker: threading.Thread) -> None:
+    """Waits until a thread has ended. Windows hears an interrupt only between waits."""
+    while worker.is_alive():
+        worker.join(0.1 if sys.platform == "win32" else None)
 
 
 def prepare_streams(stdout: Optional[TextIO], stderr: Optional[TextIO]) -> None:
