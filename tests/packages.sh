@@ -20,6 +20,8 @@ types "python/src on Python 3.9" --strict --python-version 3.9 python/src/counci
 ! /usr/bin/python3 -c 'import numpy' 2>/dev/null || types "calls with arrays" --strict python/tests/typed.py
 types "python/backend.py and tools" python/backend.py tools/build.py tools/reference.py
 
+name="the package for R has the header of the library"
+if cmp -s include/council.h r/council/src/council.h; then ok "$name"; else failed "$name" "copy include/council.h to r/council/src"; fi
 if needs python3 "the package for Python" "the package for R"; then
     for test in package r; do
         python3 "tests/using/$test.py" "$program" 2>"$temp/err" || failed "tests/using/$test.py" "it stopped: $(tail -n 1 "$temp/err")"
