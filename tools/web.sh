@@ -4,7 +4,6 @@
 #
 #     tools/web.sh [--to FOLDER]    council.html, council.mjs, council.d.ts and package.json in dist
 #     tools/web.sh --docs           docs/council.html
-#     tools/web.sh --module FILE    only the module (for tests)
 #
 # The same LLVM module and sources make the same bytes with the same wasm-opt. It needs the
 # toolchain, python3 and Debian's packages binaryen (wasm-opt) and libclang-rt-19-dev-wasm64 (LLVM's
@@ -21,8 +20,7 @@ case ${1-} in
 "") ;;
 --to) to=${2:?"--to wants a folder"} ;;
 --docs) to=$top/docs only=council.html ;;
---module) only=${2:?"--module wants a file"} ;;
-*) stop "usage: tools/web.sh [--to FOLDER | --docs | --module FILE]" 2 ;;
+*) stop "usage: tools/web.sh [--to FOLDER | --docs]" 2 ;;
 esac
 module=$top/crates/council_c/out/council.bc
 [ -f "$module" ] || stop "there is no $module: tools/build.py --library makes it"
@@ -50,10 +48,6 @@ wide_calls='__multi3 __udivti3 __umodti3 __ashlti3 __lshrti3'
     -o "$temp/council64.wasm" "$temp/malloc.o" "$temp/heap.o" "$temp/council.o" "$wide"
 # addresses of 64 bits become those of 32, which every browser has
 wasm-opt --enable-memory64 --enable-bulk-memory --memory64-lowering -O2 --strip-target-features --strip-producers "$temp/council64.wasm" -o "$temp/council.wasm"
-if [ -n "$only" ] && [ "$only" != council.html ]; then
-    cp "$temp/council.wasm" "$only"
-    exit
-fi
 mkdir -p "$to"
 made="$(wasm-opt --version), LLVM module $(sha256sum <"$module" | cut -c 1-16)"
 python3 "$top/tools/web.py" "$temp/council.wasm" "$made" "$temp"

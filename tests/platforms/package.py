@@ -5,7 +5,6 @@
 
 Prints a line for each test.
 """
-import glob
 import io
 import os
 import shutil
@@ -37,10 +36,10 @@ def run_both(words, game=None, **more):
 
 
 class Package(unittest.TestCase):
-    def test_reports_of_all_examples(self):
-        for file in sorted(glob.glob(f"{EXAMPLES}/*.toml")):
-            program, library = run_both(["--swings", "--sizes", "--tally", file])
-            self.assertEqual(program, library, file)
+    def test_reports_of_examples(self):
+        for name in ("board.txt", "eec-1958.toml", "eu-27-nice.toml", "two-of-three.toml", "us-federal.toml"):
+            program, library = run_both(["--swings", "--sizes", "--tally", f"{EXAMPLES}/{name}"])
+            self.assertEqual(program, library, name)
 
     def test_each_option(self):
         for words in ("", "--list", "--sizes", "--notation", "--tally", "--swings", "--only-swings", "--list --swings --sizes --notation", "--most 9", "--room 5 --only-swings", "--list --most 4000000"):
