@@ -83,12 +83,12 @@ END
     # a game that takes hours: 21 of 39 members must agree, 6 of the first twelve and 15 of the
     # others, so a coalition with a seventh of the twelve is never minimal. The last member has
     # little weight, and only under the second rule, so no price shows it. Weights differ a little,
-    # so there are more states than are counted before a list. The run is ended when it was told of
-    # four times
+    # in six digits, so there are more states than are counted before a list. The run is ended when
+    # it was told of four times
     python3 - >"$temp/barren.toml" <<'END'
-print("quotas = [21000000, 15000000, 6000000]")
+print("quotas = [21000000000, 15000000000, 6000000000]")
 for member in range(40):
-    one, other = (10**6 + member**2 * it % 997 for it in (7, 11))
+    one, other = (10**9 + member**3 * it % 999983 for it in (7919, 104729))
     weights = [one, 0, other] if member < 12 else [one, other, 0] if member < 39 else [0, 1, 0]
     print(f'[[member]]\nname = "{member}"\nweights = {weights}')
 END
