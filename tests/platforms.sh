@@ -39,7 +39,7 @@ check_callers() {
         case $where$game in ARM*/share-register.toml) continue ;; esac
         compare "${game##*/}" "$game" --swings --tally --sizes --notation
     done
-    if [ -z "$wrong" ]; then ok "$where: reports of all examples"; else failed "$where: reports of all examples" "$wrong"; fi
+    if [ -z "$wrong" ]; then ok "$where: reports of the examples"; else failed "$where: reports of the examples" "$wrong"; fi
     wrong='' room=10
     for part in --list "--list --swings" --only-swings "--most 9"; do
         # shellcheck disable=SC2086
