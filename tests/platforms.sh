@@ -23,7 +23,7 @@ has() {
 compare() {
     local game=$2
     run "${@:3}" <"$game"
-    timeout "$seconds" "${on[@]}" "$folder/report$end" "${@:3}" <"$game" >"$temp/its" 2>"$temp/its.err"
+    timeout "$seconds" "${on[@]}" "$folder/report$end" --room "$room" "${@:3}" <"$game" >"$temp/its" 2>"$temp/its.err"
     its=$?
     cmp -s "$temp/out" "$temp/its" && cmp -s "$temp/err" "$temp/its.err" && [ "$its" -eq "$status" ] || wrong=${wrong:-"$1: status $its for $status, $(head -n 1 "$temp/its.err")"}
 }
@@ -33,14 +33,14 @@ check_callers() {
     local where=$1 part game wrong
     # (the first start of wine makes its folder)
     timeout "$seconds" "${on[@]}" "$folder/report$end" >/dev/null 2>&1 <"$temp/bracket.txt"
-    wrong=
+    wrong='' room=4096
     for game in "$top"/examples/*.{toml,txt}; do
         # (which takes qemu twenty seconds)
         case $where$game in ARM*/share-register.toml) continue ;; esac
         compare "${game##*/}" "$game" --swings --tally --sizes --notation
     done
-    if [ -z "$wrong" ]; then ok "$where: reports of all examples"; else failed "$where: reports of all examples" "$wrong"; fi
-    wrong=
+    if [ -z "$wrong" ]; then ok "$where: reports of the examples"; else failed "$where: reports of the examples" "$wrong"; fi
+    wrong='' room=10
     for part in --list "--list --swings" --only-swings "--most 9"; do
         # shellcheck disable=SC2086
         for game in "$top/examples/board.toml" "$temp/bracket.txt"; do compare "$part" "$game" $part; done

@@ -1,6 +1,5 @@
 // Calls LLVM's functions for 128 bits: `node wide.mjs council.mjs NUMBER` prints what they give as equations of Python.
 import {readFileSync} from "node:fs";
-
 const module = Buffer.from(/MODULE = "(.*)"/.exec(readFileSync(process.argv[2], "utf8"))[1], "base64");
 const calls = new WebAssembly.Instance(new WebAssembly.Module(module)).exports, place = calls.malloc(16n), mask = 2n ** 64n - 1n;
 let seed = 88172645463325252n;
