@@ -12,7 +12,8 @@ use council_explain::explain;
 use council_file::{parse_game, read_bytes};
 use council_game::{Game, GameFault, Gate, Plan, Sink, Source};
 use council_run::{
-    Cause, Columns, FEW_STATES, LEAST_BITS, NoGate, RunFault, choose_game, find_swings, number_by_states, report_game, status,
+    Cause, Columns, FEW_STATES, LEAST_BITS, NoGate, RunFault, choose_game, find_swings,
+    number_by_states, report_game, status,
 };
 use council_words::{
     Arguments, Progress, collect_words, parse_arguments, remark_on_columns, remark_on_names,

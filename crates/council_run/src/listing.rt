@@ -81,7 +81,12 @@ fn count_gathered(
         return Ok(counts);
     }
     if is_long(gathered) {
-        if let Some(counts) = count_by_states(alloc, game, room.min(FEW_STATES) as usize, &NoGate)? {
+        if let Some(counts) = count_by_states(
+            alloc,
+            game,
+            room.min(FEW_STATES) as usize,
+            &NoGate,
+        )? {
             return Ok(counts);
         }
     }
