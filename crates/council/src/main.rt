@@ -41,7 +41,7 @@ fn advice(cause: Cause, plan: Plan, is_explained: bool) -> Option<&'static str> 
             Some("--room allows more states to count them, and --tally may take very long")
         }
         (Cause::Gather(GatherFault::TooMany), Plan::Either, true) => Some(
-            "--room takes up to 134217728, --most up to 4000000, and --tally may take very long",
+            "--room takes up to 134217728 of 60 bytes, --most up to 4000000; --tally may take very long",
         ),
         (Cause::Gather(GatherFault::TooMany), _, false) => {
             Some("--tally counts any number of them")
@@ -53,7 +53,7 @@ fn advice(cause: Cause, plan: Plan, is_explained: bool) -> Option<&'static str> 
             Some("--room allows more, and --tally may count the minimal winning coalitions")
         }
         (Cause::States, _, true) => Some(
-            "--room takes up to 134217728, and --tally may count the minimal winning coalitions",
+            "--room takes up to 134217728 of 60 bytes; --tally may count the minimal winning coalitions",
         ),
         _ => None,
     }
