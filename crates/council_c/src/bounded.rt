@@ -1,4 +1,4 @@
-//! One walk over a game in the caller's thread, for at most so many visits.
+//! One walk over a game in the caller's thread, whose visits are limited.
 ghost use Rattle.std.specs.Prelude.{◌≡◌, ◌<◌, ◌≤◌, IfNone, IfOk, IfSome, [], length};
 ghost use Rattle.council_game.specs.declared.limits.TheConstants.{PLAIN_MEMBERS};
 ghost use Rattle.council_game.specs.Game.{votes_of};
@@ -14,7 +14,7 @@ use mwc_walk::{Seek, Walk};
 use power_index::Counts;
 use std::alloc::Global;
 
-/// A walk asks for memory after so many visits: a heap that refuses it ends the call.
+/// How many visits a walk makes until it asks for memory: a heap that refuses it ends the call.
 const ASK_EVERY: u64 = 1 << 20;
 
 /// What a walk lists.

@@ -27,7 +27,7 @@ fn rest_at(text: &str, at: usize) -> &str {
     skip_blank(text.get(at..).unwrap_or(""), true)
 }
 
-/// Reads a key, of which headers gave so many parts; returns its kind, and its length.
+/// Reads a key, whose headers gave `given` parts; returns its kind, and its length.
 fn read_key(
     alloc: Global,
     text: &str,

@@ -31,7 +31,7 @@ fn unknown_key(table: &Table, is_member: bool) -> Option<&str> {
     None
 }
 
-/// Returns the bit of a rule; 0 if it is none of so many.
+/// Returns the bit of a rule; 0 if there is no such rule.
 fn bit_of(rule: &Value, rules: usize) -> u8 {
     let number = usize::try_from(rule.as_integer().unwrap_or(0)).unwrap_or(0);
     match [0, 1, 2, 4, 8].get(number) {

@@ -24,14 +24,14 @@ use std::thread::Threads;
 /// How many coalitions a long list has: one pass over them takes some ten milliseconds.
 const LONG: usize = 1 << 19;
 
-/// After so many visits a walk that may take much longer waits for a count by so many states. That
-/// takes at most as long as these visits, but for the first count, which takes some milliseconds.
+/// A walk that may take much longer stops after each of these numbers of visits, for a count by the
+/// states beside it. That takes at most as long as these visits; the first takes some milliseconds.
 const STAGES: [(u32, u32); 3] = [(1 << 10, 1 << 11), (1 << 18, 1 << 16), (1 << 22, 1 << 20)];
 
 /// Some states: it takes a few milliseconds to count by them, or to see that there are more.
 pub const FEW_STATES: u32 = 1 << 13;
 
-/// From so many visits on, a walk that ends soon takes longer than a count by `FEW_STATES`.
+/// The visits of a walk that take longer than a count by `FEW_STATES`.
 const MANY_VISITS: u64 = 1 << 20;
 
 /// The most members of a game that is walked over within seconds, whatever its rules are.
