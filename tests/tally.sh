@@ -107,7 +107,7 @@ if needs python3 "a long tally on a terminal"; then
     compile_preloaded clock
     clock=$temp/clock.so
     # games of three rules where any 8 or 20 members win, and no two members are alike: the first
-    # takes 600,000 states, and the other too many
+    # takes 600,000 states, and the other many more
     for needed in 8 20; do
         python3 - "$needed" >"$temp/any-$needed.toml" <<'END'
 import random, sys
@@ -139,7 +139,7 @@ END
 import re, sys
 from terminal import Run
 line = re.compile(rb"council: ([0-9,]+) coalitions found, 0 of 256 slices done")
-run = Run([sys.argv[1], "--tally", "--workers", "1", sys.argv[2]], clock=sys.argv[3])
+run = Run([sys.argv[1], "--tally", "--room", "1000000", "--workers", "1", sys.argv[2]], clock=sys.argv[3])
 run.read_until(lambda told: len(set(line.findall(told))) >= 2)
 run.kill()
 numbers = [int(it.replace(b",", b"")) for it in line.findall(run.told)]
