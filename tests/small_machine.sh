@@ -1,5 +1,5 @@
 #!/usr/bin/env bash
-# On a small machine a run writes the same: 16 workers on one processor, and a stack of 192 KB.
+# On a small machine a run writes the same: 16 workers on one processor, and a stack of 224 KB.
 . "$(dirname "$0")/common.sh"
 
 equal_members 40 20 >"$temp/twenty.txt"
@@ -21,13 +21,13 @@ fi
 # ---- the stack that a run takes does not grow with its workers
 # on_small_stack NAME GAME WORD..: the program gives what it gives on the usual stack.
 on_small_stack() {
-    local name="a stack of 192 KB, $1" game=$2.toml
+    local name="a stack of 224 KB, $1" game=$2.toml
     shift 2
     case $game in /*) ;; *) game=$top/$game ;; esac
     "$program" "$@" "$game" >"$temp/wanted" 2>/dev/null </dev/null
-    if (ulimit -s 192) 2>/dev/null; then
+    if (ulimit -s 224) 2>/dev/null; then
         (
-            ulimit -s 192
+            ulimit -s 224
             exec timeout "$seconds" "$program" "$@" "$game"
         ) >"$temp/out" 2>"$temp/err" </dev/null
         status=$?
@@ -47,8 +47,8 @@ on_small_stack "a tally of a chamber with heads beside another" docs/statutes/tw
 on_small_stack "a tally of three rules" examples/eu-27-nice --tally --workers 16
 
 # ---- random games of every kind, by runs and by tallies
-name="a stack of 192 KB, random games"
-if ! (ulimit -s 192) 2>/dev/null; then
+name="a stack of 224 KB, random games"
+if ! (ulimit -s 224) 2>/dev/null; then
     skipped "$name" "the stack can't be limited"
 elif needs python3 "$name"; then
     if PYTHONPATH=$top/tests PYTHONDONTWRITEBYTECODE=1 timeout "$((2 * seconds))" python3 - "$program" >"$temp/told" 2>&1 <<'END'
@@ -61,7 +61,7 @@ from random_games import file_of, random_game, random_rows, random_statute
 
 
 def limit():
-    resource.setrlimit(resource.RLIMIT_STACK, (192 * 1024, 192 * 1024))
+    resource.setrlimit(resource.RLIMIT_STACK, (224 * 1024, 224 * 1024))
 
 
 rng = random.Random(1)

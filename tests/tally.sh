@@ -148,7 +148,7 @@ END
     then ok "the first slice on a terminal"; else failed "the first slice on a terminal" "$(tail -n 1 "$temp/told")"; fi
     # of two workers only the first one starts, and takes no further slice
     compile_preloaded few_threads
-    THREADS=1 LD_PRELOAD=$temp/few_threads.so run --tally --workers 2 --bits 10 "$temp/any-20.toml"
+    THREADS=1 LD_PRELOAD=$temp/few_threads.so run --tally --room 1000000 --workers 2 --bits 10 "$temp/any-20.toml"
     refused "a long tally of which one worker starts" 5 "a worker could not be started"
     # a fault at the end: the line is wiped before it
     name="a long tally on a terminal, and /dev/full"
