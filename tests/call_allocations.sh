@@ -222,9 +222,9 @@ takes_memory mwc_gather puts_parts_in_order
 takes_memory mwc_gather finds_the_pieces
 takes_memory mwc_gather sends_into_a_batch
 takes_none mwc_gather marks_without_memory
-# a run of three workers: the game, its states, before them with several rules the game by
-# contribution, the gathering as above, and the report
-shape='g+o+m+(m{4,})(s+)\1\2\1\2m+o+'
+# a run of three workers: the game, with several rules the game by contribution, the gathering as
+# above, and the report
+shape='g+o*m+(m{4,})(s+)\1\2\1\2m+o+'
 for game in runs_on_brackets runs_on_toml runs_on_turned_rules; do
     for how in REFUSE_AT REFUSE_FROM; do
         sweep "$how" council_run "$game" "no memory for the game" "no memory to gather" "not started" "out of memory"
